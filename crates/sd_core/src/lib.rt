@@ -1,0 +1,18 @@
+//! Search and replace in whole directory trees.
+//!
+//! [`run`] is the program: it reads the words of a command line, works on the disk that it is handed, and answers with
+//! the status to end with. Everything else here is private to it, one module for each thing that it does.
+#![tactic(auto)]
+
+mod error;
+mod globs;
+mod listing;
+mod report;
+mod rewriting;
+mod search;
+mod sweep;
+mod top;
+mod words;
+
+pub use error::{Error, FailedJobs, JobFault, Result};
+pub use top::{Ended, Why, run};

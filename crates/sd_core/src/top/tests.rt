@@ -1,0 +1,179 @@
+use super::*;
+use sd_edge::{MemDisk, MemSink, MemSource};
+use std::test::Fail;
+
+const TREE_COMMAND: [&str; 6] = ["--root", "/t", "--", "one", "1", "*.txt"];
+
+/// A disk with `/t/a.txt` and `/t/b.md`.
+fn two_files(alloc: Global) -> Result<MemDisk, Fail> {
+    let mut disk = MemDisk::new(alloc);
+    disk.add_dir("/t")?;
+    disk.add_file("/t/a.txt", b"one two one", 0o640)?;
+    disk.add_file("/t/b.md", b"one", 0o640)?;
+    Ok(disk)
+}
+
+/// What a run ended with, and what it printed.
+#[derive(Drop)]
+struct Run {
+    ended: Ended,
+    out: MemSink,
+    err: MemSink,
+}
+
+fn run_words(alloc: Global, disk: &mut MemDisk, words: &[&str], room: usize) -> Result<Run, Fail> {
+    let mut list = Words::new(alloc);
+    for word in words {
+        list.push(word)?;
+    }
+    let mut input = MemSource::new(alloc, b"", 1)?;
+    let mut out = MemSink::new(alloc, room)?;
+    let mut err = MemSink::new(alloc, 1000)?;
+    let ended = run(alloc, &list, disk, &mut input, &mut out, &mut err);
+    Ok(Run { ended, out, err })
+}
+
+/// Whether the file at a path holds these bytes.
+fn holds(alloc: Global, disk: &MemDisk, path: &str, bytes: &[u8]) -> Result<bool, Fail> {
+    match disk.read_all(alloc, path)? {
+        None => Ok(false),
+        Some(held) => Ok(held.as_slice() == bytes),
+    }
+}
+
+#[test]
+fn rewrites_chosen_files_and_counts(rt: HostRuntime) -> Result<(), Fail> {
+    let alloc = rt.alloc();
+    let mut disk = two_files(alloc)?;
+    let run = run_words(alloc, &mut disk, &TREE_COMMAND, 1000)?;
+    assert_eq!(rt; run.ended.status, 0);
+    assert!(rt; matches!(run.ended.why, Why::Done));
+    assert_eq!(rt; run.out.bytes(), b"chosen 1, changed 1, replaced 2\n".as_slice());
+    assert_eq!(rt; run.err.bytes().len(), 0);
+    assert!(rt; holds(alloc, &disk, "/t/a.txt", b"1 two 1")?);
+    assert_eq!(rt; disk.mode_at("/t/a.txt"), Some(0o640));
+    assert!(rt; holds(alloc, &disk, "/t/b.md", b"one")?);
+    assert_eq!(rt; disk.lists_most(), 1);
+    Ok(())
+}
+
+#[test]
+fn each_failing_call_leaves_files_old_or_new(rt: HostRuntime) -> Result<(), Fail> {
+    let alloc = rt.alloc();
+    let mut disk = two_files(alloc)?;
+    let _run = run_words(alloc, &mut disk, &TREE_COMMAND, 1000)?;
+    let calls = disk.calls();
+    assert!(rt; calls > 10);
+    for call in 1..=calls {
+        let mut disk = two_files(alloc)?;
+        disk.fail_at(call)?;
+        let run = run_words(alloc, &mut disk, &TREE_COMMAND, 1000)?;
+        assert_eq!(rt; disk.faults(), 1, "call {call}");
+        assert_eq!(rt; run.ended.status, 1, "call {call}");
+        assert_eq!(rt; run.err.bytes(), b"error: input or output failed\n".as_slice(), "call {call}");
+        assert_eq!(rt; run.out.bytes().len(), 0, "call {call}");
+        let old = holds(alloc, &disk, "/t/a.txt", b"one two one")?;
+        assert!(rt; old || holds(alloc, &disk, "/t/a.txt", b"1 two 1")?, "call {call}");
+        assert_eq!(rt; disk.mode_at("/t/a.txt"), Some(0o640), "call {call}");
+        assert!(rt; holds(alloc, &disk, "/t/b.md", b"one")?, "call {call}");
+    }
+    Ok(())
+}
+
+#[test]
+fn a_missing_root_is_told(rt: HostRuntime) -> Result<(), Fail> {
+    let alloc = rt.alloc();
+    let mut disk = two_files(alloc)?;
+    let words = ["--root", "/none", "--", "one", "1", "*"];
+    let run = run_words(alloc, &mut disk, &words, 1000)?;
+    assert_eq!(rt; run.ended.status, 1);
+    assert!(rt; matches!(run.ended.why, Why::Fault(Error::RootMissing)));
+    assert_eq!(rt; run.err.bytes(), b"error: the root leads to nothing\n".as_slice());
+    Ok(())
+}
+
+#[test]
+fn empty_files_and_a_root_that_is_a_file_are_not_chosen(rt: HostRuntime) -> Result<(), Fail> {
+    let alloc = rt.alloc();
+    let mut disk = two_files(alloc)?;
+    disk.add_dir("/e")?;
+    disk.add_file("/e/empty", b"", 0o640)?;
+    for root in ["/e", "/t/a.txt"] {
+        let run = run_words(alloc, &mut disk, &["--root", root, "--", "one", "1", "*"], 1000)?;
+        assert_eq!(rt; run.ended.status, 0, "{root}");
+        assert_eq!(rt; run.out.bytes(), b"chosen 0, changed 0, replaced 0\n".as_slice(), "{root}");
+    }
+    Ok(())
+}
+
+#[test]
+fn a_file_of_a_reserved_name_is_a_file(rt: HostRuntime) -> Result<(), Fail> {
+    let alloc = rt.alloc();
+    let mut disk = MemDisk::new(alloc);
+    disk.add_file("/.sd-0000.tmp", b"a", 0o600)?;
+    let words = ["--root", "/", "--", "a", "", "*"];
+    let run = run_words(alloc, &mut disk, &words, 1000)?;
+    assert_eq!(rt; run.out.bytes(), b"chosen 1, changed 1, replaced 1\n".as_slice());
+    assert!(rt; holds(alloc, &disk, "/.sd-0000.tmp", b"")?);
+    let run = run_words(alloc, &mut disk, &words, 1000)?;
+    assert_eq!(rt; run.out.bytes(), b"chosen 0, changed 0, replaced 0\n".as_slice());
+    Ok(())
+}
+
+#[test]
+fn a_folder_without_a_free_reserved_name_is_a_failed_job(rt: HostRuntime) -> Result<(), Fail> {
+    let alloc = rt.alloc();
+    let mut disk = two_files(alloc)?;
+    for number in 0..=u16::MAX {
+        let path = format!(in alloc; "/t/.sd-{number:04x}.tmp")?;
+        disk.add_file(path.as_str(), b"", 0o600)?;
+    }
+    let run = run_words(alloc, &mut disk, &TREE_COMMAND, 1000)?;
+    assert_eq!(rt; run.ended.status, 1);
+    let text = b"error: failed processing files:\n\tFailedJobs(\n\t/t/a.txt: no free temporary name\n)\n";
+    assert_eq!(rt; run.err.bytes(), text.as_slice());
+    assert!(rt; holds(alloc, &disk, "/t/a.txt", b"one two one")?);
+    Ok(())
+}
+
+#[test]
+fn a_report_that_cannot_be_written_is_told(rt: HostRuntime) -> Result<(), Fail> {
+    let alloc = rt.alloc();
+    let mut disk = two_files(alloc)?;
+    let run = run_words(alloc, &mut disk, &TREE_COMMAND, 3)?;
+    assert_eq!(rt; run.ended.status, 1);
+    assert!(rt; matches!(run.ended.why, Why::Fault(Error::File(DiskFault::Failed))));
+    assert!(rt; holds(alloc, &disk, "/t/a.txt", b"1 two 1")?);
+    Ok(())
+}
+
+#[test]
+fn words_of_other_forms_are_not_built_yet(rt: HostRuntime) -> Result<(), Fail> {
+    let alloc = rt.alloc();
+    let forms: [[&str; 6]; 12] = [
+        ["--roots", "/t", "--", "one", "1", "*"],
+        ["--root", "", "--", "one", "1", "*"],
+        ["--root", "-t", "--", "one", "1", "*"],
+        ["--root", "/t", "-", "one", "1", "*"],
+        ["--root", "/t", "--", "", "1", "*"],
+        ["--root", "/t", "--", "o.e", "1", "*"],
+        ["--root", "/t", "--", "one", "$1", "*"],
+        ["--root", "/t", "--", "one", "1\\n", "*"],
+        ["--root", "/t", "--", "one", "1", "!*"],
+        ["--root", "/t", "--", "one", "1", "**"],
+        ["--root", "/t", "--", "one", "1", "{a,b}"],
+        ["--root", "/t", "--", "one", "1", "[a]?"],
+    ];
+    for words in forms {
+        let mut disk = two_files(alloc)?;
+        let run = run_words(alloc, &mut disk, &words, 1000)?;
+        assert_eq!(rt; run.ended.status, 1);
+        assert!(rt; matches!(run.ended.why, Why::NotYet));
+        assert_eq!(rt; run.err.bytes(), b"error: not built yet\n".as_slice());
+        assert_eq!(rt; disk.calls(), 0);
+    }
+    let mut disk = two_files(alloc)?;
+    let run = run_words(alloc, &mut disk, &["one", "1"], 1000)?;
+    assert!(rt; matches!(run.ended.why, Why::NotYet));
+    Ok(())
+}

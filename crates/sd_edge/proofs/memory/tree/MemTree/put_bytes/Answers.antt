@@ -1,0 +1,23 @@
+use Rattle.std.proofs.Common.{sym, ap}
+use Rattle.std.specs.Prelude.{is_some}
+use Rattle.sd_edge.proofs.SoundLemmas.{found_not_top, puts, puts_nowhere, sound_put}
+use Rattle.sd_edge.proofs.memory.tree.MemTree.put_bytes.Goals as goal
+
+pub invariant_of-self : goal.invariant_of-self
+invariant_of-self c =
+    let self = c.args.self.now in
+    let found = sym c.in-Some.ensures.value in
+    let after = c.get_mut.follows.holds c.put_bytes.new.self in
+    record { sound = sound_put self.top self.nodes.entries _ c.args.place.now c.args.bytes.items _ _ _ self.sound found c.put_bytes.ensures (after.3 (ap is_some found)).0 after.4 }
+
+pub returns-in-Some : goal.returns-in-Some
+returns-in-Some c =
+    let self = c.args.self.now in
+    let found = sym c.in-Some.ensures.value in
+    let after = c.get_mut.follows.holds c.put_bytes.new.self in
+    puts self.top self.nodes.entries _ c.args.place.now c.args.bytes.items _ _ (found_not_top self.nodes.entries _ _ found self.sound.no_top) found c.put_bytes.ensures (after.3 (ap is_some found)).0
+
+pub returns-in_default : goal.returns-in_default
+returns-in_default c =
+    let self = c.args.self.now in
+    puts_nowhere self.top self.nodes.entries _ c.args.place.now c.args.bytes.items self.sound.is_tree (sym c.in_default.ensures.value) (ap (λ n. n.entries) c.get_mut.follows.holds-at-none)

@@ -1,0 +1,13 @@
+use Rattle.sd_edge.specs.MemTreeView.{mem_tree}
+use Rattle.sd_edge.proofs.SoundLemmas.{file_not_top, takes, sound_taken}
+use Rattle.sd_edge.proofs.memory.tree.MemTree.remove.Goals as goal
+
+pub invariant_of-self : goal.invariant_of-self
+invariant_of-self c =
+    let self = c.args.self.now in
+    record { sound = sound_taken self.top self.nodes.entries _ c.args.place.now _ self.sound c.requires c.remove-node.ensures.updates.0 c.remove-node.ensures.ordered }
+
+pub returns : goal.returns
+returns c =
+    let self = c.args.self.now in
+    takes self.top self.nodes.entries _ c.args.place.now (file_not_top (mem_tree self) _ self.sound.is_tree c.requires) c.remove-node.ensures.updates.0

@@ -1,0 +1,161 @@
+-- What the calls on files and paths do to a disk that tells its tree.
+use Rattle.std.specs.Prelude.{◌≡◌, ◌≢◌, ◌⊎◌, ℕ, Bool, true, List, [], ◌∷◌, length, Option, Some, None, IsSome}
+use Rattle.std.specs.List.{join_with_byte}
+use Rattle.std.specs.Option.{option_and_then}
+use Rattle.sd_edge.specs.declared.meta.Kind.{Kind}
+use Rattle.sd_edge.specs.declared.meta.Kind.TheVariants as kind
+use Rattle.sd_edge.specs.declared.meta.Meta.{Meta}
+use Rattle.sd_edge.specs.declared.meta.Ident.{Ident}
+use Rattle.sd_edge.specs.Tree.{NameList, Content, directory, link, file, other, Node, Tree, SameBut, node_at, file_at}
+use Rattle.sd_edge.specs.Paths.{reached, named, Leads}
+use Rattle.sd_edge.specs.Disk.{DiskState, SameTree}
+
+-- ---- stat, ident, resolve
+
+abbrev pub kind_of : Content → Kind
+kind_of directory = kind.Directory
+kind_of (link target) = kind.Link
+kind_of (file bytes mode) = kind.File
+kind_of other = kind.Other
+
+-- a regular file's number of bytes, 0 for all else
+abbrev pub len_of : Content → ℕ
+len_of directory = 0
+len_of (link target) = 0
+len_of (file bytes mode) = length bytes
+len_of other = 0
+
+-- the path leads nowhere
+abbrev pub LeadsNowhere : DiskState → List ℕ → Bool → Type 0
+LeadsNowhere old path follow_last = reached old.tree path follow_last ≡ None
+
+-- the kind of the node that the path leads to, and a file's number of bytes
+pub record Describes (old : DiskState) (path : List ℕ) (follow_last : Bool) (meta : Meta) : Type 0 where
+  pub place : NameList
+  pub node : Node
+  pub leads : Leads old.tree path follow_last place node
+  pub kind : meta.kind ≡ kind_of node.content
+  pub len : meta.len ≡ len_of node.content
+
+-- the device and the inode of the node that the path leads to
+pub record Identifies (old : DiskState) (path : List ℕ) (ident : Ident) : Type 0 where
+  pub place : NameList
+  pub node : Node
+  pub leads : Leads old.tree path true place node
+  pub dev : ident.dev ≡ node.dev
+  pub ino : ident.ino ≡ node.ino
+
+-- `/` and the names joined by `/`
+abbrev pub path_text : NameList → List ℕ
+path_text place = 47 ∷ join_with_byte 47 place
+
+-- the path of the node that the path leads to, without links
+pub record Resolves (old : DiskState) (path text : List ℕ) : Type 0 where
+  pub place : NameList
+  pub node : Node
+  pub leads : Leads old.tree path true place node
+  pub text_is : text ≡ path_text place
+
+-- ---- read_file
+
+-- the bytes and the mode of the regular file that the path leads to
+abbrev pub file_of : Tree → List ℕ → Option (List ℕ × ℕ)
+file_of tree path = option_and_then (file_at tree) (reached tree path true)
+
+-- the path leads to no regular file
+abbrev pub IsNoFile : DiskState → List ℕ → Type 0
+IsNoFile old path = file_of old.tree path ≡ None
+
+-- these are the bytes of the regular file that the path leads to
+abbrev pub Reads : DiskState → List ℕ → List ℕ → Type 0
+Reads old path bytes = (mode : ℕ) × (file_of old.tree path ≡ Some (bytes, mode))
+
+-- ---- create_like
+
+-- a new empty file stands at the path, with the mode of the file that `like` leads to; nothing stood there
+pub record Creates (old : DiskState) (path like : List ℕ) (new : DiskState) : Type 0 where
+  pub place : NameList
+  pub names : named old.tree path ≡ Some place
+  pub was_free : node_at old.tree place ≡ None
+  pub bytes : List ℕ
+  pub mode : ℕ
+  pub model : file_of old.tree like ≡ Some (bytes, mode)
+  pub stands : file_at new.tree place ≡ Some ([], mode)
+  pub others : SameBut place old.tree new.tree
+
+-- the path's folder is no directory, or `like` leads to no regular file
+abbrev pub CannotCreate : DiskState → List ℕ → List ℕ → Type 0
+CannotCreate old path like = (named old.tree path ≡ None) ⊎ IsNoFile old like
+
+-- the path's folder is a directory, `like` leads to a regular file, and something stands at the path
+pub record IsTaken (old : DiskState) (path like : List ℕ) : Type 0 where
+  pub place : NameList
+  pub names : named old.tree path ≡ Some place
+  pub stands : IsSome (node_at old.tree place)
+  pub model : IsSome (file_of old.tree like)
+
+-- ---- write_file, sync
+
+-- the regular file that the path leads to holds these bytes; its mode is kept
+pub record Writes (old : DiskState) (path bytes : List ℕ) (new : DiskState) : Type 0 where
+  pub place : NameList
+  pub leads : reached old.tree path true ≡ Some place
+  pub before : List ℕ
+  pub mode : ℕ
+  pub was : file_at old.tree place ≡ Some (before, mode)
+  pub holds : file_at new.tree place ≡ Some (bytes, mode)
+  pub others : SameBut place old.tree new.tree
+
+-- after a failure the file holds any bytes
+abbrev pub MayHaveWritten : DiskState → List ℕ → DiskState → Type 0
+MayHaveWritten old path new = SameTree old new ⊎ ((bytes : List ℕ) × Writes old path bytes new)
+
+-- the path leads to a regular file, and the tree stays
+pub record Syncs (old : DiskState) (path : List ℕ) (new : DiskState) : Type 0 where
+  pub stands : IsSome (file_of old.tree path)
+  pub same : SameTree old new
+
+-- ---- rename, remove
+
+-- the regular file that stands at the path itself
+abbrev pub file_named : Tree → List ℕ → Option (List ℕ × ℕ)
+file_named tree path = option_and_then (file_at tree) (named tree path)
+
+-- something else than a regular file stands at the path itself
+pub record IsOther (old : DiskState) (path : List ℕ) : Type 0 where
+  pub place : NameList
+  pub names : named old.tree path ≡ Some place
+  pub stands : IsSome (node_at old.tree place)
+  pub no_file : file_at old.tree place ≡ None
+
+-- the file at `from` stands at `to`, where nothing or a regular file stood, and `from` is free unless both are one place
+pub record Renames (old : DiskState) (from to : List ℕ) (new : DiskState) : Type 0 where
+  pub source : NameList
+  pub target : NameList
+  pub leaves : named old.tree from ≡ Some source
+  pub comes : named old.tree to ≡ Some target
+  pub is_file : IsSome (file_at old.tree source)
+  pub may_come : (node_at old.tree target ≡ None) ⊎ IsSome (file_at old.tree target)
+  pub moved : node_at new.tree target ≡ node_at old.tree source
+  pub gone : source ≢ target → node_at new.tree source ≡ None
+  pub others : (q : NameList) → q ≢ source → q ≢ target → node_at new.tree q ≡ node_at old.tree q
+
+-- no regular file stands at `from` itself, the folder of `to` is no directory, or something else than a regular file stands at `to`
+abbrev pub CannotRename : DiskState → List ℕ → List ℕ → Type 0
+CannotRename old from to = (file_named old.tree from ≡ None) ⊎ (named old.tree to ≡ None) ⊎ IsOther old to
+
+-- after a failure both names are as before or as after
+abbrev pub MayHaveRenamed : DiskState → List ℕ → List ℕ → DiskState → Type 0
+MayHaveRenamed old from to new = SameTree old new ⊎ Renames old from to new
+
+-- a regular file stood at the path itself, which is free
+pub record Removes (old : DiskState) (path : List ℕ) (new : DiskState) : Type 0 where
+  pub place : NameList
+  pub names : named old.tree path ≡ Some place
+  pub was_file : IsSome (file_at old.tree place)
+  pub gone : node_at new.tree place ≡ None
+  pub others : SameBut place old.tree new.tree
+
+-- no regular file stands at the path itself
+abbrev pub CannotRemove : DiskState → List ℕ → Type 0
+CannotRemove old path = file_named old.tree path ≡ None

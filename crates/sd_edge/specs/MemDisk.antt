@@ -1,0 +1,75 @@
+-- What a disk in memory tells.
+use Rattle.std.specs.Prelude.{◌≡◌, ◌≢◌, ◌+◌, ℕ, false, List, [], ◌∷◌, reverse, Some, None}
+use Rattle.std.specs.Global.{Vec}
+use Rattle.sd_edge.specs.declared.meta.RawEntry.{RawEntry}
+use Rattle.sd_edge.specs.Disk as told
+use Rattle.sd_edge.specs.Disk.{DiskState, SameTree, SameLists}
+use Rattle.sd_edge.specs.Tree.{NameList, Content, directory, Tree, node_at}
+use Rattle.sd_edge.specs.MemTree.{tree_of, IsFreePlace, Adds, AddsName}
+use Rattle.sd_edge.specs.OpenLists.{state_with}
+use Rattle.sd_edge.specs.declared.memory.disk.MemDisk.{MemDisk}
+
+-- what is left of a list: its next entry stands last
+abbrev pub left_entries : Vec RawEntry → List RawEntry
+left_entries entries = reverse entries.items
+
+-- the next entry of a list that isn't at its end is taken
+pub record TakesLast (old : told.OpenList) (entry : RawEntry) (new : told.OpenList) : Type 0 where
+  pub rest : List RawEntry
+  pub was : old ≡ record { is_at_end = false; left = entry ∷ rest }
+  pub now : new ≡ record { is_at_end = false; left = rest }
+
+abbrev pub mem_state : MemDisk → DiskState
+mem_state d = state_with left_entries (tree_of d.tree.top d.tree.nodes.entries) d.counter.faults d.lists
+
+-- the calls that are to fail, by their numbers
+abbrev pub failing_calls : MemDisk → List ℕ
+failing_calls d = d.counter.failing.items
+
+-- how many calls were counted
+abbrev pub calls_of : MemDisk → ℕ
+calls_of d = d.counter.calls
+
+-- the inode number of the next node that is added
+abbrev pub next_number : MemDisk → ℕ
+next_number d = d.tree.next_ino
+
+-- ---- a new disk
+
+-- the top stands alone: a directory of device 1 and inode 1
+pub record IsTopAlone (tree : Tree) : Type 0 where
+  pub top : node_at tree [] ≡ Some (record { content = directory; dev = 1; ino = 1 })
+  pub others : (q : NameList) → q ≢ [] → node_at tree q ≡ None
+  pub orders : (folder : NameList) → tree.order folder ≡ []
+
+-- no call was counted or is to fail, and no list was opened
+pub record IsUnused (d : MemDisk) : Type 0 where
+  pub calls : calls_of d ≡ 0
+  pub failing : failing_calls d ≡ []
+  pub faults : (mem_state d).faults ≡ 0
+  pub listed : (mem_state d).listed ≡ 0
+  pub open_list : (number : ℕ) → (mem_state d).open_list number ≡ None
+  pub open_count : (mem_state d).open_count ≡ 0
+  pub open_most : (mem_state d).open_most ≡ 0
+
+-- ---- what the builders do
+
+-- the faults, the lists, the counts and the calls that are to fail are as before
+pub record KeepsCounts (old new : MemDisk) : Type 0 where
+  pub faults : (mem_state new).faults ≡ (mem_state old).faults
+  pub lists : SameLists (mem_state old) (mem_state new)
+  pub calls : calls_of new ≡ calls_of old
+  pub failing : failing_calls new ≡ failing_calls old
+
+-- A node of this content stands at the free place of the path, with its folder's device and the next inode number.
+pub record Builds (old : MemDisk) (path : List ℕ) (content : Content) (new : MemDisk) : Type 0 where
+  pub place : NameList
+  pub was_free : IsFreePlace (mem_state old).tree path place
+  pub adds : Adds (mem_state old).tree place content (next_number old) (mem_state new).tree
+  pub order : AddsName (mem_state old).tree place (mem_state new).tree
+  pub number : next_number new ≡ next_number old + 1
+
+-- the tree and the next number are as before
+pub record KeepsTree (old new : MemDisk) : Type 0 where
+  pub tree : SameTree (mem_state old) (mem_state new)
+  pub number : next_number new ≡ next_number old

@@ -1,0 +1,8 @@
+//! The host's disk and streams, a few lines over std's. They tell their counts, and nothing of what they hold.
+
+mod disk;
+mod faults;
+mod stream;
+
+pub use disk::HostDisk;
+pub use stream::{HostSink, HostSource};

@@ -1,0 +1,354 @@
+//! The host's disk.
+
+ghost use Rattle.std.specs.Prelude.{◌≡◌, ◌≢◌, ◌↔◌, ℕ, [], Err, Some, None, IsTrue, IfOk, IsErrAnd, IfSome, OnSome, IfNone, IsSome};
+ghost use Rattle.std.specs.Fs.{file_type, IsFile, dir_entry_name};
+ghost use Rattle.std.specs.IoError.{error_kind};
+ghost use Rattle.sd_edge.specs.HostDisk.{IsCounted, IsOfKind};
+ghost use Rattle.sd_edge.specs.HostDiskState.{host_state};
+ghost use Rattle.sd_edge.specs.OpenLists.{told_list, KeepsTold};
+
+use crate::host::faults::FaultCounter;
+use crate::open_lists::{OpenList, OpenLists};
+use crate::{Disk, DiskFault, Ident, Kind, ListId, Meta, RawEntry, Text};
+use std::alloc::Global;
+use std::fs::{DirEntry, Metadata, OpenFile, OpenOptions, ReadDir};
+use std::io::{ErrorKind, Write};
+use std::os::unix::fs::{MetadataExt, OpenOptionsExt};
+use std::rt::Files;
+use std::{fs, io};
+
+/// A file that was just created and is still empty. Its mode may forbid to open it again for writing.
+#[derive(Drop)]
+struct NewFile<F: Drop> {
+    path: Text,
+    file: F,
+}
+
+/// An open list of the host's.
+#[derive(Drop)]
+struct HostList<R: Files + AllocGlobal + Clone + Drop> {
+    entries: ReadDir<R>,
+    /// The next entry, where there was no memory to tell it.
+    waiting: Option<DirEntry<R>>,
+}
+
+impl<R: Files + AllocGlobal + Clone + Drop> HostList<R> {
+    /// The next entry, as the host tells it. Where there is no memory for that, it stays the next one.
+    fn next(&mut self, alloc: Global) -> Option<io::Result<RawEntry>> {
+        let entry = match self.waiting.take() {
+            Some(entry) => entry,
+            None => match self.entries.next()? {
+                Ok(entry) => entry,
+                Err(error) => return Some(Err(error)),
+            },
+        };
+        let told = raw_entry(alloc, &entry);
+        if is_out_of_memory(&told) {
+            self.waiting = Some(entry);
+        }
+        Some(told)
+    }
+}
+
+/// The host's disk. It tells its counts and its open lists, and nothing of its tree.
+#[derive(Drop)]
+pub struct HostDisk<R: Files + AllocGlobal + Clone + Drop> {
+    rt: R,
+    lists: OpenLists<Box<HostList<R>>>,
+    new_file: Option<NewFile<R::File>>,
+    counter: FaultCounter,
+}
+
+impl<R: Files + AllocGlobal + Clone + Drop> HostDisk<R> {
+    /// No call was made: there is no fault, nothing is listed, and no list is open.
+    pub fn new(rt: R) -> HostDisk<R>
+        ensures faults { (host_state result).faults ≡ 0 }
+        ensures listed { (host_state result).listed ≡ 0 }
+        ensures none_open { (number : ℕ) → (host_state result).open_list number ≡ None }
+        ensures open_count { (host_state result).open_count ≡ 0 }
+        ensures open_most { (host_state result).open_most ≡ 0 }
+    {
+        let lists = OpenLists::new(rt.alloc());
+        HostDisk {
+            rt,
+            lists,
+            new_file: None,
+            counter: FaultCounter::new(),
+        }
+    }
+}
+
+/// What the host tells of the regular file at a path, links followed. Refuses where something else stands there.
+fn file_metadata<R: Files>(
+    rt: &R,
+    counter: &mut FaultCounter,
+    path: &str,
+) -> Result<Metadata, DiskFault>
+    ensures regular { IfOk result (λ metadata. IsFile (file_type metadata)) }
+    ensures counted { IsCounted counter.old.faults counter.new.faults result }
+    ensures not_taken { result ≢ Err DiskFault.Taken }
+{
+    let metadata = counter.counted(fs::metadata(rt, path))?;
+    if metadata.is_file() {
+        Ok(metadata)
+    } else {
+        Err(counter.refusal(DiskFault::Absent))
+    }
+}
+
+/// Refuses where something else than a regular file stands at the path itself.
+fn check_own_file<R: Files>(rt: &R, counter: &mut FaultCounter, path: &str) -> Result<(), DiskFault>
+    ensures counted { IsCounted counter.old.faults counter.new.faults result }
+    ensures not_taken { result ≢ Err DiskFault.Taken }
+{
+    let metadata = counter.counted(fs::symlink_metadata(rt, path))?;
+    if metadata.is_file() {
+        Ok(())
+    } else {
+        Err(counter.refusal(DiskFault::Absent))
+    }
+}
+
+/// The kind of a node, by what the host tells of it.
+fn kind_of(metadata: &Metadata) -> Kind
+    ensures { IsOfKind metadata.now result }
+{
+    if metadata.is_dir() {
+        Kind::Directory
+    } else if metadata.is_symlink() {
+        Kind::Link
+    } else if metadata.is_file() {
+        Kind::File
+    } else {
+        Kind::Other
+    }
+}
+
+/// The entry of a list with its kind and inode, its link not followed.
+fn raw_entry<R: Files + AllocGlobal + Clone + Drop>(
+    alloc: Global,
+    entry: &DirEntry<R>,
+) -> io::Result<RawEntry>
+    ensures { IfOk result (λ told. told.name ≡ dir_entry_name entry.now) }
+{
+    let metadata = entry.metadata()?;
+    let name = String::from_str(alloc, entry.file_name())?;
+    Ok(RawEntry {
+        name: Text::from(name),
+        kind: kind_of(&metadata),
+        ino: metadata.ino(),
+    })
+}
+
+/// Creates a file where nothing stands, with these permissions.
+fn create<R: Files>(rt: &R, path: &str, like: &Metadata) -> io::Result<R::File> {
+    let file = OpenOptions::new()
+        .write(true)
+        .create_new(true)
+        .mode(0o600)
+        .open(rt, path)?;
+    match file.set_permissions(like.permissions()) {
+        Ok(()) => Ok(file),
+        Err(error) => {
+            let _removed = fs::remove_file(rt, path);
+            Err(error)
+        }
+    }
+}
+
+/// Writes a file anew.
+fn write<R: Files>(rt: &R, path: &str, bytes: &[u8]) -> io::Result<()> {
+    OpenOptions::new()
+        .write(true)
+        .truncate(true)
+        .open(rt, path)?
+        .write_all(bytes)
+}
+
+/// Puts a file's bytes on the medium.
+fn sync<R: Files>(rt: &R, path: &str) -> io::Result<()> {
+    fs::open(rt, path)?.sync_all()
+}
+
+/// Whether memory alone was wanting.
+fn is_out_of_memory<T>(answer: &io::Result<T>) -> bool
+    ensures { IsTrue result ↔ IsErrAnd answer.now (λ error. error_kind error ≡ ErrorKind.OutOfMemory) }
+{
+    match answer {
+        Ok(_) => false,
+        Err(error) => error.kind() == ErrorKind::OutOfMemory,
+    }
+}
+
+/// The next entry of a list that isn't at its end.
+fn next_of<R: Files + AllocGlobal + Clone + Drop>(
+    alloc: Global,
+    list: &mut OpenList<Box<HostList<R>>>,
+) -> Option<io::Result<RawEntry>>
+    ensures { told_list (λ _. []) list.new ≡ told_list (λ _. []) list.old }
+{
+    match list {
+        OpenList::Unfinished(entries) => entries.next(alloc),
+        OpenList::AtEnd => None,
+    }
+}
+
+/// The next entry of an open list.
+fn next_in<R: Files + AllocGlobal + Clone + Drop>(
+    alloc: Global,
+    lists: &mut OpenLists<Box<HostList<R>>>,
+    number: u64,
+) -> Option<io::Result<RawEntry>>
+    ensures { KeepsTold (λ _. []) lists.old lists.new }
+{
+    next_of(alloc, lists.open.get_mut(&number)?)
+}
+
+/// The file that was just created, if it was at this path.
+fn take_new<F: Drop>(new_file: &mut Option<NewFile<F>>, path: &str) -> Option<F>
+    ensures taken { IfSome result (λ file. new_file.old ≡ Some (record { path = path.now; file = file })) }
+    ensures gone { OnSome result (new_file.new ≡ None) }
+    ensures left { IfNone result (new_file.new ≡ new_file.old) }
+    ensures found { IfSome new_file.old (λ new. new.path ≡ path.now → IsSome result) }
+{
+    match new_file.take() {
+        Some(NewFile { path: kept, file }) if kept.as_str() == path => Some(file),
+        other => {
+            *new_file = other;
+            None
+        }
+    }
+}
+
+impl<R: Files + AllocGlobal + Clone + Drop> Disk for HostDisk<R> {
+    ghost use Rattle.std.specs.Prelude.{false};
+    ghost use Rattle.std.proofs.lemmas.Bool.{false≢true};
+    ghost use Rattle.sd_edge.specs.HostDiskState.{host_state};
+
+    ghost tells = { false };
+
+    ghost state = { host_state };
+
+    ghost is_tree = { λ disk told. absurd (false≢true told) };
+
+    fn stat(&mut self, path: &str, follow: bool) -> Result<Meta, DiskFault> {
+        let answer = if follow {
+            fs::metadata(&self.rt, path)
+        } else {
+            fs::symlink_metadata(&self.rt, path)
+        };
+        let metadata = self.counter.counted(answer)?;
+        let kind = kind_of(&metadata);
+        let len = if metadata.is_file() {
+            metadata.len()
+        } else {
+            0
+        };
+        Ok(Meta { kind, len })
+    }
+
+    fn ident(&mut self, path: &str) -> Result<Ident, DiskFault> {
+        let metadata = self.counter.counted(fs::metadata(&self.rt, path))?;
+        Ok(Ident {
+            dev: metadata.dev(),
+            ino: metadata.ino(),
+        })
+    }
+
+    fn resolve(&mut self, alloc: Global, path: &str) -> Result<Text, DiskFault> {
+        let resolved = self.counter.counted(fs::canonicalize(&self.rt, path))?;
+        Ok(Text::new(alloc, resolved.as_str())?)
+    }
+
+    fn open_dir(&mut self, path: &str) -> Result<ListId, DiskFault> {
+        let entries = self.counter.counted(fs::read_dir(&self.rt, path))?;
+        let list = HostList {
+            entries,
+            waiting: None,
+        };
+        let boxed = Box::new(self.rt.alloc(), list)?;
+        Ok(self.lists.open(boxed)?)
+    }
+
+    fn next_entry(&mut self, alloc: Global, list: ListId) -> Result<Option<RawEntry>, DiskFault> {
+        if self.lists.is_at_end(list.number) {
+            return Ok(None);
+        }
+        if self.lists.is_full() {
+            self.lists.end(list.number);
+            return Err(self.counter.refusal(DiskFault::Failed));
+        }
+        match next_in(alloc, &mut self.lists, list.number) {
+            None => {
+                self.lists.end(list.number);
+                Ok(None)
+            }
+            Some(Ok(entry)) => {
+                self.lists.count();
+                Ok(Some(entry))
+            }
+            Some(Err(error)) => {
+                if error.kind() == ErrorKind::OutOfMemory {
+                    return Err(DiskFault::NoMemory);
+                }
+                self.lists.count();
+                Err(self.counter.refusal(DiskFault::Failed))
+            }
+        }
+    }
+
+    fn close_dir(&mut self, list: ListId) {
+        self.lists.close(list.number);
+    }
+
+    fn read_file(&mut self, _alloc: Global, path: &str) -> Result<Vec<u8>, DiskFault> {
+        file_metadata(&self.rt, &mut self.counter, path)?;
+        self.counter.counted(fs::read(&self.rt, path))
+    }
+
+    fn create_like(&mut self, path: &str, like: &str) -> Result<(), DiskFault> {
+        let metadata = file_metadata(&self.rt, &mut self.counter, like)?;
+        let kept = Text::new(self.rt.alloc(), path)?;
+        match create(&self.rt, path, &metadata) {
+            Ok(file) => {
+                self.new_file = Some(NewFile { path: kept, file });
+                Ok(())
+            }
+            Err(error) if error.kind() == ErrorKind::AlreadyExists => {
+                Err(self.counter.refusal(DiskFault::Taken))
+            }
+            Err(error) => self.counter.counted(Err(error)),
+        }
+    }
+
+    fn write_file(&mut self, path: &str, bytes: &[u8]) -> Result<(), DiskFault> {
+        if let Some(mut file) = take_new(&mut self.new_file, path) {
+            return self.counter.counted(file.write_all(bytes));
+        }
+        file_metadata(&self.rt, &mut self.counter, path)?;
+        self.counter.counted(write(&self.rt, path, bytes))
+    }
+
+    fn sync(&mut self, path: &str) -> Result<(), DiskFault> {
+        file_metadata(&self.rt, &mut self.counter, path)?;
+        self.counter.counted(sync(&self.rt, path))
+    }
+
+    fn rename(&mut self, from: &str, to: &str) -> Result<(), DiskFault> {
+        check_own_file(&self.rt, &mut self.counter, from)?;
+        match fs::symlink_metadata(&self.rt, to) {
+            Ok(metadata) if !metadata.is_file() => {
+                return Err(self.counter.refusal(DiskFault::Absent));
+            }
+            _ => {}
+        }
+        self.new_file = None;
+        self.counter.counted(fs::rename(&self.rt, from, to))
+    }
+
+    fn remove(&mut self, path: &str) -> Result<(), DiskFault> {
+        check_own_file(&self.rt, &mut self.counter, path)?;
+        self.new_file = None;
+        self.counter.counted(fs::remove_file(&self.rt, path))
+    }
+}

@@ -1,0 +1,36 @@
+//! The outside of the program: a disk, a source of bytes, a sink of bytes, each a trait with what it promises, its form
+//! in memory and its form on the host.
+#![tactic(auto)]
+
+mod client;
+mod disk;
+mod examples;
+mod fault;
+mod host;
+mod laws;
+mod memory;
+mod meta;
+mod open_lists;
+mod path_texts;
+mod stream;
+mod text;
+
+pub use disk::Disk;
+pub use examples::{
+    links_lead_as_in_the_examples, paths_lead_as_in_the_examples, paths_name_as_in_the_examples,
+    plain_paths_lead_as_in_the_examples,
+};
+pub use fault::{BuildFault, DiskFault, Failed, NoMemory};
+pub use host::{HostDisk, HostSink, HostSource};
+pub use laws::{
+    calls_on_files_keep_directories_and_links, paths_lead_where_they_name,
+    paths_rest_on_directories_and_links, plain_paths_lead_as_others,
+};
+pub use memory::{MemDisk, MemSink, MemSource};
+pub use meta::{Ident, Kind, ListId, Meta, RawEntry};
+pub use path_texts::{
+    texts_of_places_below_a_folder, texts_of_places_hold_their_names, texts_of_places_lead_there,
+    texts_of_places_name_them,
+};
+pub use stream::{Sink, Source};
+pub use text::{Globs, Patterns, Text, Texts, Words};

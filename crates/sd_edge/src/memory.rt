@@ -1,0 +1,14 @@
+//! A disk, a source and a sink in memory, for tests and for trees that never touch the host.
+
+mod calls;
+mod disk;
+mod node;
+mod path;
+mod place;
+mod stream;
+mod trail;
+mod tree;
+mod walk;
+
+pub use disk::MemDisk;
+pub use stream::{MemSink, MemSource};

@@ -1,0 +1,335 @@
+//! A disk in memory.
+
+ghost use Rattle.std.specs.Prelude.{◌≡◌, ◌∷◌, ◌++◌, [], List, ℕ, option_map, IfSome, IfNone, IsSome, IsNone, IfOk, OnOk, OnErr, IsErrOf};
+ghost use Rattle.std.specs.Global.{Vec};
+ghost use Rattle.sd_edge.specs.Tree.{directory, link, file, other};
+ghost use Rattle.sd_edge.specs.Paths.{plain_file};
+ghost use Rattle.sd_edge.specs.OpenLists.{list_at, told_list, SameOpenLists, TakesEntry, EndsList};
+ghost use Rattle.sd_edge.specs.MemNode.{content_of};
+ghost use Rattle.sd_edge.specs.MemTree.{HasNoFreePlace};
+ghost use Rattle.sd_edge.specs.MemDisk.{mem_state, left_entries, TakesLast, failing_calls, calls_of, next_number, IsTopAlone, IsUnused, Builds, KeepsTree, KeepsCounts};
+
+use crate::memory::calls::CallCounter;
+use crate::memory::node::MemContent;
+use crate::memory::tree::MemTree;
+use crate::open_lists::{OpenList, OpenLists};
+use crate::{BuildFault, Disk, DiskFault, Ident, ListId, Meta, NoMemory, RawEntry, Text};
+use std::alloc::Global;
+
+/// A disk in memory, which tells its tree and counts its calls from 1. Every call but `close_dir` is counted.
+#[derive(Drop)]
+pub struct MemDisk {
+    alloc: Global,
+    tree: MemTree,
+    /// Each with what it hasn't given yet, the next one last.
+    lists: OpenLists<Vec<RawEntry>>,
+    counter: CallCounter,
+}
+
+impl MemDisk {
+    /// A top directory alone, of device 1. No call fails.
+    pub fn new(alloc: Global) -> MemDisk
+        ensures tree { IsTopAlone (mem_state result).tree }
+        ensures number { next_number result ≡ 2 }
+        ensures unused { IsUnused result }
+    {
+        MemDisk {
+            alloc,
+            tree: MemTree::new(alloc),
+            lists: OpenLists::new(alloc),
+            counter: CallCounter::new(alloc),
+        }
+    }
+
+    /// Adds a node at a path, which holds no `..`, in a directory in which the name is free. No link is followed.
+    fn add(&mut self, path: &str, content: MemContent) -> Result<(), BuildFault>
+        ensures added { OnOk result (Builds self.old path.now (content_of content) self.new) }
+        ensures bad_path { IsErrOf result BuildFault.BadPath → HasNoFreePlace (mem_state self.old).tree path.now }
+        ensures refused { OnErr result (KeepsTree self.old self.new) }
+        ensures counts { KeepsCounts self.old self.new }
+    {
+        let place = self.tree.free_place(path)?;
+        self.tree.add(place, content)?;
+        Ok(())
+    }
+
+    /// Adds a directory.
+    pub fn add_dir(&mut self, path: &str) -> Result<(), BuildFault>
+        ensures added { OnOk result (Builds self.old path.now directory self.new) }
+        ensures bad_path { IsErrOf result BuildFault.BadPath → HasNoFreePlace (mem_state self.old).tree path.now }
+        ensures refused { OnErr result (KeepsTree self.old self.new) }
+        ensures counts { KeepsCounts self.old self.new }
+    {
+        self.add(path, MemContent::Directory)
+    }
+
+    /// Adds a regular file.
+    pub fn add_file(&mut self, path: &str, bytes: &[u8], mode: u32) -> Result<(), BuildFault>
+        ensures added { OnOk result (Builds self.old path.now (file bytes.now mode) self.new) }
+        ensures bad_path { IsErrOf result BuildFault.BadPath → HasNoFreePlace (mem_state self.old).tree path.now }
+        ensures refused { OnErr result (KeepsTree self.old self.new) }
+        ensures counts { KeepsCounts self.old self.new }
+    {
+        let bytes = bytes.to_vec(self.alloc)?;
+        self.add(path, MemContent::File(bytes, mode))
+    }
+
+    /// Adds a symbolic link.
+    pub fn add_link(&mut self, path: &str, target: &str) -> Result<(), BuildFault>
+        ensures added { OnOk result (Builds self.old path.now (link target.now) self.new) }
+        ensures bad_path { IsErrOf result BuildFault.BadPath → HasNoFreePlace (mem_state self.old).tree path.now }
+        ensures refused { OnErr result (KeepsTree self.old self.new) }
+        ensures counts { KeepsCounts self.old self.new }
+    {
+        let target = Text::new(self.alloc, target)?;
+        self.add(path, MemContent::Link(target))
+    }
+
+    /// Adds a node that is no directory, no link and no regular file.
+    pub fn add_other(&mut self, path: &str) -> Result<(), BuildFault>
+        ensures added { OnOk result (Builds self.old path.now other self.new) }
+        ensures bad_path { IsErrOf result BuildFault.BadPath → HasNoFreePlace (mem_state self.old).tree path.now }
+        ensures refused { OnErr result (KeepsTree self.old self.new) }
+        ensures counts { KeepsCounts self.old self.new }
+    {
+        self.add(path, MemContent::Other)
+    }
+
+    /// That counted call answers `Failed`, and does nothing but pass over an entry where it is `next_entry`.
+    pub fn fail_at(&mut self, call: u64) -> Result<(), NoMemory>
+        ensures added { OnOk result (failing_calls self.new ≡ failing_calls self.old ++ call ∷ []) }
+        ensures refused { OnErr result (failing_calls self.new ≡ failing_calls self.old) }
+        ensures told { mem_state self.new ≡ mem_state self.old }
+        ensures calls { calls_of self.new ≡ calls_of self.old }
+        ensures number { next_number self.new ≡ next_number self.old }
+    {
+        self.counter.fail_at(call)
+    }
+
+    /// The bytes of the regular file at a path, or `None` where there is none. No link is followed.
+    pub fn read_all(&self, alloc: Global, path: &str) -> Result<Option<Vec<u8>>, NoMemory>
+        ensures { IfOk result (λ bytes. option_map (λ (v : Vec ℕ). v.items) bytes ≡ option_map (λ (f : List ℕ × ℕ). f.0) (plain_file (mem_state self.now).tree path.now)) }
+    {
+        match self.tree.file(path) {
+            None => Ok(None),
+            Some((bytes, _)) => Ok(Some(bytes.to_vec(alloc)?)),
+        }
+    }
+
+    /// The mode of the regular file at a path, or `None` where there is none. No link is followed.
+    pub fn mode_at(&self, path: &str) -> Option<u32>
+        ensures { result ≡ option_map (λ (f : List ℕ × ℕ). f.1) (plain_file (mem_state self.now).tree path.now) }
+    {
+        match self.tree.file(path) {
+            None => None,
+            Some((_, mode)) => Some(mode),
+        }
+    }
+
+    /// How many calls were counted.
+    pub fn calls(&self) -> u64
+        ensures { result ≡ calls_of self.now }
+    {
+        self.counter.calls
+    }
+
+    /// How many calls failed.
+    pub fn faults(&self) -> u64
+        ensures { result ≡ (mem_state self.now).faults }
+    {
+        self.counter.faults
+    }
+
+    /// How many lists were open at most.
+    pub fn lists_most(&self) -> u64
+        ensures { result ≡ (mem_state self.now).open_most }
+    {
+        self.lists.most
+    }
+}
+
+/// Takes the last of a list's entries; where there is none, the list is put at its end.
+fn take_last(list: &mut OpenList<Vec<RawEntry>>) -> Option<RawEntry>
+    ensures given { IfSome result (λ entry. TakesLast (told_list left_entries list.old) entry (told_list left_entries list.new)) }
+    ensures none_left { IfNone result ((told_list left_entries list.old).left ≡ []) }
+    ensures ended { IfNone result (list.new ≡ OpenList.AtEnd) }
+{
+    let OpenList::Unfinished(entries) = list else {
+        return None;
+    };
+    let last = entries.pop();
+    if last.is_none() {
+        *list = OpenList::AtEnd;
+    }
+    last
+}
+
+/// Takes the next entry off an open list and counts it; where there is none, the list is put at its end.
+fn take_next(lists: &mut OpenLists<Vec<RawEntry>>, number: u64) -> Option<RawEntry>
+    ensures given { IfSome result (λ entry. TakesEntry left_entries lists.old number entry lists.new) }
+    ensures none_left { IfNone result (IsSome (list_at lists.old number) → EndsList left_entries lists.old number lists.new) }
+    ensures not_open { IsNone (list_at lists.old number) → IsNone result × SameOpenLists lists.old lists.new }
+{
+    let Some(list) = lists.open.get_mut(&number) else {
+        return None;
+    };
+    let next = take_last(list);
+    if next.is_some() {
+        lists.count();
+    }
+    next
+}
+
+impl Disk for MemDisk {
+    ghost use Rattle.std.specs.Prelude.{true};
+
+    ghost tells = { true };
+
+    ghost state = { mem_state };
+
+    ghost is_tree = { λ disk told. disk.tree.sound.is_tree };
+
+    fn stat(&mut self, path: &str, follow: bool) -> Result<Meta, DiskFault> {
+        self.counter.pass()?;
+        let Some(place) = self.tree.reached(path, follow)? else {
+            return Err(DiskFault::Absent);
+        };
+        match self.tree.node(&place) {
+            None => Err(DiskFault::Absent),
+            Some(node) => Ok(node.meta()),
+        }
+    }
+
+    fn ident(&mut self, path: &str) -> Result<Ident, DiskFault> {
+        self.counter.pass()?;
+        let Some(place) = self.tree.reached(path, true)? else {
+            return Err(DiskFault::Absent);
+        };
+        match self.tree.node(&place) {
+            None => Err(DiskFault::Absent),
+            Some(node) => Ok(node.ident()),
+        }
+    }
+
+    fn resolve(&mut self, _alloc: Global, path: &str) -> Result<Text, DiskFault> {
+        self.counter.pass()?;
+        match self.tree.reached(path, true)? {
+            None => Err(DiskFault::Absent),
+            Some(place) => Ok(place.path()?),
+        }
+    }
+
+    fn open_dir(&mut self, path: &str) -> Result<ListId, DiskFault> {
+        self.counter.pass()?;
+        let Some(place) = self.tree.reached(path, true)? else {
+            return Err(DiskFault::Absent);
+        };
+        if !self.tree.is_directory(&place) {
+            return Err(DiskFault::Absent);
+        }
+        let mut entries = self.tree.entries(&place)?;
+        entries.reverse();
+        Ok(self.lists.open(entries)?)
+    }
+
+    fn next_entry(&mut self, _alloc: Global, list: ListId) -> Result<Option<RawEntry>, DiskFault> {
+        let fails = self.counter.count();
+        if self.lists.is_at_end(list.number) {
+            return Ok(None);
+        }
+        if self.lists.is_full() {
+            self.lists.end(list.number);
+            return Err(self.counter.fault());
+        }
+        let next = take_next(&mut self.lists, list.number);
+        if fails {
+            return Err(self.counter.fault());
+        }
+        Ok(next)
+    }
+
+    fn close_dir(&mut self, list: ListId) {
+        self.lists.close(list.number);
+    }
+
+    fn read_file(&mut self, alloc: Global, path: &str) -> Result<Vec<u8>, DiskFault> {
+        self.counter.pass()?;
+        let Some(place) = self.tree.reached(path, true)? else {
+            return Err(DiskFault::Absent);
+        };
+        match self.tree.bytes(&place) {
+            None => Err(DiskFault::Absent),
+            Some(bytes) => Ok(bytes.to_vec(alloc)?),
+        }
+    }
+
+    fn create_like(&mut self, path: &str, like: &str) -> Result<(), DiskFault> {
+        self.counter.pass()?;
+        let Some(model) = self.tree.reached(like, true)? else {
+            return Err(DiskFault::Absent);
+        };
+        let Some(mode) = self.tree.mode(&model) else {
+            return Err(DiskFault::Absent);
+        };
+        let Some(place) = self.tree.named(path)? else {
+            return Err(DiskFault::Absent);
+        };
+        if self.tree.node(&place).is_some() {
+            return Err(DiskFault::Taken);
+        }
+        let content = MemContent::File(Vec::new(self.alloc), mode);
+        Ok(self.tree.add(place, content)?)
+    }
+
+    fn write_file(&mut self, path: &str, bytes: &[u8]) -> Result<(), DiskFault> {
+        self.counter.pass()?;
+        let Some(place) = self.tree.reached(path, true)? else {
+            return Err(DiskFault::Absent);
+        };
+        if !self.tree.is_file(&place) {
+            return Err(DiskFault::Absent);
+        }
+        let copy = bytes.to_vec(self.alloc)?;
+        self.tree.put_bytes(&place, copy);
+        Ok(())
+    }
+
+    fn sync(&mut self, path: &str) -> Result<(), DiskFault> {
+        self.counter.pass()?;
+        match self.tree.reached(path, true)? {
+            Some(place) if self.tree.is_file(&place) => Ok(()),
+            _ => Err(DiskFault::Absent),
+        }
+    }
+
+    fn rename(&mut self, from: &str, to: &str) -> Result<(), DiskFault> {
+        self.counter.pass()?;
+        let Some(source) = self.tree.named(from)? else {
+            return Err(DiskFault::Absent);
+        };
+        if !self.tree.is_file(&source) {
+            return Err(DiskFault::Absent);
+        }
+        let Some(target) = self.tree.named(to)? else {
+            return Err(DiskFault::Absent);
+        };
+        if self.tree.node(&target).is_some() && !self.tree.is_file(&target) {
+            return Err(DiskFault::Absent);
+        }
+        Ok(self.tree.rename(&source, target)?)
+    }
+
+    fn remove(&mut self, path: &str) -> Result<(), DiskFault> {
+        self.counter.pass()?;
+        match self.tree.named(path)? {
+            Some(place) if self.tree.is_file(&place) => {
+                self.tree.remove(&place);
+                Ok(())
+            }
+            _ => Err(DiskFault::Absent),
+        }
+    }
+}
+
+#[cfg(test)]
+mod tests;
