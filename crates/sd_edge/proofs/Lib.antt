@@ -22,3 +22,4 @@ pub mod StandLemmas
 pub mod DiskLemmas
 pub mod AddedLemmas
 pub mod AloneLemmas
+pub mod DeviceLemmas

@@ -83,3 +83,7 @@ reached_stands tree whole path follow q e =
       | true ↦ λ h. cc
       | false ↦ followed_stand tree whole links_most follow [] (parts_of path) q (something (node_at tree []) whole.top)
     ] e
+
+-- something stands where parts lead, no link followed
+pub plain_stands : (tree : Tree) → IsTree tree → (parts : List Name) (q : NameList) → steps tree (λ folder target rest. None) false [] parts ≡ Some q → IsSome (node_at tree q)
+plain_stands tree whole parts q e = steps_stand tree whole (λ folder target rest. None) (λ folder target rest q from h. cc) false [] parts q (something (node_at tree []) whole.top) e

@@ -1,12 +1,13 @@
 //! A disk in memory.
 
-ghost use Rattle.std.specs.Prelude.{◌≡◌, ◌∷◌, ◌++◌, [], List, ℕ, option_map, IfSome, IfNone, IsSome, IsNone, IfOk, OnOk, OnErr, IsErrOf};
+ghost use Rattle.std.specs.Prelude.{◌≡◌, ◌∷◌, ◌++◌, [], List, ℕ, option_map, IfSome, IfNone, IsSome, IsNone, IfOk, IfErr, OnOk, OnErr, IsErrOf, None};
 ghost use Rattle.std.specs.Global.{Vec};
 ghost use Rattle.sd_edge.specs.Tree.{directory, link, file, other};
-ghost use Rattle.sd_edge.specs.Paths.{plain_file};
+ghost use Rattle.sd_edge.specs.Paths.{reached_plain, plain_file};
 ghost use Rattle.sd_edge.specs.OpenLists.{list_at, told_list, SameOpenLists, TakesEntry, EndsList};
 ghost use Rattle.sd_edge.specs.MemNode.{content_of};
-ghost use Rattle.sd_edge.specs.MemTree.{HasNoFreePlace};
+ghost use Rattle.sd_edge.specs.MemTree.{HasNoFreePlace, PutsDeviceAt};
+ghost use Rattle.sd_edge.specs.Disk.{SameTree};
 ghost use Rattle.sd_edge.specs.MemDisk.{mem_state, left_entries, TakesLast, failing_calls, calls_of, next_number, IsTopAlone, IsUnused, Builds, KeepsTree, KeepsCounts};
 
 use crate::memory::calls::CallCounter;
@@ -93,6 +94,22 @@ impl MemDisk {
         ensures counts { KeepsCounts self.old self.new }
     {
         self.add(path, MemContent::Other)
+    }
+
+    /// Gives the node at a path and all nodes below it another device. No link is followed.
+    pub fn set_dev(&mut self, path: &str, dev: u64) -> Result<(), BuildFault>
+        ensures put { OnOk result (PutsDeviceAt (mem_state self.old).tree path.now dev (mem_state self.new).tree) }
+        ensures bad_path { OnErr result (reached_plain (mem_state self.old).tree path.now ≡ None) }
+        ensures only_bad_path { IfErr result (λ fault. fault ≡ BuildFault.BadPath) }
+        ensures refused { OnErr result (SameTree (mem_state self.old) (mem_state self.new)) }
+        ensures number { next_number self.new ≡ next_number self.old }
+        ensures counts { KeepsCounts self.old self.new }
+    {
+        if self.tree.put_dev(path, dev) {
+            Ok(())
+        } else {
+            Err(BuildFault::BadPath)
+        }
     }
 
     /// That counted call answers `Failed`, and does nothing but pass over an entry where it is `next_entry`.

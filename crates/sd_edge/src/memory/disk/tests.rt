@@ -105,6 +105,25 @@ fn lists_give_entries_in_the_order_of_adding(rt: HostRuntime) -> Result<(), Fail
     Ok(())
 }
 
+#[test]
+fn devices_are_set_with_all_below(rt: HostRuntime) -> Result<(), Fail> {
+    let mut disk = linked(rt.alloc())?;
+    disk.set_dev("t", 2)?;
+    assert_eq!(rt; disk.ident("/")?.dev, 1);
+    assert_eq!(rt; disk.ident("/t")?.dev, 2);
+    assert_eq!(rt; disk.ident("/t/a.txt")?, Ident { dev: 2, ino: 3 });
+    disk.set_dev("/l", 3)?;
+    assert_eq!(rt; disk.ident("/l")?.dev, 2);
+    disk.add_dir("/t/u")?;
+    assert_eq!(rt; disk.ident("/t/u")?.dev, 2);
+    for path in ["", "/x", "/l/a.txt", "/t/a.txt/.."] {
+        assert_eq!(rt; disk.set_dev(path, 4), Err(BuildFault::BadPath), "{path}");
+    }
+    disk.set_dev("/", 5)?;
+    assert_eq!(rt; disk.ident("/t/a.txt")?.dev, 5);
+    Ok(())
+}
+
 /// The answer of the counted call of each number.
 fn call(alloc: Global, disk: &mut MemDisk, number: u64) -> Result<(), DiskFault> {
     match number {

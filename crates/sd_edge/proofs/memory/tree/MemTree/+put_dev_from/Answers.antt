@@ -1,0 +1,12 @@
+use Rattle.std.proofs.Common.{sym, ap}
+use Rattle.sd_edge.specs.MemTreeView.{mem_tree}
+use Rattle.sd_edge.specs.MemNode.{now_of}
+use Rattle.sd_edge.specs.MemTrail.{names_of}
+use Rattle.sd_edge.proofs.TrailLemmas.{next_part}
+use Rattle.sd_edge.proofs.DeviceLemmas.{device_down}
+use Rattle.sd_edge.proofs.memory.tree.MemTree.+put_dev_from.Goals as goal
+
+pub returns-clause-put : goal.returns-clause-put
+returns-clause-put t c = λ stands.
+    let parts = next_part (now_of c.args.rest) (now_of c.cut.result.1) c.in-Some.path.now c.cut.result.0.now (ap now_of c.in-Some.is) c.cut.ensures.pieces (sym c.if-is_dropped.ensures) in
+    device_down (mem_tree c.args.self.now) _ (names_of c.args.trail.now) _ _ c.cut.result.0.now c.args.dev (sym c.if-not-is_directory_on.ensures) (sym c.if-eq.ensures) parts (c.put_dev_from-2.ensures.put stands)
