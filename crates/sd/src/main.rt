@@ -8,8 +8,12 @@ use std::io;
 use std::process::ExitCode;
 
 fn main(rt: HostRuntime) -> ExitCode {
-    let Ok(words) = words(&rt) else {
-        return ExitCode::FAILURE;
+    let words = match words(&rt) {
+        Ok(words) => words,
+        Err(error) => {
+            let _printed = eprintln!(rt; "error: {error}");
+            return ExitCode::FAILURE;
+        }
     };
     let alloc = rt.alloc();
     let mut input = HostSource::new(rt.stdin());

@@ -1,2 +1,15 @@
+pub mod Chosen
+pub mod Cover
 pub mod Fault
+pub mod Glob
+pub mod Headline
+pub mod Places
+pub mod Replaced
+pub mod Report
+pub mod Rewriting
+pub mod Run
+pub mod Sweep
+pub mod Temporary
 pub mod Walk
+pub mod Words
+pub mod WordsRead

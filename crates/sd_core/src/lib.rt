@@ -6,6 +6,7 @@
 
 mod error;
 mod globs;
+mod laws;
 mod listing;
 mod report;
 mod rewriting;
@@ -15,4 +16,5 @@ mod top;
 mod words;
 
 pub use error::{Error, FailedJobs, JobFault, Result};
+pub use laws::{one_fair_cover, one_list_of_new_bytes, same_bytes_back};
 pub use top::{Ended, Why, run};

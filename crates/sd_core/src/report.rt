@@ -1,10 +1,14 @@
 //! What a command prints. No memory is taken for it.
 
-ghost use Rattle.std.specs.Prelude.{◌≤◌};
+ghost use Rattle.std.specs.Prelude.{◌≡◌, ◌+◌, ◌≤◌, true, [], ◌++◌, length, IsTrue, OnOk, OnErr, IsErr};
+ghost use Rattle.sd_edge.specs.Count.{HasRisen};
+ghost use Rattle.sd_core.specs.Report.{report_text, AppendsPrefix};
 
+use itoa::Buffer;
 use sd_edge::{Failed, Sink};
 use std::fmt;
 use std::fmt::{Display, Write};
+use std::marker::Model;
 
 /// What a tree command did.
 #[derive(Clone, Copy, Debug, PartialEq, Eq)]
@@ -17,70 +21,88 @@ pub struct Report {
     pub replaced: u128,
 }
 
-/// A line of three counts, in decimal digits.
-impl Display for Report {
-    fn fmt<W: fmt::Write>(&self, f: &mut fmt::Formatter<W>) -> fmt::Result {
-        let Report {
-            chosen,
-            changed,
-            replaced,
-        } = *self;
-        writeln!(f, "chosen {chosen}, changed {changed}, replaced {replaced}")
-    }
-}
-
-/// The room for a report's line: three counts have at most 117 digits, and the words between them 29 bytes.
+/// The room for a report's line: its three numbers have at most 39 digits each, and its words 29 bytes.
 const LINE_ROOM: usize = 160;
 
-/// A line in a buffer of its own.
+/// A text in a buffer of its own. Contracts see its bytes.
 #[derive(Drop)]
 struct Line {
     bytes: [u8; LINE_ROOM],
     len: usize,
-    ghost within: { len ≤ 160 },
+}
+
+impl Model for Line {
+    ghost use Rattle.std.specs.Prelude.{List, ℕ, ◌≤◌, take};
+
+    ghost Value = { List ℕ };
+
+    ghost view = { λ line. take line.len line.bytes };
+
+    ghost invariant = { λ line. line.len ≤ 160 };
 }
 
 impl Line {
-    fn new() -> Line {
+    fn new() -> Line
+        ensures { result ≡ [] }
+    {
         Line {
             bytes: [0; LINE_ROOM],
             len: 0,
         }
     }
 
-    fn as_bytes(&self) -> &[u8] {
+    fn as_bytes(&self) -> &[u8]
+        ensures { result.now ≡ self.now }
+    {
         &self.bytes[..self.len]
     }
-}
 
-impl Write for Line {
-    fn write_str(&mut self, text: &str) -> fmt::Result {
-        let bytes = text.as_bytes();
-        if bytes.len() > LINE_ROOM - self.len {
-            return Err(fmt::Error);
-        }
-        let end = self.len + bytes.len();
-        self.bytes[self.len..end].copy_from_slice(bytes);
+    fn push(&mut self, text: &str)
+        requires { length self.old + length text.now ≤ 160 }
+        ensures { self.new ≡ self.old ++ text.now }
+    {
+        let end = self.len + text.len();
+        self.bytes[self.len..end].copy_from_slice(text.as_bytes());
         self.len = end;
-        Ok(())
     }
 }
 
-/// Prints a report's line as one piece.
-pub fn print_report<O: Sink>(out: &mut O, report: &Report) -> Result<(), Failed> {
+/// A report's line.
+fn line_of(report: &Report) -> Line
+    ensures { result ≡ report_text report.now.chosen report.now.changed report.now.replaced }
+{
+    let mut digits = Buffer::new();
     let mut line = Line::new();
-    match write!(line, "{report}") {
-        Ok(()) => write_all(out, line.as_bytes()),
-        Err(_) => Err(Failed),
-    }
+    line.push("chosen ");
+    line.push(digits.format(report.chosen));
+    line.push(", changed ");
+    line.push(digits.format(report.changed));
+    line.push(", replaced ");
+    line.push(digits.format(report.replaced));
+    line.push("\n");
+    line
 }
 
-/// Writes all of the bytes.
-fn write_all<O: Sink>(out: &mut O, bytes: &[u8]) -> Result<(), Failed> {
-    let mut rest = bytes;
-    while !rest.is_empty() {
-        let written = out.write(rest)?;
-        rest = &rest[written..];
+/// Prints a report's line. Refuses with a counted fault of the sink alone, after a prefix of the line.
+pub fn print_report<O: Sink>(out: &mut O, report: &Report) -> Result<(), Failed>
+    ensures printed { IsTrue O.tells → OnOk result ((O.state out.new).held ≡ (O.state out.old).held ++ report_text report.now.chosen report.now.changed report.now.replaced) }
+    ensures refused { IsTrue O.tells → OnErr result (AppendsPrefix (O.state out.old).held (report_text report.now.chosen report.now.changed report.now.replaced) (O.state out.new).held) }
+    ensures never_falls { (O.state out.old).faults ≤ (O.state out.new).faults }
+    ensures cause { IsErr result → HasRisen (O.state out.old).faults (O.state out.new).faults }
+{
+    write_all(out, line_of(report).as_bytes())
+}
+
+/// Writes all of the bytes. Refuses with a counted fault of the sink alone, after a prefix of them.
+fn write_all<O: Sink>(out: &mut O, bytes: &[u8]) -> Result<(), Failed>
+    ensures written { IsTrue O.tells → OnOk result ((O.state out.new).held ≡ (O.state out.old).held ++ bytes.now) }
+    ensures refused { IsTrue O.tells → OnErr result (AppendsPrefix (O.state out.old).held bytes.now (O.state out.new).held) }
+    ensures never_falls { (O.state out.old).faults ≤ (O.state out.new).faults }
+    ensures cause { IsErr result → HasRisen (O.state out.old).faults (O.state out.new).faults }
+{
+    let mut at = 0;
+    while at < bytes.len() {
+        at += out.write(&bytes[at..])?;
     }
     Ok(())
 }
@@ -121,7 +143,8 @@ mod tests {
             replaced: u128::MAX,
         };
         print_report(&mut out, &report)?;
-        let text = b"chosen 340282366920938463463374607431768211455, changed 340282366920938463463374607431768211455, replaced 340282366920938463463374607431768211455\n";
+        let text =
+            b"chosen 340282366920938463463374607431768211455, changed 340282366920938463463374607431768211455, replaced 340282366920938463463374607431768211455\n";
         assert_eq!(rt; out.bytes(), text.as_slice());
         Ok(())
     }

@@ -1,8 +1,16 @@
 //! One file's rewriting.
 
-ghost use Rattle.std.specs.Prelude.{◌<◌, ◌^◌, length, IfOk};
+ghost use Rattle.std.specs.Prelude.{◌≡◌, ◌≢◌, ◌⊎◌, ◌≤◌, ◌<◌, ◌^◌, [], ◌∷◌, ◌++◌, ℕ, List, true, false, IsTrue, length, IfOk, IfErr, OnOk, OnErr, IsErrOf, IfSome, IfNone, Contains};
+ghost use Rattle.sd_edge.specs.Paths.{parts_of, parent_of, SameWays};
+ghost use Rattle.sd_edge.specs.Disk.{SameLists, SameTree, HasCause};
+ghost use Rattle.sd_core.specs.declared.error.FailedJobs.{FailedJobs};
+ghost use Rattle.sd_edge.specs.declared.fault.DiskFault.{DiskFault};
+ghost use Rattle.sd_edge.specs.Files.{Removes};
+ghost use Rattle.sd_core.specs.Fault.{IsErrorOf};
+ghost use Rattle.sd_core.specs.Rewriting.{IsFilePath, RewritesFile, LeavesFile, NoneFree, HasRewritingCause, HasRisenBy, IsCleared, reserved_names};
+ghost use Rattle.sd_core.specs.Temporary.{IsReservedPath, CreatesTemporary, AreTwoFiles, Moves, MayHaveMoved, Exchanges, LeavesBytes, HasDiskCause, IsNoName, IsRemoved};
 
-use crate::search::replace_all;
+use crate::search::{cover_of, replaced};
 use crate::{Error, FailedJobs, JobFault, Result};
 use sd_edge::{Disk, DiskFault, Text};
 use std::alloc::Global;
@@ -18,6 +26,10 @@ pub struct Rewrite {
 
 /// Replaces a text in the regular file at a path. A file whose bytes don't change isn't written. Every other is written
 /// whole under a reserved name beside it, which then takes its place, so that it is old or new at every moment.
+///
+/// On a disk that tells its tree the path has no links, `.` or `..`, and leads to a regular file. Refuses with a counted
+/// fault, where no reserved name of the folder is free, or for want of memory; the file is then old, or new where the
+/// renaming failed. One counted fault leaves no temporary file.
 pub fn rewrite_file<D: Disk>(
     alloc: Global,
     disk: &mut D,
@@ -25,67 +37,131 @@ pub fn rewrite_file<D: Disk>(
     find: &str,
     replacement: &str,
 ) -> Result<Rewrite>
-    requires { 0 < length find.now }
-    ensures { IfOk result (λ rewrite. rewrite.replaced < 2 ^ 64) }
+    requires find { 0 < length find.now }
+    requires file { IsTrue D.tells → IsFilePath (D.state disk.old).tree path.now }
+    ensures rewritten { IsTrue D.tells → IfOk result (λ rewrite.
+        RewritesFile (D.state disk.old).tree (parts_of path.now) find.now replacement.now rewrite (D.state disk.new).tree) }
+    ensures refused { IsTrue D.tells → OnErr result (LeavesFile (D.state disk.old).tree (parts_of path.now) find.now replacement.now (D.state disk.new).tree) }
+    ensures cleared { IsTrue D.tells → (fault : DiskFault) → IsErrOf result (Error.File fault) → IsCleared (D.state disk.old) (parts_of path.now) (D.state disk.new) }
+    ensures none_free { IsTrue D.tells → (jobs : FailedJobs) → IsErrOf result (Error.FailedProcessing jobs)
+        → NoneFree (D.state disk.old).tree (parent_of (parts_of path.now)) }
+    ensures lists { SameLists (D.state disk.old) (D.state disk.new) }
+    ensures cause { HasRewritingCause D.tells (D.state disk.old) (D.state disk.new) path.now result }
+    ensures few { IfOk result (λ rewrite. rewrite.replaced < 2 ^ 64) }
 {
     let bytes = disk.read_file(alloc, path)?;
-    let new = replace_all(alloc, &bytes, find.as_bytes(), replacement.as_bytes())?;
-    let changed = new.bytes != bytes;
+    let spans = cover_of(alloc, &bytes, find.as_bytes())?;
+    if spans.is_empty() {
+        return Ok(Rewrite {
+            changed: false,
+            replaced: 0,
+        });
+    }
+    let new = replaced(alloc, &bytes, &spans, replacement.as_bytes())?;
+    let changed = new != bytes;
     if changed {
-        exchange(alloc, disk, path, &new.bytes)?;
+        exchange(alloc, disk, path, &new)?;
     }
     Ok(Rewrite {
         changed,
-        replaced: new.count,
+        replaced: spans.len() as u128,
     })
 }
 
 /// Gives the file at a path these bytes through a temporary file, which is removed after a refusal.
-fn exchange<D: Disk>(alloc: Global, disk: &mut D, path: &str, bytes: &[u8]) -> Result<()> {
+fn exchange<D: Disk>(alloc: Global, disk: &mut D, path: &str, bytes: &[u8]) -> Result<()>
+    requires { IsTrue D.tells → IsFilePath (D.state disk.old).tree path.now }
+    ensures exchanged { IsTrue D.tells → OnOk result (Exchanges (D.state disk.old).tree (parts_of path.now) bytes.now (D.state disk.new).tree) }
+    ensures refused { IsTrue D.tells → OnErr result (LeavesBytes (D.state disk.old).tree (parts_of path.now) bytes.now (D.state disk.new).tree) }
+    ensures cleared { IsTrue D.tells → (fault : DiskFault) → IsErrOf result (Error.File fault) → IsCleared (D.state disk.old) (parts_of path.now) (D.state disk.new) }
+    ensures none_free { IsTrue D.tells → (jobs : FailedJobs) → IsErrOf result (Error.FailedProcessing jobs)
+        → NoneFree (D.state disk.old).tree (parent_of (parts_of path.now)) }
+    ensures lists { SameLists (D.state disk.old) (D.state disk.new) }
+    ensures cause { HasRewritingCause D.tells (D.state disk.old) (D.state disk.new) path.now result }
+{
     let Some(temporary) = create_temporary(alloc, disk, path)? else {
         return Err(no_name(alloc, path));
     };
     let temporary = temporary.as_str();
     match fill_and_rename(disk, temporary, path, bytes) {
         Ok(()) => Ok(()),
-        Err(fault) => {
-            let _removed = disk.remove(temporary);
-            Err(Error::from(fault))
-        }
+        Err(fault) => Err(clear(disk, temporary, fault)),
+    }
+}
+
+/// Removes the temporary file after a fault. Answers with the fault's error, or with want of memory where the removal
+/// has it.
+fn clear<D: Disk>(disk: &mut D, temporary: &str, fault: DiskFault) -> Error
+    ensures tree { IsTrue D.tells → SameTree (D.state disk.old) (D.state disk.new) ⊎ Removes (D.state disk.old) temporary.now (D.state disk.new) }
+    ensures cleared { IsTrue D.tells → result ≢ Error.NoMemory → IsRemoved (D.state disk.old) temporary.now (D.state disk.new) }
+    ensures error { (result ≡ Error.NoMemory) ⊎ IsErrorOf fault result }
+    ensures faults { (D.state disk.old).faults ≤ (D.state disk.new).faults }
+    ensures lists { SameLists (D.state disk.old) (D.state disk.new) }
+{
+    match disk.remove(temporary) {
+        Err(DiskFault::NoMemory) => Error::NoMemory,
+        _ => Error::from(fault),
     }
 }
 
 /// Creates a file under the first reserved name that is free beside a file, with that file's mode. `None` where none
 /// is free.
-fn create_temporary<D: Disk>(alloc: Global, disk: &mut D, path: &str) -> Result<Option<Text>> {
+fn create_temporary<D: Disk>(alloc: Global, disk: &mut D, path: &str) -> Result<Option<Text>>
+    requires { IsTrue D.tells → IsFilePath (D.state disk.old).tree path.now }
+    ensures created { IsTrue D.tells → IfOk result (λ made. IfSome made (λ temporary.
+        CreatesTemporary (D.state disk.old).tree (parts_of path.now) temporary (D.state disk.new).tree)) }
+    ensures none_free { IsTrue D.tells → IfOk result (λ made. IfNone made (NoneFree (D.state disk.old).tree (parent_of (parts_of path.now)))) }
+    ensures not_created { IsTrue D.tells → IfOk result (λ made. IfNone made (SameTree (D.state disk.old) (D.state disk.new))) }
+    ensures refused { IsTrue D.tells → OnErr result (SameTree (D.state disk.old) (D.state disk.new)) }
+    ensures risen { D.tells ≡ false → IfOk result (λ made. IfNone made (HasRisenBy reserved_names (D.state disk.old).faults (D.state disk.new).faults)) }
+    ensures lists { SameLists (D.state disk.old) (D.state disk.new) }
+    ensures cause { HasDiskCause (D.state disk.old) (D.state disk.new) result }
+{
     for number in 0..=u16::MAX {
         let temporary = temporary_path(alloc, path, number)?;
         match disk.create_like(temporary.as_str(), path) {
             Ok(()) => return Ok(Some(temporary)),
-            Err(DiskFault::Taken) => {}
-            Err(fault) => return Err(Error::from(fault)),
+            Err(fault) if fault != DiskFault::Taken => return Err(Error::from(fault)),
+            Err(_) => {}
         }
     }
     Ok(None)
 }
 
 /// The path of the reserved name of this number beside a file: `.sd-0000.tmp` to `.sd-ffff.tmp`.
-fn temporary_path(alloc: Global, path: &str, number: u16) -> Result<Text> {
-    let folder = match path.rsplit_once('/') {
-        None => "",
-        Some((folder, _name)) => folder,
-    };
+fn temporary_path(alloc: Global, path: &str, number: u16) -> Result<Text>
+    ensures path { IfOk result (IsReservedPath path.now number) }
+    ensures refused { IfErr result (λ error. error ≡ Error.NoMemory) }
+{
+    let folder = folder_of(path);
     Ok(Text::from(format!(in alloc; "{folder}/.sd-{number:04x}.tmp")?))
 }
 
-fn no_name(alloc: Global, path: &str) -> Error {
+/// What stands before the last `/` of a path.
+fn folder_of(path: &str) -> &str
+    ensures { (folder name : List ℕ) → path.now ≡ folder ++ 47 ∷ name → (Contains name 47 → ⊥) → result.now ≡ folder }
+{
+    match path.rsplit_once('/') {
+        None => "",
+        Some((folder, _name)) => folder,
+    }
+}
+
+/// The error of a file beside which no reserved name is free.
+fn no_name(alloc: Global, path: &str) -> Error
+    ensures { IsNoName path.now result }
+{
     match one_job(alloc, path, JobFault::TempName) {
         Ok(jobs) => Error::FailedProcessing(jobs),
         Err(error) => error,
     }
 }
 
-fn one_job(alloc: Global, path: &str, fault: JobFault) -> Result<FailedJobs> {
+/// One failed job.
+fn one_job(alloc: Global, path: &str, fault: JobFault) -> Result<FailedJobs>
+    ensures jobs { IfOk result (λ jobs. jobs ≡ (path.now, fault) ∷ []) }
+    ensures refused { IfErr result (λ error. error ≡ Error.NoMemory) }
+{
     let mut jobs = Vec::new(alloc);
     jobs.push((Text::new(alloc, path)?, fault))?;
     Ok(FailedJobs::from_list(jobs))
@@ -97,7 +173,16 @@ fn fill_and_rename<D: Disk>(
     temporary: &str,
     path: &str,
     bytes: &[u8],
-) -> Result<(), DiskFault> {
+) -> Result<(), DiskFault>
+    requires { IsTrue D.tells → AreTwoFiles (D.state disk.old).tree temporary.now path.now }
+    ensures moved { IsTrue D.tells → OnOk result (Moves (D.state disk.old).tree temporary.now path.now bytes.now (D.state disk.new).tree) }
+    ensures refused { IsTrue D.tells → OnErr result (MayHaveMoved (D.state disk.old).tree temporary.now path.now bytes.now (D.state disk.new).tree) }
+    ensures ways { IsTrue D.tells → SameWays (D.state disk.old).tree (D.state disk.new).tree }
+    ensures not_absent { IsTrue D.tells → result ≢ Err DiskFault.Absent }
+    ensures not_taken { result ≢ Err DiskFault.Taken }
+    ensures lists { SameLists (D.state disk.old) (D.state disk.new) }
+    ensures cause { HasCause D.tells (D.state disk.old) (D.state disk.new) result }
+{
     disk.write_file(temporary, bytes)?;
     disk.sync(temporary)?;
     disk.rename(temporary, path)

@@ -1,5 +1,16 @@
 //! The program, from its words to its status.
 
+ghost use Rattle.std.specs.Prelude.{◌≡◌, ◌≢◌, ◌↔◌, ◌⊎◌, true, false, None, Some, IsTrue, IsSome};
+ghost use Rattle.sd_edge.specs.Count.{HasRisen};
+ghost use Rattle.sd_edge.specs.Paths.{reached};
+ghost use Rattle.sd_edge.specs.Files.{LeadsNowhere};
+ghost use Rattle.sd_core.specs.declared.error.Error.{Error};
+ghost use Rattle.sd_core.specs.declared.error.FailedJobs.{FailedJobs};
+ghost use Rattle.sd_core.specs.Words.{TreeOrder, tree_order};
+ghost use Rattle.sd_core.specs.Walk.{LeavesLists};
+ghost use Rattle.sd_core.specs.Headline.{LeavesTree, HasNoRoom};
+ghost use Rattle.sd_core.specs.Run.{IsStatusOf, DoesOrder, FailsToPrint, HasRoom, HasRunCause};
+
 use crate::Error;
 use crate::report::{print_error, print_report};
 use crate::sweep::sweep;
@@ -40,7 +51,29 @@ pub fn run<D: Disk, S: Source, O: Sink, E: Sink>(
     _input: &mut S,
     out: &mut O,
     err: &mut E,
-) -> Ended {
+) -> Ended
+    ensures not_yet { result.why ≡ Why.NotYet ↔ (tree_order words.now ≡ None) }
+    ensures untouched { result.why ≡ Why.NotYet → (D.state disk.new ≡ D.state disk.old) × (O.state out.new ≡ O.state out.old) }
+    ensures status { IsStatusOf result.why result.status }
+    ensures headline { IsTrue D.tells → (order : TreeOrder) → tree_order words.now ≡ Some order → result.status ≡ 0
+        → DoesOrder (D.state disk.old).tree order (D.state disk.new).tree O.tells (O.state out.old) (O.state out.new) }
+    ensures err_kept { result.status ≡ 0 → E.state err.new ≡ E.state err.old }
+    ensures leaves { IsTrue D.tells → (order : TreeOrder) → tree_order words.now ≡ Some order
+        → LeavesTree (D.state disk.old).tree order (D.state disk.new).tree }
+    ensures lists { LeavesLists (D.state disk.old) (D.state disk.new) }
+    ensures refused { IsTrue D.tells → (order : TreeOrder) → tree_order words.now ≡ Some order → (error : Error) → result.why ≡ Why.Fault error
+        → (O.state out.new ≡ O.state out.old)
+        ⊎ ((error ≡ Error.File DiskFault.Failed) × FailsToPrint (D.state disk.old).tree order (D.state disk.new).tree O.tells (O.state out.old) (O.state out.new)) }
+    ensures root_missing { IsTrue D.tells → (order : TreeOrder) → tree_order words.now ≡ Some order → result.why ≡ Why.Fault Error.RootMissing
+        → LeadsNowhere (D.state disk.old) order.root true × ((D.state disk.new).tree ≡ (D.state disk.old).tree) }
+    ensures no_room { IsTrue D.tells → (order : TreeOrder) → tree_order words.now ≡ Some order → (jobs : FailedJobs)
+        → result.why ≡ Why.Fault (Error.FailedProcessing jobs) → HasNoRoom (D.state disk.old).tree order jobs }
+    ensures cause { HasRunCause D.tells (D.state disk.old) (D.state disk.new) (O.state out.old) (O.state out.new) result.why }
+    ensures complete { IsTrue D.tells → (order : TreeOrder) → tree_order words.now ≡ Some order
+        → IsSome (reached (D.state disk.old).tree order.root true) → HasRoom (D.state disk.old).tree order
+        → (HasRisen (D.state disk.old).faults (D.state disk.new).faults → ⊥) → (HasRisen (O.state out.old).faults (O.state out.new).faults → ⊥)
+        → (result.why ≡ Why.Done) ⊎ (result.why ≡ Why.Fault Error.NoMemory) }
+{
     let why = why_ended(alloc, words, disk, out);
     let status = match &why {
         Why::Done => 0,
@@ -56,7 +89,24 @@ pub fn run<D: Disk, S: Source, O: Sink, E: Sink>(
     Ended { status, why }
 }
 
-fn why_ended<D: Disk, O: Sink>(alloc: Global, words: &Words, disk: &mut D, out: &mut O) -> Why {
+/// Does what the words ask for, and tells how that ended.
+fn why_ended<D: Disk, O: Sink>(alloc: Global, words: &Words, disk: &mut D, out: &mut O) -> Why
+    ensures not_yet { result ≡ Why.NotYet ↔ (tree_order words.now ≡ None) }
+    ensures untouched { result ≡ Why.NotYet → (D.state disk.new ≡ D.state disk.old) × (O.state out.new ≡ O.state out.old) }
+    ensures done { IsTrue D.tells → (order : TreeOrder) → tree_order words.now ≡ Some order → result ≡ Why.Done
+        → DoesOrder (D.state disk.old).tree order (D.state disk.new).tree O.tells (O.state out.old) (O.state out.new) }
+    ensures leaves { IsTrue D.tells → (order : TreeOrder) → tree_order words.now ≡ Some order
+        → LeavesTree (D.state disk.old).tree order (D.state disk.new).tree }
+    ensures lists { LeavesLists (D.state disk.old) (D.state disk.new) }
+    ensures refused { IsTrue D.tells → (order : TreeOrder) → tree_order words.now ≡ Some order → (error : Error) → result ≡ Why.Fault error
+        → (O.state out.new ≡ O.state out.old)
+        ⊎ ((error ≡ Error.File DiskFault.Failed) × FailsToPrint (D.state disk.old).tree order (D.state disk.new).tree O.tells (O.state out.old) (O.state out.new)) }
+    ensures root_missing { IsTrue D.tells → (order : TreeOrder) → tree_order words.now ≡ Some order → result ≡ Why.Fault Error.RootMissing
+        → LeadsNowhere (D.state disk.old) order.root true × ((D.state disk.new).tree ≡ (D.state disk.old).tree) }
+    ensures no_room { IsTrue D.tells → (order : TreeOrder) → tree_order words.now ≡ Some order → (jobs : FailedJobs)
+        → result ≡ Why.Fault (Error.FailedProcessing jobs) → HasNoRoom (D.state disk.old).tree order jobs }
+    ensures cause { HasRunCause D.tells (D.state disk.old) (D.state disk.new) (O.state out.old) (O.state out.new) result }
+{
     let Some(command) = tree_command(words) else {
         return Why::NotYet;
     };

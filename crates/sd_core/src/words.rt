@@ -1,6 +1,9 @@
 //! The words of a command line.
 
-ghost use Rattle.std.specs.Prelude.{◌<◌, length, IfSome, IsTrue};
+ghost use Rattle.std.specs.Prelude.{◌≡◌, ◌<◌, ◌+◌, None, MatchOption, length, chars};
+ghost use Rattle.std.specs.List.{list_any};
+ghost use Rattle.sd_core.specs.Words as form;
+ghost use Rattle.sd_core.specs.WordsRead.{IsOrderOf};
 
 use sd_edge::Words;
 
@@ -20,9 +23,9 @@ pub struct TreeCommand<'a> {
 /// Reads the words `--root DIR -- FIND REPLACE_WITH GLOB`. Answers `None` for words of every other form, and for texts
 /// whose meaning isn't built yet.
 pub fn tree_command(words: &Words) -> Option<TreeCommand<'_>>
-    ensures { IfSome result (λ command. 0 < length command.find.now) }
+    ensures { MatchOption result (form.tree_order words.now ≡ None) (IsOrderOf words.now) }
 {
-    if words.len() != 6 || words.get(0) != "--root" || words.get(2) != "--" {
+    if words.len() != 6 {
         return None;
     }
     let command = TreeCommand {
@@ -31,45 +34,99 @@ pub fn tree_command(words: &Words) -> Option<TreeCommand<'_>>
         replacement: words.get(4),
         glob: words.get(5),
     };
-    if is_value(command.root)
-        && is_plain_find(command.find)
-        && is_plain_replacement(command.replacement)
-        && is_simple_glob(command.glob)
-    {
+    if is_tree_form(words.get(0), words.get(2), &command) {
         Some(command)
     } else {
         None
     }
 }
 
-/// Whether a word can be the value of an option: it is nonempty and doesn't begin with `-`.
-fn is_value(word: &str) -> bool {
-    !word.is_empty() && !word.starts_with('-')
+fn is_tree_form(option: &str, dashes: &str, command: &TreeCommand<'_>) -> bool
+    ensures { result ≡ form.is_tree_form option.now command.now.root.now dashes.now command.now.find.now command.now.replacement.now command.now.glob.now }
+{
+    option == "--root"
+        && is_value(command.root)
+        && dashes == "--"
+        && is_plain_find(command.find)
+        && is_plain_replacement(command.replacement)
+        && is_simple_glob(command.glob)
 }
 
-/// Whether a character has a meaning of its own in a pattern.
-fn is_meta(c: char) -> bool {
-    matches!(
-        c,
-        '\\' | '.' | '+' | '*' | '?' | '(' | ')' | '|' | '[' | ']' | '{' | '}' | '^' | '$' | '#' | '&' | '-' | '~'
-    )
+/// Whether a word can be the value of an option: it is nonempty and doesn't begin with `-`.
+fn is_value(word: &str) -> bool
+    ensures { result ≡ form.is_value word.now }
+{
+    match word.as_bytes().first() {
+        None => false,
+        Some(byte) => *byte != b'-',
+    }
 }
+
+/// The characters that have a meaning of their own in a pattern.
+const METAS: [char; 18] = [
+    '\\', '.', '+', '*', '?', '(', ')', '|', '[', ']', '{', '}', '^', '$', '#', '&', '-', '~',
+];
 
 /// Whether a find text stands for itself.
 fn is_plain_find(find: &str) -> bool
-    ensures { IsTrue result → 0 < length find.now }
+    ensures { result ≡ form.is_plain_find find.now }
 {
-    !find.is_empty() && !find.chars().any(is_meta)
+    !find.is_empty() && !has_meta(find)
+}
+
+fn has_meta(text: &str) -> bool
+    ensures { result ≡ list_any form.is_meta (chars text.now) }
+{
+    text.chars().any(|c| METAS.contains(&c))
 }
 
 /// Whether a replacement text stands for itself.
-fn is_plain_replacement(replacement: &str) -> bool {
-    !replacement.chars().any(|c| c == '$' || c == '\\')
+fn is_plain_replacement(replacement: &str) -> bool
+    ensures { result ≡ form.is_plain_replacement replacement.now }
+{
+    !has_reference(replacement)
+}
+
+fn has_reference(text: &str) -> bool
+    ensures { result ≡ list_any form.is_reference (chars text.now) }
+{
+    text.chars().any(|c| c == '$' || c == '\\')
 }
 
 /// Whether a glob has no piece but characters and `*`.
-fn is_simple_glob(glob: &str) -> bool {
-    !glob.starts_with('!')
-        && !glob.contains("**")
-        && !glob.chars().any(|c| matches!(c, '?' | '[' | '{' | '\\'))
+fn is_simple_glob(glob: &str) -> bool
+    ensures { result ≡ form.is_simple_glob glob.now }
+{
+    !begins_negated(glob) && !has_star_token(glob) && !has_glob_form(glob)
+}
+
+fn begins_negated(glob: &str) -> bool
+    ensures { result ≡ form.begins_negated glob.now }
+{
+    match glob.as_bytes().first() {
+        None => false,
+        Some(byte) => *byte == b'!',
+    }
+}
+
+/// Whether two `*` stand in a row.
+fn has_star_token(glob: &str) -> bool
+    ensures { result ≡ form.has_star_token glob.now }
+{
+    let mut after_star = false;
+    for byte in glob.as_bytes() {
+        let is_star = *byte == b'*';
+        if after_star && is_star {
+            return true;
+        }
+        after_star = is_star;
+    }
+    false
+}
+
+fn has_glob_form(glob: &str) -> bool
+    ensures { result ≡ list_any form.is_glob_form (chars glob.now) }
+{
+    glob.chars()
+        .any(|c| c == '?' || c == '[' || c == '{' || c == '\\')
 }

@@ -48,7 +48,10 @@ fn rewrites_chosen_files_and_counts(rt: HostRuntime) -> Result<(), Fail> {
     let run = run_words(alloc, &mut disk, &TREE_COMMAND, 1000)?;
     assert_eq!(rt; run.ended.status, 0);
     assert!(rt; matches!(run.ended.why, Why::Done));
-    assert_eq!(rt; run.out.bytes(), b"chosen 1, changed 1, replaced 2\n".as_slice());
+    assert_eq!(rt;
+        run.out.bytes(),
+        b"chosen 1, changed 1, replaced 2\n".as_slice()
+    );
     assert_eq!(rt; run.err.bytes().len(), 0);
     assert!(rt; holds(alloc, &disk, "/t/a.txt", b"1 two 1")?);
     assert_eq!(rt; disk.mode_at("/t/a.txt"), Some(0o640));
@@ -70,10 +73,17 @@ fn each_failing_call_leaves_files_old_or_new(rt: HostRuntime) -> Result<(), Fail
         let run = run_words(alloc, &mut disk, &TREE_COMMAND, 1000)?;
         assert_eq!(rt; disk.faults(), 1, "call {call}");
         assert_eq!(rt; run.ended.status, 1, "call {call}");
-        assert_eq!(rt; run.err.bytes(), b"error: input or output failed\n".as_slice(), "call {call}");
+        assert_eq!(rt;
+            run.err.bytes(),
+            b"error: input or output failed\n".as_slice(),
+            "call {call}"
+        );
         assert_eq!(rt; run.out.bytes().len(), 0, "call {call}");
         let old = holds(alloc, &disk, "/t/a.txt", b"one two one")?;
-        assert!(rt; old || holds(alloc, &disk, "/t/a.txt", b"1 two 1")?, "call {call}");
+        assert!(rt;
+            old || holds(alloc, &disk, "/t/a.txt", b"1 two 1")?,
+            "call {call}"
+        );
         assert_eq!(rt; disk.mode_at("/t/a.txt"), Some(0o640), "call {call}");
         assert!(rt; holds(alloc, &disk, "/t/b.md", b"one")?, "call {call}");
     }
@@ -88,7 +98,10 @@ fn a_missing_root_is_told(rt: HostRuntime) -> Result<(), Fail> {
     let run = run_words(alloc, &mut disk, &words, 1000)?;
     assert_eq!(rt; run.ended.status, 1);
     assert!(rt; matches!(run.ended.why, Why::Fault(Error::RootMissing)));
-    assert_eq!(rt; run.err.bytes(), b"error: the root leads to nothing\n".as_slice());
+    assert_eq!(rt;
+        run.err.bytes(),
+        b"error: the root leads to nothing\n".as_slice()
+    );
     Ok(())
 }
 
@@ -99,9 +112,18 @@ fn empty_files_and_a_root_that_is_a_file_are_not_chosen(rt: HostRuntime) -> Resu
     disk.add_dir("/e")?;
     disk.add_file("/e/empty", b"", 0o640)?;
     for root in ["/e", "/t/a.txt"] {
-        let run = run_words(alloc, &mut disk, &["--root", root, "--", "one", "1", "*"], 1000)?;
+        let run = run_words(
+            alloc,
+            &mut disk,
+            &["--root", root, "--", "one", "1", "*"],
+            1000,
+        )?;
         assert_eq!(rt; run.ended.status, 0, "{root}");
-        assert_eq!(rt; run.out.bytes(), b"chosen 0, changed 0, replaced 0\n".as_slice(), "{root}");
+        assert_eq!(rt;
+            run.out.bytes(),
+            b"chosen 0, changed 0, replaced 0\n".as_slice(),
+            "{root}"
+        );
     }
     Ok(())
 }
@@ -113,10 +135,16 @@ fn a_file_of_a_reserved_name_is_a_file(rt: HostRuntime) -> Result<(), Fail> {
     disk.add_file("/.sd-0000.tmp", b"a", 0o600)?;
     let words = ["--root", "/", "--", "a", "", "*"];
     let run = run_words(alloc, &mut disk, &words, 1000)?;
-    assert_eq!(rt; run.out.bytes(), b"chosen 1, changed 1, replaced 1\n".as_slice());
+    assert_eq!(rt;
+        run.out.bytes(),
+        b"chosen 1, changed 1, replaced 1\n".as_slice()
+    );
     assert!(rt; holds(alloc, &disk, "/.sd-0000.tmp", b"")?);
     let run = run_words(alloc, &mut disk, &words, 1000)?;
-    assert_eq!(rt; run.out.bytes(), b"chosen 0, changed 0, replaced 0\n".as_slice());
+    assert_eq!(rt;
+        run.out.bytes(),
+        b"chosen 0, changed 0, replaced 0\n".as_slice()
+    );
     Ok(())
 }
 
@@ -130,7 +158,8 @@ fn a_folder_without_a_free_reserved_name_is_a_failed_job(rt: HostRuntime) -> Res
     }
     let run = run_words(alloc, &mut disk, &TREE_COMMAND, 1000)?;
     assert_eq!(rt; run.ended.status, 1);
-    let text = b"error: failed processing files:\n\tFailedJobs(\n\t/t/a.txt: no free temporary name\n)\n";
+    let text =
+        b"error: failed processing files:\n\tFailedJobs(\n\t/t/a.txt: no free temporary name\n)\n";
     assert_eq!(rt; run.err.bytes(), text.as_slice());
     assert!(rt; holds(alloc, &disk, "/t/a.txt", b"one two one")?);
     Ok(())

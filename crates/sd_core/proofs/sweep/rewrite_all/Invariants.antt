@@ -1,9 +1,18 @@
-use Rattle.std.proofs.Common.{◌≤◌, ◌*◌, ◌^◌}
+use Rattle.std.proofs.Common.{List, ◌≤◌, ◌*◌, ◌^◌}
+use Rattle.std.specs.Prelude.{IsTrue}
+use Rattle.sd_edge.specs.Disk.{SameLists}
+use Rattle.sd_edge.specs.Tree.{NameList}
+use Rattle.sd_core.specs.Sweep.{AreFilePaths}
+use Rattle.sd_core.proofs.SweepLemmas.{IsSweptTo}
 use Rattle.sd_core.proofs.sweep.rewrite_all.Given as goal
 
--- each file changes at most once, and in each fewer than 2 ^ 64 texts are replaced
+-- on a told disk the files so far are rewritten and counted
 abbrev pub invariant-loop-path : goal.invariant-loop-path
 invariant-loop-path g l = record {
-  changed : l.changed ≤ l.path-index;
-  replaced : l.replaced ≤ 2 ^ 64 * l.path-index;
+  never_falls : (g.D.Disk.state l.fn.disk).faults ≤ (g.D.Disk.state l.disk).faults;
+  lists : SameLists (g.D.Disk.state l.fn.disk) (g.D.Disk.state l.disk);
+  changed_few : l.changed ≤ l.path-index;
+  replaced_few : l.replaced ≤ l.path-index * 2 ^ 64;
+  swept : IsTrue g.D.Disk.tells → (places : List NameList) → AreFilePaths (g.D.Disk.state l.fn.disk).tree places l.chosen
+      → IsSweptTo (g.D.Disk.state l.fn.disk).tree l.command.find.now l.command.replacement.now places l.path-index l.changed l.replaced (g.D.Disk.state l.disk).tree;
 }

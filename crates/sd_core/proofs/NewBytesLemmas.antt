@@ -1,0 +1,129 @@
+-- A file with its new bytes.
+use Rattle.std.proofs.Common.{◌≤◌, ◌≡◌, ◌≢◌, ◌⊎◌, ℕ, Bool, true, false, not, List, [], ◌∷◌, length, refl, sym, ◌∙◌, ap, subst, inl, inr, arith}
+use Rattle.std.specs.Prelude.{Some, IsTrue, Result, Ok, Err, IsErrAnd}
+use Rattle.std.specs.Option.{option_and_then}
+use Rattle.std.specs.Str.{bytes_eq}
+use Rattle.std.specs.Cmp.Lexicographic.{bytes_decides}
+use Rattle.std.proofs.lemmas.Option.{same_Some}
+use Rattle.sd_edge.specs.declared.fault.DiskFault.{DiskFault}
+use Rattle.sd_edge.specs.declared.fault.DiskFault.TheVariants as disk
+use Rattle.sd_edge.specs.Tree.{NameList, Tree, IsTree, SameBut, node_at, file_at}
+use Rattle.sd_edge.specs.Paths.{parts_of}
+use Rattle.sd_edge.specs.Disk.{DiskState, SameTree, HasCause}
+use Rattle.sd_edge.specs.Files.{Reads, IsNoFile}
+use Rattle.sd_core.specs.declared.search.Match.{Match}
+use Rattle.sd_core.specs.declared.error.Error.{Error}
+use Rattle.sd_core.specs.Fault.{IsErrorOf}
+use Rattle.sd_core.specs.Rewriting.{Spans, NewBytes, IsFilePath, RewritesFile, IsOldOrNew, LeavesFile, IsCleared, HasRewritingCause}
+use Rattle.sd_core.specs.Replaced.{replaced_from}
+use Rattle.sd_core.specs.Temporary.{HasBytes, Exchanges, LeavesBytes, HasDiskCause}
+use Rattle.sd_core.proofs.FillingLemmas.{leads_to_file}
+use Rattle.sd_core.proofs.CreatingLemmas.{placed, disk_cause}
+
+module _ (s0 : DiskState) (path find replacement bytes : List ℕ) (is : IsTree s0.tree) (it : IsFilePath s0.tree path) (reads : Reads s0 path bytes) where
+  -- what is read is the file at the place
+  read_here : file_at s0.tree (parts_of path) ≡ Some (bytes, reads.0)
+  read_here = sym (ap (option_and_then (file_at s0.tree)) (placed s0.tree path is it).leads) ∙ reads.1
+
+  -- its bytes don't change
+  pub same_file : (s : DiskState) (count : ℕ) → SameTree s0 s → NewBytes find replacement bytes bytes count → RewritesFile s0.tree (parts_of path) find replacement (record { changed = false; replaced = count }) s.tree
+  same_file s count same new = record {
+    bytes = bytes;
+    mode = reads.0;
+    was = read_here;
+    new_bytes = bytes;
+    new_bytes_are = new;
+    changed = ((λ e. cc), (λ differ. absurd (differ refl)));
+    holds = subst (λ (t : Tree). file_at t (parts_of path) ≡ Some (bytes, reads.0)) (sym same.tree) read_here;
+    kept = λ e. ap (λ (t : Tree). node_at t (parts_of path)) same.tree;
+    others = λ q other. ap (λ (t : Tree). node_at t q) same.tree;
+  }
+
+  -- the bytes of the file before are those that were read
+  same_read : (new : List ℕ) (t : Tree) → (h : HasBytes s0.tree (parts_of path) new t) → file_at t (parts_of path) ≡ Some (new, reads.0)
+  same_read new t h =
+      let mode : h.mode ≡ reads.0 = ap (λ (f : List ℕ × ℕ). f.1) (same_Some (h.before, h.mode) (bytes, reads.0) (sym h.was ∙ read_here)) in
+      h.holds ∙ ap (λ (m : ℕ). Some (new, m)) mode
+
+  -- its bytes change
+  pub changed_file : (t : Tree) (new : List ℕ) (count : ℕ) → Exchanges s0.tree (parts_of path) new t → NewBytes find replacement bytes new count → new ≢ bytes
+      → RewritesFile s0.tree (parts_of path) find replacement (record { changed = true; replaced = count }) t
+  changed_file t new count exchanged is_new differ = record {
+    bytes = bytes;
+    mode = reads.0;
+    was = read_here;
+    new_bytes = new;
+    new_bytes_are = is_new;
+    changed = ((λ e. differ), (λ e. refl));
+    holds = same_read new t exchanged.has;
+    kept = λ e. absurd (differ e);
+    others = exchanged.others;
+  }
+
+  -- after a refusal it is old or new
+  pub left_file : (t : Tree) (new : List ℕ) (count : ℕ) → LeavesBytes s0.tree (parts_of path) new t → NewBytes find replacement bytes new count → LeavesFile s0.tree (parts_of path) find replacement t
+  left_file t new count left is_new = record {
+    old_or_new = by left.old_or_new;
+    temporary = left.temporary;
+    was_free = left.was_free;
+    others = left.others;
+    old_or_alone = left.old_or_alone;
+  }
+    where
+      by : (node_at t (parts_of path) ≡ node_at s0.tree (parts_of path)) ⊎ HasBytes s0.tree (parts_of path) new t → IsOldOrNew s0.tree (parts_of path) find replacement t
+      by (inl old) = inl old
+      by (inr has) = inr (bytes, reads.0, new, count, read_here, is_new, same_read new t has)
+
+-- ---- new bytes
+
+-- where nothing is found, the bytes stay
+pub none_found : (find replacement bytes : List ℕ) (spans : List Match) → Spans find bytes spans → length spans ≡ 0 → NewBytes find replacement bytes bytes 0
+none_found find replacement bytes [] are none = record { spans = []; are_spans = are; bytes_are = refl; count_is = refl }
+none_found find replacement bytes (span ∷ spans) are none = absurd (omega arith)
+
+-- what the code makes of the spans that it found
+pub new_bytes : (find replacement bytes new : List ℕ) (spans : List Match) (haystack text : List ℕ) (found : List Match) → Spans find bytes spans → haystack ≡ bytes → text ≡ replacement → found ≡ spans
+    → new ≡ replaced_from (λ _. text) haystack 0 found → NewBytes find replacement bytes new (length found)
+new_bytes find replacement bytes new spans haystack text found are h t f is =
+    record { spans = spans; are_spans = are; bytes_are = is ∙ (λ i. replaced_from (λ _. t i) (h i) 0 (f i)); count_is = ap length f }
+
+-- what the test of their difference tells
+pub differ : (a b : List ℕ) → true ≡ not (bytes_eq a b) → a ≢ b
+differ a b test e = let same : bytes_eq a b ≡ true = (bytes_decides a b).1 e in cc
+
+pub same : (a b : List ℕ) → false ≡ not (bytes_eq a b) → a ≡ b
+same a b test = (bytes_decides a b).0 (by (bytes_eq a b) test)
+  where
+    by : (t : Bool) → false ≡ not t → t ≡ true
+    by true e = refl
+    by false e = cc
+
+-- ---- why it is refused
+
+-- a cause of the disk's is one of the whole
+pub rewriting_cause : {T : Type 0} (tells : Bool) (old new : DiskState) (path : List ℕ) (r : Result T Error) → HasDiskCause old new r → HasRewritingCause tells old new path r
+rewriting_cause tells old new path r cause = record {
+  never_falls = cause.never_falls;
+  risen = cause.risen;
+  fault_is = cause.fault_is;
+  job = λ jobs e. absurd (cause.no_job jobs e);
+  job_risen = λ jobs untold e. absurd (cause.no_job jobs e);
+  no_root = cause.no_root;
+}
+
+-- reading counts no fault away
+pub cleared_since : (s0 s1 s2 : DiskState) (place : NameList) → SameTree s0 s1 → s0.faults ≤ s1.faults → IsCleared s1 place s2 → IsCleared s0 place s2
+cleared_since s0 s1 s2 place same low (inl others) = inl (subst (λ (t : Tree). SameBut place t s2.tree) same.tree others)
+cleared_since s0 s1 s2 place same low (inr (inl twice)) = inr (inl (omega arith))
+cleared_since s0 s1 s2 place same low (inr (inr last)) = inr (inr last)
+
+-- of the reading
+pub reading_cause : {T U : Type 0} (tells : Bool) (s0 s : DiskState) (path : List ℕ) (fault : DiskFault) (r : Result U Error) → (IsTrue tells → IsTree s0.tree) → (IsTrue tells → IsFilePath s0.tree path)
+    → HasCause {T = T} tells s0 s (Err fault) → fault ≢ disk.Taken → (IsTrue tells → fault ≡ disk.Absent → IsNoFile s0 path) → IsErrAnd r (IsErrorOf fault) → HasRewritingCause tells s0 s path r
+reading_cause tells s0 s path fault (Ok x) is it cause not_taken absent from = absurd from
+reading_cause tells s0 s path fault (Err e) is it cause not_taken absent from =
+    rewriting_cause tells s0 s path (Err e) (disk_cause tells s0 s0 s fault e (omega arith) cause not_taken
+    (λ told e.
+    let at = placed s0.tree path (is told) (it told) in
+    leads_to_file s0.tree path (parts_of path) (record { names = at.names; is_file = (it told).is_file }) (absent told e))
+    from)

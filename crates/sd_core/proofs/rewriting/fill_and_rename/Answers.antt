@@ -1,0 +1,60 @@
+use Rattle.std.proofs.Common.{inl}
+use Rattle.sd_edge.proofs.WayLemmas.{same_ways, writes_ways, may_write_ways}
+use Rattle.sd_core.proofs.FillingLemmas.{at_err, at_ok, passed_on, then_ways, renaming_ways, after_refusal, leads_to_file, at_source, filled, synced, filled_only, wrote_only, moved, after_renaming, can_rename}
+use Rattle.sd_core.proofs.rewriting.fill_and_rename.Goals as goal
+
+pub returns-in_err-write_file-clause-refused : goal.returns-in_err-write_file-clause-refused
+returns-in_err-write_file-clause-refused g c =
+    λ told. at_err c.from_residual.result (inl (wrote_only _ _ _ c.args.bytes.now (c.requires told) _
+    (after_refusal c.in_err-write_file.field-0.0 _ _ (c.in_err-write_file.ensures.failed told) c.in_err-write_file.ensures.refused)))
+
+pub returns-in_err-write_file-clause-not_absent : goal.returns-in_err-write_file-clause-not_absent
+returns-in_err-write_file-clause-not_absent g c =
+    λ told is. leads_to_file _ _ _ (at_source _ _ _ (c.requires told))
+    (c.in_err-write_file.ensures.absent told (passed_on c.from_residual.result _ _ c.from_residual.ensures.1 is))
+
+pub returns-in_err-sync-clause-refused : goal.returns-in_err-sync-clause-refused
+returns-in_err-sync-clause-refused g c =
+    λ told. at_err c.from_residual-in_err-sync.result (inl (filled_only _ _ _ _ (c.requires told) _ _ (filled _ _ _ _ (c.requires told) _ (c.in_ok-write_file.ensures.written told))
+    (after_refusal c.in_err-sync.field-0.0 _ _ (c.in_err-sync.ensures.failed told) c.in_err-sync.ensures.refused)))
+
+pub returns-in_err-sync-clause-not_absent : goal.returns-in_err-sync-clause-not_absent
+returns-in_err-sync-clause-not_absent g c =
+    λ told is.
+    let full = filled _ _ _ _ (c.requires told) _ (c.in_ok-write_file.ensures.written told) in
+    leads_to_file _ _ _ full.leaves (c.in_err-sync.ensures.absent told (passed_on c.from_residual-in_err-sync.result _ _ c.from_residual-in_err-sync.ensures.1 is))
+
+pub returns-clause-moved : goal.returns-clause-moved
+returns-clause-moved g c =
+    λ told.
+    let two = c.requires told in
+    let full = synced _ _ _ _ two _ _ (filled _ _ _ _ two _ (c.in_ok-write_file.ensures.written told)) (c.in_ok-sync.ensures.synced told) in
+    at_ok c.rename.result (c.rename.ensures.renamed told) (λ renamed. moved _ _ _ _ two _ _ full renamed)
+
+pub returns-clause-refused : goal.returns-clause-refused
+returns-clause-refused g c =
+    λ told.
+    let two = c.requires told in
+    let full = synced _ _ _ _ two _ _ (filled _ _ _ _ two _ (c.in_ok-write_file.ensures.written told)) (c.in_ok-sync.ensures.synced told) in
+    after_renaming _ _ _ _ two c.rename.result _ _ full (c.rename.ensures.failed told) c.rename.ensures.refused
+
+pub returns-clause-not_absent : goal.returns-clause-not_absent
+returns-clause-not_absent g c =
+    λ told is.
+    let two = c.requires told in
+    let full = synced _ _ _ _ two _ _ (filled _ _ _ _ two _ (c.in_ok-write_file.ensures.written told)) (c.in_ok-sync.ensures.synced told) in
+    can_rename _ _ _ _ two _ full (c.rename.ensures.absent told is)
+
+pub returns-in_err-write_file-clause-ways : goal.returns-in_err-write_file-clause-ways
+returns-in_err-write_file-clause-ways g c =
+    λ told. may_write_ways _ _ _ (after_refusal c.in_err-write_file.field-0.0 _ _ (c.in_err-write_file.ensures.failed told) c.in_err-write_file.ensures.refused)
+
+pub returns-in_err-sync-clause-ways : goal.returns-in_err-sync-clause-ways
+returns-in_err-sync-clause-ways g c =
+    λ told. then_ways (writes_ways _ _ _ _ (c.in_ok-write_file.ensures.written told))
+    (may_write_ways _ _ _ (after_refusal c.in_err-sync.field-0.0 _ _ (c.in_err-sync.ensures.failed told) c.in_err-sync.ensures.refused))
+
+pub returns-clause-ways : goal.returns-clause-ways
+returns-clause-ways g c =
+    λ told. then_ways (then_ways (writes_ways _ _ _ _ (c.in_ok-write_file.ensures.written told)) (same_ways _ _ (c.in_ok-sync.ensures.synced told).same.tree))
+    (renaming_ways _ _ _ _ c.rename.result (c.rename.ensures.renamed told) (c.rename.ensures.failed told) c.rename.ensures.refused)

@@ -1,0 +1,58 @@
+use Rattle.std.proofs.Common.{◌≡◌, ◌∙◌, sym, ap, subst, length, List, ℕ, Err, eqb-true}
+use Rattle.sd_edge.specs.declared.fault.DiskFault.{DiskFault}
+use Rattle.sd_core.specs.Rewriting.{NewBytes}
+use Rattle.sd_core.proofs.FillingLemmas.{at_err, passed_on}
+use Rattle.sd_core.proofs.NewBytesLemmas.{same_file, changed_file, left_file, reading_cause, cleared_since, none_found, new_bytes, differ, same}
+use Rattle.sd_core.proofs.rewriting.rewrite_file.Goals as goal
+use Rattle.sd_core.proofs.rewriting.rewrite_file.Goals.{then-changed+in_ok-exchange, else-changed}
+
+pub returns-in_err-bytes-clause-cause : goal.returns-in_err-bytes-clause-cause
+returns-in_err-bytes-clause-cause g c =
+    reading_cause _ _ _ _ c.in_err-bytes.field-0.0 c.from_residual.result (g.met.D.Disk.is_tree c.args.disk.now) c.requires.file c.in_err-bytes.ensures.cause
+    (λ e. c.in_err-bytes.ensures.not_taken (ap (λ (f : DiskFault). Err f) e)) (λ told e. c.in_err-bytes.ensures.absent told (ap (λ (f : DiskFault). Err f) e)) c.from_residual.ensures.1
+
+pub returns-then-is_empty-clause-rewritten : goal.returns-then-is_empty-clause-rewritten
+returns-then-is_empty-clause-rewritten g c =
+    λ told.
+    let spans = rw (c.deref.ensures.value, c.as_bytes.ensures.value) at c.in_ok-spans.ensures in
+    let none : length c.in_ok-spans.spans.items ≡ 0 = sym c.in_ok-spans.spans.ok.0 ∙ eqb-true _ 0 (sym c.if-is_empty.ensures) in
+    same_file _ _ _ _ _ (g.met.D.Disk.is_tree c.args.disk.now told) (c.requires.file told) (c.in_ok-bytes.ensures.bytes told) _ 0 c.in_ok-bytes.ensures.tree (none_found _ _ _ _ spans none)
+
+pub returns-in_err-exchange-clause-refused : goal.returns-in_err-exchange-clause-refused
+returns-in_err-exchange-clause-refused g c =
+    λ told.
+    let spans = rw (c.deref.ensures.value, c.as_bytes.ensures.value) at c.in_ok-spans.ensures in
+    let is_new = new_bytes _ _ _ _ _ _ _ _ spans c.deref-2.ensures.value c.as_bytes-2.ensures.value c.deref-3.ensures.value c.in_ok-new.ensures in
+    let left = rw (c.in_ok-bytes.ensures.tree.tree, c.deref-then-changed.ensures.value) at (c.in_err-exchange.ensures.refused told) in
+    at_err c.from_residual-in_err-exchange.result
+    (left_file (g.D.Disk.state c.args.disk.now) _ _ _ _ (g.met.D.Disk.is_tree c.args.disk.now told) (c.requires.file told) (c.in_ok-bytes.ensures.bytes told) _ _ _ left is_new)
+
+pub returns-in_err-exchange-clause-none_free : goal.returns-in_err-exchange-clause-none_free
+returns-in_err-exchange-clause-none_free g c =
+    λ told jobs is.
+    rw c.in_ok-bytes.ensures.tree.tree at (c.in_err-exchange.ensures.none_free told jobs (passed_on c.from_residual-in_err-exchange.result _ _ c.from_residual-in_err-exchange.ensures.1 is))
+
+pub returns-in_err-exchange-clause-cleared : goal.returns-in_err-exchange-clause-cleared
+returns-in_err-exchange-clause-cleared g c =
+    λ told fault is.
+    cleared_since _ _ (g.D.Disk.state c.exchange.new.disk) _ c.in_ok-bytes.ensures.tree c.in_ok-bytes.ensures.cause.never_falls
+    (c.in_err-exchange.ensures.cleared told fault (passed_on c.from_residual-in_err-exchange.result _ _ c.from_residual-in_err-exchange.ensures.1 is))
+
+pub returns-clause-rewritten : goal.returns-clause-rewritten
+returns-clause-rewritten g c =
+    λ told.
+    let spans = rw (c.deref.ensures.value, c.as_bytes.ensures.value) at c.in_ok-spans.ensures in
+    let is_new = new_bytes _ _ _ _ _ _ _ _ spans c.deref-2.ensures.value c.as_bytes-2.ensures.value c.deref-3.ensures.value c.in_ok-new.ensures in
+    let count : c.len.result ≡ length c.deref-3.result.now = c.len.ensures ∙ sym c.deref-3.ensures.len in
+    elim c.if-changed.branch [
+      | then-changed+in_ok-exchange w ↦
+          let exchanged = rw (c.in_ok-bytes.ensures.tree.tree, w.deref-then-changed.ensures.value) at (w.in_ok-exchange.ensures.exchanged told) in
+          rw (w.disk-is, w.if-changed.true, count)
+          (changed_file (g.D.Disk.state c.args.disk.now) _ _ _ _ (g.met.D.Disk.is_tree c.args.disk.now told) (c.requires.file told) (c.in_ok-bytes.ensures.bytes told) _ _ _ exchanged is_new
+          (differ _ _ w.if-changed.ensures))
+      | else-changed w ↦
+          let kept = same c.in_ok-new.new.items c.in_ok-bytes.bytes.items w.if-changed.ensures in
+          rw (w.disk-is, w.if-changed.false, count)
+          (same_file _ _ _ _ _ (g.met.D.Disk.is_tree c.args.disk.now told) (c.requires.file told) (c.in_ok-bytes.ensures.bytes told) _ _ c.in_ok-bytes.ensures.tree
+          (subst (λ (new : List ℕ). NewBytes c.args.find.now c.args.replacement.now c.in_ok-bytes.bytes.items new (length c.deref-3.result.now)) kept is_new))
+    ]

@@ -1,0 +1,114 @@
+-- What the rewriting of one file does.
+use Rattle.std.specs.Prelude.{◌≡◌, ◌≢◌, ◌↔◌, ◌<◌, ◌≤◌, ◌+◌, ◌/◌, ◌%◌, ◌⊎◌, ℕ, Bool, false, IsTrue, List, [], ◌∷◌, ◌++◌, length, codes, Some, None, IsSome, Result, Err, IsErrOf, if◌then◌else◌, nat_lt}
+use Rattle.sd_edge.specs.Count.{HasRisen, IsAtLast}
+use Rattle.sd_edge.specs.Tree.{Name, NameList, Tree, SameBut, node_at, file_at}
+use Rattle.sd_edge.specs.Paths.{parts_of, parent_of}
+use Rattle.sd_edge.specs.Disk.{DiskState}
+use Rattle.sd_edge.specs.Files.{path_text}
+use Rattle.sd_edge.specs.declared.fault.DiskFault.{DiskFault}
+use Rattle.sd_edge.specs.declared.fault.DiskFault.TheVariants as disk
+use Rattle.sd_core.specs.declared.search.Match.{Match}
+use Rattle.sd_core.specs.declared.rewriting.Rewrite.{Rewrite}
+use Rattle.sd_core.specs.declared.error.Error.{Error}
+use Rattle.sd_core.specs.declared.error.Error.TheVariants.{File, RootMissing, FailedProcessing}
+use Rattle.sd_core.specs.declared.error.FailedJobs.{FailedJobs}
+use Rattle.sd_core.specs.declared.error.JobFault.TheVariants.{TempName}
+use Rattle.sd_core.specs.Cover.{IsFairCover, end_of_text}
+use Rattle.sd_core.specs.Replaced.{replaced_from}
+
+-- ---- new bytes
+
+-- The spans of the fair cover of a plain text in some bytes.
+abbrev pub Spans : List ℕ → List ℕ → List Match → Type 0
+Spans find bytes spans = IsFairCover (end_of_text bytes find) 0 (length bytes) spans
+
+-- The bytes with the replacement in the place of each span, and how many spans there are.
+pub record NewBytes (find replacement bytes new_bytes : List ℕ) (count : ℕ) : Type 0 where
+  pub spans : List Match
+  pub are_spans : Spans find bytes spans
+  pub bytes_are : new_bytes ≡ replaced_from (λ _. replacement) bytes 0 spans
+  pub count_is : count ≡ length spans
+
+-- ---- reserved names
+
+-- a hexadecimal digit in lower case
+abbrev pub hex_digit : ℕ → ℕ
+hex_digit n = if nat_lt n 10 then 48 + n else 87 + n
+
+-- the reserved name of a number below 65,536: `.sd-0000.tmp` to `.sd-ffff.tmp`
+abbrev pub reserved_name : ℕ → Name
+reserved_name n =
+    codes ".sd-" ++ hex_digit (n / 4096) ∷ hex_digit (n / 256 % 16) ∷ hex_digit (n / 16 % 16) ∷ hex_digit (n % 16) ∷ codes ".tmp"
+
+-- how many names are reserved in each folder
+abbrev pub reserved_names : ℕ
+reserved_names = 65536
+
+-- a reserved name in a folder
+abbrev pub Reserved : NameList → NameList → Type 0
+Reserved folder place = (n : ℕ) × (n < reserved_names) × (place ≡ folder ++ reserved_name n ∷ [])
+
+-- nothing stands at a reserved name of the folder
+pub record Free (tree : Tree) (folder place : NameList) : Type 0 where
+  pub reserved : Reserved folder place
+  pub free : node_at tree place ≡ None
+
+-- ---- one file
+
+-- the path is that of a regular file of the tree, without links, `.` and `..`
+pub record IsFilePath (tree : Tree) (path : List ℕ) : Type 0 where
+  pub path_is : path ≡ path_text (parts_of path)
+  pub is_file : IsSome (file_at tree (parts_of path))
+
+-- The regular file at the place has its mode and its new bytes; where these are its bytes, its node stays. Every other place is as before.
+pub record RewritesFile (old : Tree) (place : NameList) (find replacement : List ℕ) (rewrite : Rewrite) (new : Tree) : Type 0 where
+  pub bytes : List ℕ
+  pub mode : ℕ
+  pub was : file_at old place ≡ Some (bytes, mode)
+  pub new_bytes : List ℕ
+  pub new_bytes_are : NewBytes find replacement bytes new_bytes rewrite.replaced
+  pub changed : IsTrue rewrite.changed ↔ (new_bytes ≢ bytes)
+  pub holds : file_at new place ≡ Some (new_bytes, mode)
+  pub kept : new_bytes ≡ bytes → node_at new place ≡ node_at old place
+  pub others : SameBut place old new
+
+-- the file at the place is its old node, or has its mode and its new bytes
+abbrev pub IsOldOrNew : Tree → NameList → List ℕ → List ℕ → Tree → Type 0
+IsOldOrNew old place find replacement new =
+    (node_at new place ≡ node_at old place)
+    ⊎ ((bytes : List ℕ) × (mode : ℕ) × (new_bytes : List ℕ) × (count : ℕ) × (file_at old place ≡ Some (bytes, mode))
+    × NewBytes find replacement bytes new_bytes count × (file_at new place ≡ Some (new_bytes, mode)))
+
+-- After a refusal the file is old or new, and at most one reserved name differs, of its folder and free before. Where the file isn't its old
+-- node, none does.
+pub record LeavesFile (old : Tree) (place : NameList) (find replacement : List ℕ) (new : Tree) : Type 0 where
+  pub old_or_new : IsOldOrNew old place find replacement new
+  pub temporary : NameList
+  pub was_free : Free old (parent_of place) temporary ⊎ (temporary ≡ place)
+  pub others : (q : NameList) → q ≢ place → q ≢ temporary → node_at new q ≡ node_at old q
+  pub old_or_alone : (node_at new place ≡ node_at old place) ⊎ SameBut place old new
+
+-- the count of faults rose by so many, or stands at its last value
+abbrev pub HasRisenBy : ℕ → ℕ → ℕ → Type 0
+HasRisenBy n before now = (before + n ≤ now) ⊎ IsAtLast now
+
+-- One counted fault leaves no temporary file: every other place is as before, or a second one was counted.
+abbrev pub IsCleared : DiskState → NameList → DiskState → Type 0
+IsCleared old place new = SameBut place old.tree new.tree ⊎ HasRisenBy 2 old.faults new.faults
+
+-- ---- why it is refused
+
+-- The count of faults never falls. A fault of the disk is `Failed` or `Absent`, and comes only where the count rose or stands at its last
+-- value. The one failed job is this path without a free reserved name: on a disk that doesn't tell its tree it comes only where the count rose
+-- by the number of reserved names. A root isn't looked for.
+pub record HasRewritingCause {T : Type 0} (tells : Bool) (old new : DiskState) (path : List ℕ) (result : Result T Error) : Type 0 where
+  pub never_falls : old.faults ≤ new.faults
+  pub risen : (fault : DiskFault) → IsErrOf result (File fault) → HasRisen old.faults new.faults
+  pub fault_is : (fault : DiskFault) → IsErrOf result (File fault) → (fault ≡ disk.Failed) ⊎ (fault ≡ disk.Absent)
+  pub job : (jobs : FailedJobs) → IsErrOf result (FailedProcessing jobs) → jobs ≡ (path, TempName) ∷ []
+  pub job_risen : (jobs : FailedJobs) → tells ≡ false → IsErrOf result (FailedProcessing jobs) → HasRisenBy reserved_names old.faults new.faults
+  pub no_root : result ≢ Err RootMissing
+
+-- each reserved name of the folder is taken
+abbrev pub NoneFree : Tree → NameList → Type 0
+NoneFree tree folder = (place : NameList) → Free tree folder place → ⊥

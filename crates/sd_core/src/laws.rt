@@ -1,0 +1,27 @@
+//! Laws of what is found and of what takes its place.
+
+ghost use Rattle.std.specs.Prelude.{◌≡◌, ℕ, List, Option, length, slice_range, All};
+ghost use Rattle.sd_core.specs.declared.search.Match.{Match};
+ghost use Rattle.sd_core.specs.Cover.{IsLawful, IsInTurn, IsFairCover};
+ghost use Rattle.sd_core.specs.Replaced.{replaced_from, LiesWithin};
+ghost use Rattle.sd_core.specs.Rewriting.{NewBytes};
+
+/// There is at most one fair cover.
+pub fn one_fair_cover()
+    ensures { (preferred : ℕ → Option ℕ) (at n : ℕ) (xs ys : List Match) → IsLawful preferred n
+        → IsFairCover preferred at n xs → IsFairCover preferred at n ys → xs ≡ ys }
+{}
+
+/// To put its own bytes in the place of each span changes nothing.
+pub fn same_bytes_back()
+    ensures { (haystack : List ℕ) (spans : List Match) → IsInTurn spans → All (LiesWithin (length haystack)) spans
+        → replaced_from (λ span. slice_range haystack span.start span.end) haystack 0 spans ≡ haystack }
+{}
+
+/// A file's bytes and the two texts determine its new bytes and how many texts are replaced. A text replaced by itself
+/// changes nothing.
+pub fn one_list_of_new_bytes()
+    ensures one { (find replacement bytes a b : List ℕ) (m n : ℕ) → NewBytes find replacement bytes a m
+        → NewBytes find replacement bytes b n → (a ≡ b) × (m ≡ n) }
+    ensures itself { (find bytes new : List ℕ) (n : ℕ) → NewBytes find find bytes new n → new ≡ bytes }
+{}
