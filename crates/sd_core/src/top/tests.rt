@@ -176,33 +176,33 @@ fn a_report_that_cannot_be_written_is_told(rt: HostRuntime) -> Result<(), Fail> 
     Ok(())
 }
 
+/// Whether a run says that the words aren't built yet, and does nothing.
+fn is_not_built(alloc: Global, words: &[&str]) -> Result<bool, Fail> {
+    let mut disk = two_files(alloc)?;
+    let run = run_words(alloc, &mut disk, words, 1000)?;
+    Ok(
+        run.ended.status == 1
+            && matches!(run.ended.why, Why::NotYet)
+            && run.err.bytes() == b"error: not built yet\n".as_slice()
+            && disk.calls() == 0,
+    )
+}
+
 #[test]
 fn words_of_other_forms_are_not_built_yet(rt: HostRuntime) -> Result<(), Fail> {
     let alloc = rt.alloc();
-    let forms: [[&str; 6]; 12] = [
-        ["--roots", "/t", "--", "one", "1", "*"],
-        ["--root", "", "--", "one", "1", "*"],
-        ["--root", "-t", "--", "one", "1", "*"],
-        ["--root", "/t", "-", "one", "1", "*"],
-        ["--root", "/t", "--", "", "1", "*"],
-        ["--root", "/t", "--", "o.e", "1", "*"],
-        ["--root", "/t", "--", "one", "$1", "*"],
-        ["--root", "/t", "--", "one", "1\\n", "*"],
-        ["--root", "/t", "--", "one", "1", "!*"],
-        ["--root", "/t", "--", "one", "1", "**"],
-        ["--root", "/t", "--", "one", "1", "{a,b}"],
-        ["--root", "/t", "--", "one", "1", "[a]?"],
-    ];
-    for words in forms {
-        let mut disk = two_files(alloc)?;
-        let run = run_words(alloc, &mut disk, &words, 1000)?;
-        assert_eq!(rt; run.ended.status, 1);
-        assert!(rt; matches!(run.ended.why, Why::NotYet));
-        assert_eq!(rt; run.err.bytes(), b"error: not built yet\n".as_slice());
-        assert_eq!(rt; disk.calls(), 0);
-    }
-    let mut disk = two_files(alloc)?;
-    let run = run_words(alloc, &mut disk, &["one", "1"], 1000)?;
-    assert!(rt; matches!(run.ended.why, Why::NotYet));
+    assert!(rt; is_not_built(alloc, &["--roots", "/t", "--", "one", "1", "*"])?);
+    assert!(rt; is_not_built(alloc, &["--root", "", "--", "one", "1", "*"])?);
+    assert!(rt; is_not_built(alloc, &["--root", "-t", "--", "one", "1", "*"])?);
+    assert!(rt; is_not_built(alloc, &["--root", "/t", "-", "one", "1", "*"])?);
+    assert!(rt; is_not_built(alloc, &["--root", "/t", "--", "", "1", "*"])?);
+    assert!(rt; is_not_built(alloc, &["--root", "/t", "--", "o.e", "1", "*"])?);
+    assert!(rt; is_not_built(alloc, &["--root", "/t", "--", "one", "$1", "*"])?);
+    assert!(rt; is_not_built(alloc, &["--root", "/t", "--", "one", "1\\n", "*"])?);
+    assert!(rt; is_not_built(alloc, &["--root", "/t", "--", "one", "1", "!*"])?);
+    assert!(rt; is_not_built(alloc, &["--root", "/t", "--", "one", "1", "**"])?);
+    assert!(rt; is_not_built(alloc, &["--root", "/t", "--", "one", "1", "{a,b}"])?);
+    assert!(rt; is_not_built(alloc, &["--root", "/t", "--", "one", "1", "[a]?"])?);
+    assert!(rt; is_not_built(alloc, &["one", "1"])?);
     Ok(())
 }
