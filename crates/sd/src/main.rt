@@ -3,9 +3,8 @@
 
 use sd_core::run;
 use sd_edge::{HostDisk, HostSink, HostSource, NoMemory, Words};
-use std::env;
-use std::io;
 use std::process::ExitCode;
+use std::{env, io};
 
 fn main(rt: HostRuntime) -> ExitCode {
     let words = match words(&rt) {
