@@ -20,6 +20,7 @@ pub mod TreeLemmas
 pub mod OpenListsLemmas
 pub mod StandLemmas
 pub mod DiskLemmas
+pub mod WritingLemmas
 pub mod AddedLemmas
 pub mod AloneLemmas
 pub mod DeviceLemmas

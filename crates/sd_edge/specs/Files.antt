@@ -6,7 +6,7 @@ use Rattle.sd_edge.specs.declared.meta.Kind.{Kind}
 use Rattle.sd_edge.specs.declared.meta.Kind.TheVariants as kind
 use Rattle.sd_edge.specs.declared.meta.Meta.{Meta}
 use Rattle.sd_edge.specs.declared.meta.Ident.{Ident}
-use Rattle.sd_edge.specs.Tree.{NameList, Content, directory, link, file, other, Node, Tree, SameBut, node_at, file_at}
+use Rattle.sd_edge.specs.Tree.{NameList, Content, directory, link, file, other, Node, Tree, SameBut, node_at, file_at, identity_at}
 use Rattle.sd_edge.specs.Paths.{reached, named, Leads}
 use Rattle.sd_edge.specs.Disk.{DiskState, SameTree}
 
@@ -96,7 +96,7 @@ pub record IsTaken (old : DiskState) (path like : List ℕ) : Type 0 where
 
 -- ---- write_file, sync
 
--- the regular file that the path leads to holds these bytes; its mode is kept
+-- the regular file that the path leads to holds these bytes; its mode, device and inode are kept
 pub record Writes (old : DiskState) (path bytes : List ℕ) (new : DiskState) : Type 0 where
   pub place : NameList
   pub leads : reached old.tree path true ≡ Some place
@@ -104,6 +104,7 @@ pub record Writes (old : DiskState) (path bytes : List ℕ) (new : DiskState) : 
   pub mode : ℕ
   pub was : file_at old.tree place ≡ Some (before, mode)
   pub holds : file_at new.tree place ≡ Some (bytes, mode)
+  pub identity : identity_at new.tree place ≡ identity_at old.tree place
   pub others : SameBut place old.tree new.tree
 
 -- after a failure the file holds any bytes

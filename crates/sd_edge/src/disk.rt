@@ -111,8 +111,8 @@ pub trait Disk {
         ensures lists { SameLists (state self.old) (state self.new) }
         ensures cause { HasCause tells (state self.old) (state self.new) result };
 
-    /// Gives the regular file that a path leads to these bytes; its mode is kept. Refuses `Absent` exactly where there
-    /// is none. After `Failed` the file may hold any bytes.
+    /// Gives the regular file that a path leads to these bytes; its mode, device and inode are kept. Refuses `Absent`
+    /// exactly where there is none. After `Failed` the file may hold any bytes.
     fn write_file(&mut self, path: &str, bytes: &[u8]) -> Result<(), DiskFault>
         ensures written { IsTrue tells → OnOk result (Writes (state self.old) path.now bytes.now (state self.new)) }
         ensures absent { IsTrue tells → IsErrOf result DiskFault.Absent → IsNoFile (state self.old) path.now }
