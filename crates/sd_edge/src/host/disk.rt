@@ -156,6 +156,13 @@ fn create<R: Files>(rt: &R, path: &str, like: &Metadata) -> io::Result<R::File> 
     }
 }
 
+/// Writes the bytes of a new file, and gives it its permissions again: a host may drop some of them at a write.
+fn fill<F: OpenFile + Write>(file: &mut F, bytes: &[u8]) -> io::Result<()> {
+    let permissions = file.metadata()?.permissions();
+    file.write_all(bytes)?;
+    file.set_permissions(permissions)
+}
+
 /// Writes a file anew.
 fn write<R: Files>(rt: &R, path: &str, bytes: &[u8]) -> io::Result<()> {
     OpenOptions::new()
@@ -323,7 +330,7 @@ impl<R: Files + AllocGlobal + Clone + Drop> Disk for HostDisk<R> {
 
     fn write_file(&mut self, path: &str, bytes: &[u8]) -> Result<(), DiskFault> {
         if let Some(mut file) = take_new(&mut self.new_file, path) {
-            return self.counter.counted(file.write_all(bytes));
+            return self.counter.counted(fill(&mut file, bytes));
         }
         file_metadata(&self.rt, &mut self.counter, path)?;
         self.counter.counted(write(&self.rt, path, bytes))
