@@ -1,9 +1,13 @@
 -- What a disk in memory tells.
-use Rattle.std.specs.Prelude.{◌≡◌, ◌≢◌, ◌+◌, ℕ, false, List, [], ◌∷◌, reverse, Some, None}
+use Rattle.std.specs.Prelude.{◌≡◌, ◌≢◌, ◌+◌, ◌⊎◌, ◌↔◌, ℕ, true, false, List, [], ◌∷◌, reverse, Some, None, Result, Err, IsErrOf, Contains}
 use Rattle.std.specs.Global.{Vec}
 use Rattle.sd_edge.specs.declared.meta.RawEntry.{RawEntry}
 use Rattle.sd_edge.specs.Disk as told
-use Rattle.sd_edge.specs.Disk.{DiskState, SameTree, SameLists}
+use Rattle.sd_edge.specs.Disk.{DiskState, SameTree, SameLists, HasCause}
+use Rattle.sd_edge.specs.declared.fault.DiskFault.{DiskFault}
+use Rattle.sd_edge.specs.declared.fault.DiskFault.TheVariants.{Failed}
+use Rattle.sd_edge.specs.Calls.{count_after}
+use Rattle.sd_edge.specs.Lists.{IsUnfinished, IsFull, Passes, Ends, HasNoneLeft}
 use Rattle.sd_edge.specs.Tree.{NameList, Content, directory, Tree, node_at}
 use Rattle.sd_edge.specs.MemTree.{tree_of, IsFreePlace, Adds, AddsName}
 use Rattle.sd_edge.specs.OpenLists.{state_with}
@@ -73,3 +77,32 @@ pub record Builds (old : MemDisk) (path : List ℕ) (content : Content) (new : M
 pub record KeepsTree (old new : MemDisk) : Type 0 where
   pub tree : SameTree (mem_state old) (mem_state new)
   pub number : next_number new ≡ next_number old
+
+-- ---- what the counted calls do
+
+-- the next call is among those that are to fail
+abbrev pub IsToFail : MemDisk → Type 0
+IsToFail d = Contains (failing_calls d) (count_after (calls_of d))
+
+-- One more call is counted, and one more fault just where it answers `Failed`; its refusal has its cause.
+pub record CountsCall {T : Type 0} (old : MemDisk) (result : Result T DiskFault) (new : MemDisk) : Type 0 where
+  pub calls : calls_of new ≡ count_after (calls_of old)
+  pub failing : failing_calls new ≡ failing_calls old
+  pub failed : IsErrOf result Failed → (mem_state new).faults ≡ count_after (mem_state old).faults
+  pub not_failed : result ≢ Err Failed → (mem_state new).faults ≡ (mem_state old).faults
+  pub cause : HasCause true (mem_state old) (mem_state new) result
+
+-- the list isn't at its end, and the call is to fail or the count of listed entries stands at its last value
+abbrev pub FailsToGive : MemDisk → ℕ → Type 0
+FailsToGive d number = IsUnfinished (mem_state d) number × (IsToFail d ⊎ IsFull (mem_state d))
+
+-- the next entry of a list is taken
+pub record TakesNext (old : DiskState) (number : ℕ) (entry : RawEntry) (new : DiskState) : Type 0 where
+  pub rest : List RawEntry
+  pub was : old.open_list number ≡ Some (record { is_at_end = false; left = entry ∷ rest })
+  pub passes : Passes old number rest new
+
+-- The next entry is passed over; where none is left, or the count of listed entries stands at its last value, the list is put at its end.
+abbrev pub Skips : DiskState → ℕ → DiskState → Type 0
+Skips old number new =
+    ((IsFull old → ⊥) × (entry : RawEntry) × TakesNext old number entry new) ⊎ ((HasNoneLeft old number ⊎ IsFull old) × Ends old number new)

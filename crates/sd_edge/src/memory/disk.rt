@@ -1,14 +1,16 @@
 //! A disk in memory.
 
-ghost use Rattle.std.specs.Prelude.{◌≡◌, ◌∷◌, ◌++◌, [], List, ℕ, option_map, IfSome, IfNone, IsSome, IsNone, IfOk, IfErr, OnOk, OnErr, IsErrOf, None};
+ghost use Rattle.std.specs.Prelude.{◌≡◌, ◌≢◌, ◌∷◌, ◌++◌, ◌+◌, ◌↔◌, [], List, ℕ, option_map, IfSome, IfNone, IsSome, IsNone, IfOk, IfErr, OnOk, OnErr, IsErrOf, None};
 ghost use Rattle.std.specs.Global.{Vec};
 ghost use Rattle.sd_edge.specs.Tree.{directory, link, file, other};
 ghost use Rattle.sd_edge.specs.Paths.{reached_plain, plain_file};
 ghost use Rattle.sd_edge.specs.OpenLists.{list_at, told_list, SameOpenLists, TakesEntry, EndsList};
 ghost use Rattle.sd_edge.specs.MemNode.{content_of};
 ghost use Rattle.sd_edge.specs.MemTree.{HasNoFreePlace, PutsDeviceAt};
-ghost use Rattle.sd_edge.specs.Disk.{SameTree};
-ghost use Rattle.sd_edge.specs.MemDisk.{mem_state, left_entries, TakesLast, failing_calls, calls_of, next_number, IsTopAlone, IsUnused, Builds, KeepsTree, KeepsCounts};
+ghost use Rattle.sd_edge.specs.Disk.{SameTree, SameLists};
+ghost use Rattle.sd_edge.specs.Files.{file_of, LeadsNowhere, Describes, Identifies, Resolves, IsNoFile, Reads, Creates, CannotCreate, IsTaken, Writes, Renames, CannotRename, Removes, CannotRemove};
+ghost use Rattle.sd_edge.specs.Lists.{IsOpen, SameOtherLists, SameOpen, Opens, IsNoDirectory, ListsDirectory, Ends, HasNoneLeft};
+ghost use Rattle.sd_edge.specs.MemDisk.{mem_state, left_entries, TakesLast, failing_calls, calls_of, next_number, IsTopAlone, IsUnused, Builds, KeepsTree, KeepsCounts, IsToFail, FailsToGive, TakesNext, Skips, CountsCall};
 
 use crate::memory::calls::CallCounter;
 use crate::memory::node::MemContent;
@@ -206,7 +208,15 @@ impl Disk for MemDisk {
 
     ghost is_tree = { λ disk told. disk.tree.sound.is_tree };
 
-    fn stat(&mut self, path: &str, follow: bool) -> Result<Meta, DiskFault> {
+    fn stat(&mut self, path: &str, follow: bool) -> Result<Meta, DiskFault>
+        ensures answer { IfOk result (Describes (mem_state self.old) path.now follow) }
+        ensures absent { IsErrOf result DiskFault.Absent → LeadsNowhere (mem_state self.old) path.now follow }
+        ensures not_taken { result ≢ Err DiskFault.Taken }
+        ensures tree { KeepsTree self.old self.new }
+        ensures lists { SameLists (mem_state self.old) (mem_state self.new) }
+        ensures fails { IsErrOf result DiskFault.Failed ↔ IsToFail self.old }
+        ensures counts { CountsCall self.old result self.new }
+    {
         self.counter.pass()?;
         let Some(place) = self.tree.reached(path, follow)? else {
             return Err(DiskFault::Absent);
@@ -217,7 +227,15 @@ impl Disk for MemDisk {
         }
     }
 
-    fn ident(&mut self, path: &str) -> Result<Ident, DiskFault> {
+    fn ident(&mut self, path: &str) -> Result<Ident, DiskFault>
+        ensures answer { IfOk result (Identifies (mem_state self.old) path.now) }
+        ensures absent { IsErrOf result DiskFault.Absent → LeadsNowhere (mem_state self.old) path.now true }
+        ensures not_taken { result ≢ Err DiskFault.Taken }
+        ensures tree { KeepsTree self.old self.new }
+        ensures lists { SameLists (mem_state self.old) (mem_state self.new) }
+        ensures fails { IsErrOf result DiskFault.Failed ↔ IsToFail self.old }
+        ensures counts { CountsCall self.old result self.new }
+    {
         self.counter.pass()?;
         let Some(place) = self.tree.reached(path, true)? else {
             return Err(DiskFault::Absent);
@@ -228,7 +246,15 @@ impl Disk for MemDisk {
         }
     }
 
-    fn resolve(&mut self, _alloc: Global, path: &str) -> Result<Text, DiskFault> {
+    fn resolve(&mut self, _alloc: Global, path: &str) -> Result<Text, DiskFault>
+        ensures answer { IfOk result (Resolves (mem_state self.old) path.now) }
+        ensures absent { IsErrOf result DiskFault.Absent → LeadsNowhere (mem_state self.old) path.now true }
+        ensures not_taken { result ≢ Err DiskFault.Taken }
+        ensures tree { KeepsTree self.old self.new }
+        ensures lists { SameLists (mem_state self.old) (mem_state self.new) }
+        ensures fails { IsErrOf result DiskFault.Failed ↔ IsToFail self.old }
+        ensures counts { CountsCall self.old result self.new }
+    {
         self.counter.pass()?;
         match self.tree.reached(path, true)? {
             None => Err(DiskFault::Absent),
@@ -236,7 +262,16 @@ impl Disk for MemDisk {
         }
     }
 
-    fn open_dir(&mut self, path: &str) -> Result<ListId, DiskFault> {
+    fn open_dir(&mut self, path: &str) -> Result<ListId, DiskFault>
+        ensures opened { IfOk result (λ list. Opens (mem_state self.old) list.number (mem_state self.new)) }
+        ensures entries { IfOk result (λ list. ListsDirectory (mem_state self.old) path.now list.number (mem_state self.new)) }
+        ensures absent { IsErrOf result DiskFault.Absent → IsNoDirectory (mem_state self.old) path.now }
+        ensures not_taken { result ≢ Err DiskFault.Taken }
+        ensures refused { OnErr result (SameLists (mem_state self.old) (mem_state self.new)) }
+        ensures tree { KeepsTree self.old self.new }
+        ensures fails { IsErrOf result DiskFault.Failed ↔ IsToFail self.old }
+        ensures counts { CountsCall self.old result self.new }
+    {
         self.counter.pass()?;
         let Some(place) = self.tree.reached(path, true)? else {
             return Err(DiskFault::Absent);
@@ -249,7 +284,19 @@ impl Disk for MemDisk {
         Ok(self.lists.open(entries)?)
     }
 
-    fn next_entry(&mut self, _alloc: Global, list: ListId) -> Result<Option<RawEntry>, DiskFault> {
+    fn next_entry(&mut self, _alloc: Global, list: ListId) -> Result<Option<RawEntry>, DiskFault>
+        requires { IsOpen (mem_state self.old) list.number }
+        ensures next { IfOk result (λ given. IfSome given (λ entry. TakesNext (mem_state self.old) list.number entry (mem_state self.new))) }
+        ensures ended { IfOk result (λ given. IfNone given (Ends (mem_state self.old) list.number (mem_state self.new))) }
+        ensures none_left { IfOk result (λ given. IfNone given (HasNoneLeft (mem_state self.old) list.number)) }
+        ensures skips { IsErrOf result DiskFault.Failed → Skips (mem_state self.old) list.number (mem_state self.new) }
+        ensures only_failed { IfErr result (λ fault. fault ≡ DiskFault.Failed) }
+        ensures others { SameOtherLists (mem_state self.old) list.number (mem_state self.new) }
+        ensures open { SameOpen (mem_state self.old) (mem_state self.new) }
+        ensures tree { KeepsTree self.old self.new }
+        ensures fails { IsErrOf result DiskFault.Failed ↔ FailsToGive self.old list.number }
+        ensures counts { CountsCall self.old result self.new }
+    {
         let fails = self.counter.count();
         if self.lists.is_at_end(list.number) {
             return Ok(None);
@@ -269,7 +316,15 @@ impl Disk for MemDisk {
         self.lists.close(list.number);
     }
 
-    fn read_file(&mut self, alloc: Global, path: &str) -> Result<Vec<u8>, DiskFault> {
+    fn read_file(&mut self, alloc: Global, path: &str) -> Result<Vec<u8>, DiskFault>
+        ensures bytes { IfOk result (λ bytes. Reads (mem_state self.old) path.now bytes.items) }
+        ensures absent { IsErrOf result DiskFault.Absent → IsNoFile (mem_state self.old) path.now }
+        ensures not_taken { result ≢ Err DiskFault.Taken }
+        ensures tree { KeepsTree self.old self.new }
+        ensures lists { SameLists (mem_state self.old) (mem_state self.new) }
+        ensures fails { IsErrOf result DiskFault.Failed ↔ IsToFail self.old }
+        ensures counts { CountsCall self.old result self.new }
+    {
         self.counter.pass()?;
         let Some(place) = self.tree.reached(path, true)? else {
             return Err(DiskFault::Absent);
@@ -280,7 +335,16 @@ impl Disk for MemDisk {
         }
     }
 
-    fn create_like(&mut self, path: &str, like: &str) -> Result<(), DiskFault> {
+    fn create_like(&mut self, path: &str, like: &str) -> Result<(), DiskFault>
+        ensures created { OnOk result (Creates (mem_state self.old) path.now like.now (mem_state self.new)) }
+        ensures absent { IsErrOf result DiskFault.Absent → CannotCreate (mem_state self.old) path.now like.now }
+        ensures taken { IsErrOf result DiskFault.Taken → IsTaken (mem_state self.old) path.now like.now }
+        ensures refused { OnErr result (KeepsTree self.old self.new) }
+        ensures number { OnOk result (next_number self.new ≡ next_number self.old + 1) }
+        ensures lists { SameLists (mem_state self.old) (mem_state self.new) }
+        ensures fails { IsErrOf result DiskFault.Failed ↔ IsToFail self.old }
+        ensures counts { CountsCall self.old result self.new }
+    {
         self.counter.pass()?;
         let Some(model) = self.tree.reached(like, true)? else {
             return Err(DiskFault::Absent);
@@ -298,7 +362,16 @@ impl Disk for MemDisk {
         Ok(self.tree.add(place, content)?)
     }
 
-    fn write_file(&mut self, path: &str, bytes: &[u8]) -> Result<(), DiskFault> {
+    fn write_file(&mut self, path: &str, bytes: &[u8]) -> Result<(), DiskFault>
+        ensures written { OnOk result (Writes (mem_state self.old) path.now bytes.now (mem_state self.new)) }
+        ensures absent { IsErrOf result DiskFault.Absent → IsNoFile (mem_state self.old) path.now }
+        ensures not_taken { result ≢ Err DiskFault.Taken }
+        ensures refused { OnErr result (SameTree (mem_state self.old) (mem_state self.new)) }
+        ensures number { next_number self.new ≡ next_number self.old }
+        ensures lists { SameLists (mem_state self.old) (mem_state self.new) }
+        ensures fails { IsErrOf result DiskFault.Failed ↔ IsToFail self.old }
+        ensures counts { CountsCall self.old result self.new }
+    {
         self.counter.pass()?;
         let Some(place) = self.tree.reached(path, true)? else {
             return Err(DiskFault::Absent);
@@ -311,7 +384,15 @@ impl Disk for MemDisk {
         Ok(())
     }
 
-    fn sync(&mut self, path: &str) -> Result<(), DiskFault> {
+    fn sync(&mut self, path: &str) -> Result<(), DiskFault>
+        ensures synced { OnOk result (IsSome (file_of (mem_state self.old).tree path.now)) }
+        ensures absent { IsErrOf result DiskFault.Absent → IsNoFile (mem_state self.old) path.now }
+        ensures not_taken { result ≢ Err DiskFault.Taken }
+        ensures tree { KeepsTree self.old self.new }
+        ensures lists { SameLists (mem_state self.old) (mem_state self.new) }
+        ensures fails { IsErrOf result DiskFault.Failed ↔ IsToFail self.old }
+        ensures counts { CountsCall self.old result self.new }
+    {
         self.counter.pass()?;
         match self.tree.reached(path, true)? {
             Some(place) if self.tree.is_file(&place) => Ok(()),
@@ -319,7 +400,16 @@ impl Disk for MemDisk {
         }
     }
 
-    fn rename(&mut self, from: &str, to: &str) -> Result<(), DiskFault> {
+    fn rename(&mut self, from: &str, to: &str) -> Result<(), DiskFault>
+        ensures renamed { OnOk result (Renames (mem_state self.old) from.now to.now (mem_state self.new)) }
+        ensures absent { IsErrOf result DiskFault.Absent → CannotRename (mem_state self.old) from.now to.now }
+        ensures not_taken { result ≢ Err DiskFault.Taken }
+        ensures refused { OnErr result (SameTree (mem_state self.old) (mem_state self.new)) }
+        ensures number { next_number self.new ≡ next_number self.old }
+        ensures lists { SameLists (mem_state self.old) (mem_state self.new) }
+        ensures fails { IsErrOf result DiskFault.Failed ↔ IsToFail self.old }
+        ensures counts { CountsCall self.old result self.new }
+    {
         self.counter.pass()?;
         let Some(source) = self.tree.named(from)? else {
             return Err(DiskFault::Absent);
@@ -336,7 +426,16 @@ impl Disk for MemDisk {
         Ok(self.tree.rename(&source, target)?)
     }
 
-    fn remove(&mut self, path: &str) -> Result<(), DiskFault> {
+    fn remove(&mut self, path: &str) -> Result<(), DiskFault>
+        ensures removed { OnOk result (Removes (mem_state self.old) path.now (mem_state self.new)) }
+        ensures absent { IsErrOf result DiskFault.Absent → CannotRemove (mem_state self.old) path.now }
+        ensures not_taken { result ≢ Err DiskFault.Taken }
+        ensures refused { OnErr result (SameTree (mem_state self.old) (mem_state self.new)) }
+        ensures number { next_number self.new ≡ next_number self.old }
+        ensures lists { SameLists (mem_state self.old) (mem_state self.new) }
+        ensures fails { IsErrOf result DiskFault.Failed ↔ IsToFail self.old }
+        ensures counts { CountsCall self.old result self.new }
+    {
         self.counter.pass()?;
         match self.tree.named(path)? {
             Some(place) if self.tree.is_file(&place) => {

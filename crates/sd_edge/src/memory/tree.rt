@@ -119,7 +119,8 @@ impl MemTree {
 
     /// Gives the regular file at a place other bytes.
     pub fn put_bytes(&mut self, place: &Place, bytes: Vec<u8>)
-        ensures { PutsBytes (mem_tree self.old) place.now bytes.items (mem_tree self.new) }
+        ensures put { PutsBytes (mem_tree self.old) place.now bytes.items (mem_tree self.new) }
+        ensures number { self.new.next_ino ≡ self.old.next_ino }
     {
         if let Some(node) = self.nodes.get_mut(place) {
             node.put_bytes(bytes);
@@ -129,7 +130,8 @@ impl MemTree {
     /// Removes the regular file at a place.
     pub fn remove(&mut self, place: &Place)
         requires { IsSome (file_at (mem_tree self.old) place.now) }
-        ensures { TakesAway (mem_tree self.old) place.now (mem_tree self.new) }
+        ensures removed { TakesAway (mem_tree self.old) place.now (mem_tree self.new) }
+        ensures number { self.new.next_ino ≡ self.old.next_ino }
     {
         let _node = self.nodes.remove(place);
     }
@@ -141,6 +143,7 @@ impl MemTree {
         requires may_come { (node_at (mem_tree self.old) to ≡ None) ⊎ IsSome (file_at (mem_tree self.old) to) }
         ensures moved { OnOk result (Moves (mem_tree self.old) from.now to (mem_tree self.new)) }
         ensures refused { OnErr result (mem_tree self.new ≡ mem_tree self.old) }
+        ensures number { self.new.next_ino ≡ self.old.next_ino }
     {
         if *from == to {
             return Ok(());

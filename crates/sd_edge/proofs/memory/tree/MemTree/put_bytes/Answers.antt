@@ -10,14 +10,14 @@ invariant_of-self c =
     let after = c.get_mut.follows.holds c.put_bytes.new.self in
     record { sound = sound_put self.top self.nodes.entries _ c.args.place.now c.args.bytes.items _ _ _ self.sound found c.put_bytes.ensures (after.3 (ap is_some found)).0 after.4 }
 
-pub returns-in-Some : goal.returns-in-Some
-returns-in-Some c =
+pub returns-in-Some-clause-put : goal.returns-in-Some-clause-put
+returns-in-Some-clause-put c =
     let self = c.args.self.now in
     let found = sym c.in-Some.ensures.value in
     let after = c.get_mut.follows.holds c.put_bytes.new.self in
     puts self.top self.nodes.entries _ c.args.place.now c.args.bytes.items _ _ (found_not_top self.nodes.entries _ _ found self.sound.no_top) found c.put_bytes.ensures (after.3 (ap is_some found)).0
 
-pub returns-in_default : goal.returns-in_default
-returns-in_default c =
+pub returns-in_default-clause-put : goal.returns-in_default-clause-put
+returns-in_default-clause-put c =
     let self = c.args.self.now in
     puts_nowhere self.top self.nodes.entries _ c.args.place.now c.args.bytes.items self.sound.is_tree (sym c.in_default.ensures.value) (ap (λ n. n.entries) c.get_mut.follows.holds-at-none)

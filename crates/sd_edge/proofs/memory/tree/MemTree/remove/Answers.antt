@@ -7,7 +7,7 @@ invariant_of-self c =
     let self = c.args.self.now in
     record { sound = sound_taken self.top self.nodes.entries _ c.args.place.now _ self.sound c.requires c.remove-node.ensures.updates.0 c.remove-node.ensures.ordered }
 
-pub returns : goal.returns
-returns c =
+pub returns-clause-removed : goal.returns-clause-removed
+returns-clause-removed c =
     let self = c.args.self.now in
     takes self.top self.nodes.entries _ c.args.place.now (file_not_top (mem_tree self) _ self.sound.is_tree c.requires) c.remove-node.ensures.updates.0
