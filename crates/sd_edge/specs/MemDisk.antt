@@ -1,5 +1,5 @@
 -- What a disk in memory tells.
-use Rattle.std.specs.Prelude.{◌≡◌, ◌≢◌, ◌+◌, ◌⊎◌, ◌↔◌, ℕ, true, false, List, [], ◌∷◌, reverse, Some, None, Result, Err, IsErrOf, Contains}
+use Rattle.std.specs.Prelude.{◌≡◌, ◌≢◌, ◌+◌, ◌⊎◌, ℕ, true, false, List, [], ◌∷◌, reverse, Some, None, Result, Err, IsErrOf, Contains}
 use Rattle.std.specs.Global.{Vec}
 use Rattle.sd_edge.specs.declared.meta.RawEntry.{RawEntry}
 use Rattle.sd_edge.specs.Disk as told

@@ -1,5 +1,5 @@
 -- What a disk in memory keeps of a node.
-use Rattle.std.specs.Prelude.{◌≡◌, ℕ, List, Option, Some, None}
+use Rattle.std.specs.Prelude.{ℕ, List, Option, Some, None}
 use Rattle.std.specs.Borrow.{Bor}
 use Rattle.sd_edge.specs.Tree.{Content, directory, link, file, other, Node}
 use Rattle.sd_edge.specs.declared.memory.node.MemContent.{MemContent}

@@ -19,7 +19,8 @@ use crate::open_lists::{OpenList, OpenLists};
 use crate::{BuildFault, Disk, DiskFault, Ident, ListId, Meta, NoMemory, RawEntry, Text};
 use std::alloc::Global;
 
-/// A disk in memory, which tells its tree and counts its calls from 1. Every call but `close_dir` is counted.
+/// A disk in memory, which tells its tree and counts its calls from 1. Every call but `close_dir` is counted, and fails
+/// where its number is chosen by `fail_at`.
 #[derive(Drop)]
 pub struct MemDisk {
     alloc: Global,
@@ -114,7 +115,8 @@ impl MemDisk {
         }
     }
 
-    /// That counted call answers `Failed`, and does nothing but pass over an entry where it is `next_entry`.
+    /// That counted call answers `Failed` and does nothing. Where it is `next_entry`, it passes over the next entry, or
+    /// puts a list without one at its end; on a list that is at its end already it answers `None`.
     pub fn fail_at(&mut self, call: u64) -> Result<(), NoMemory>
         ensures added { OnOk result (failing_calls self.new ≡ failing_calls self.old ++ call ∷ []) }
         ensures refused { OnErr result (failing_calls self.new ≡ failing_calls self.old) }
