@@ -1,4 +1,5 @@
 pub mod ChoiceLemmas
+pub mod ChosenLemmas
 pub mod CoverLemmas
 pub mod CreatingLemmas
 pub mod EntryLemmas

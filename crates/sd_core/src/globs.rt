@@ -115,11 +115,11 @@ fn after_run(path: &[char], places: &mut [bool])
     requires { length places.old ≡ length path.now + 1 }
     ensures { IsStep Piece.AnyRun path.now places.old places.new }
 {
-    let mut before = false;
+    let mut running = false;
     for (place, to) in places.iter_mut().enumerate() {
-        let leads = *to || before;
+        let leads = *to || running;
         *to = leads;
-        before = leads && !stands('/', path, place);
+        running = leads && !stands('/', path, place);
     }
 }
 

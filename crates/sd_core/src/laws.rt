@@ -1,10 +1,22 @@
-//! Laws of what is found and of what takes its place.
+//! Laws of what is chosen, of what is found and of what takes its place.
 
 ghost use Rattle.std.specs.Prelude.{◌≡◌, ℕ, List, Option, length, slice_range, All};
 ghost use Rattle.sd_core.specs.declared.search.Match.{Match};
+ghost use Rattle.sd_edge.specs.Tree.{NameList, Tree};
+ghost use Rattle.sd_core.specs.declared.globs.Piece.{Piece};
+ghost use Rattle.sd_core.specs.Chosen.{Chosen, ListsChosen};
 ghost use Rattle.sd_core.specs.Cover.{IsLawful, IsInTurn, IsFairCover};
 ghost use Rattle.sd_core.specs.Replaced.{replaced_from, LiesWithin};
 ghost use Rattle.sd_core.specs.Rewriting.{NewBytes};
+
+/// A tree, a place and globs determine the list of the chosen files below the place. A tree, a root and globs determine
+/// the list of their paths.
+pub fn one_list_of_chosen_files()
+    ensures places { (tree : Tree) (top : NameList) (globs : List (List Piece)) (xs ys : List NameList) → Chosen tree top globs xs
+        → Chosen tree top globs ys → xs ≡ ys }
+    ensures paths { (tree : Tree) (root : List ℕ) (globs : List (List Piece)) (xs ys : List (List ℕ)) → ListsChosen tree root globs xs
+        → ListsChosen tree root globs ys → xs ≡ ys }
+{}
 
 /// There is at most one fair cover.
 pub fn one_fair_cover()

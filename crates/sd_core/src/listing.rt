@@ -215,3 +215,6 @@ fn read_list<D: Disk>(alloc: Global, disk: &mut D, list: ListId) -> Result<Vec<R
     }
     Ok(entries)
 }
+
+#[cfg(test)]
+mod tests;

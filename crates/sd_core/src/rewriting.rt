@@ -25,7 +25,8 @@ pub struct Rewrite {
 }
 
 /// Replaces a text in the regular file at a path. A file whose bytes don't change isn't written. Every other is written
-/// whole under a reserved name beside it, which then takes its place, so that it is old or new at every moment.
+/// whole under a reserved name beside it, which then takes its place. At every return the file is old or new; what stands
+/// between two calls of the disk no clause says.
 ///
 /// On a disk that tells its tree the path has no links, `.` or `..`, and leads to a regular file. Refuses with a counted
 /// fault, where no reserved name of the folder is free, or for want of memory; the file is then old, or new where the

@@ -5,8 +5,8 @@ use Rattle.sd_core.proofs.globs.after_run.Goals as goal
 
 pub loop-place-preserved : goal.loop-place-preserved
 loop-place-preserved c =
-    let leads : (c.if-to.leads ≡ true) ↔ ((get_or c.loop-place.places c.loop-place.place false ≡ true) ⊎ (c.loop-place.before ≡ true)) = grind (arith, common_steps) in
-    let next : (c.if-leads.before ≡ true) ↔ ((c.if-to.leads ≡ true) × (slice_get c.args.path.now c.loop-place.place ≢ Some 47)) = grind (arith, common_steps) in
+    let leads : (c.if-to.leads ≡ true) ↔ ((get_or c.loop-place.places c.loop-place.place false ≡ true) ⊎ (c.loop-place.running ≡ true)) = grind (arith, common_steps) in
+    let next : (c.if-leads.running ≡ true) ↔ ((c.if-to.leads ≡ true) × (slice_get c.args.path.now c.loop-place.place ≢ Some 47)) = grind (arith, common_steps) in
     run_more _ _ _ _ _ _ _ c.loop-place.invariant (omega arith) c.requires leads next
 
 pub returns : goal.returns
