@@ -1,9 +1,8 @@
 -- The list of what a fact holds of is one.
-use Rattle.std.proofs.Common.{◌≡◌, inl, inr, ℕ, List, [], ◌∷◌, map, Contains, Some, true, arith, refl, sym, subst, ap, ◌∙◌, Ordering, Less, Equal}
+use Rattle.std.proofs.Common.{◌≡◌, inl, inr, ℕ, List, [], ◌∷◌, map, refl, sym, subst, ap, ◌∙◌, Ordering, Less}
 use Rattle.std.specs.List.Sorted.{IsStrictlySortedBy}
 use Rattle.std.specs.Cmp.{IsTotalOrder, tied_itself}
 use Rattle.sd_edge.specs.Tree.{NameList, Tree, name_list_cmp}
-use Rattle.sd_edge.specs.Paths.{reached}
 use Rattle.sd_edge.specs.Files.{path_text}
 use Rattle.sd_core.specs.declared.globs.Piece.{Piece}
 use Rattle.sd_core.specs.Chosen.{IsListOf, Chosen, ListsChosen}
