@@ -1,6 +1,5 @@
 pub mod ChoiceLemmas
 pub mod ChosenLemmas
-pub mod CoverLemmas
 pub mod CreatingLemmas
 pub mod EntryLemmas
 pub mod ExchangeLemmas
@@ -9,7 +8,6 @@ pub mod NewBytesLemmas
 pub mod OneReplacementLemmas
 pub mod OrderLemmas
 pub mod PlacesLemmas
-pub mod ReplacedLemmas
 pub mod ReportLemmas
 pub mod ReservedPathLemmas
 pub mod RunLemmas
@@ -17,5 +15,4 @@ pub mod SearchLemmas
 pub mod StackLemmas
 pub mod StarLemmas
 pub mod SweepLemmas
-pub mod TextLemmas
 pub mod WalkLemmas

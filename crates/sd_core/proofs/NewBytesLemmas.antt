@@ -1,6 +1,6 @@
 -- A file with its new bytes.
 use Rattle.std.proofs.Common.{◌≤◌, ◌≡◌, ◌≢◌, ◌⊎◌, ℕ, Bool, true, false, not, List, [], ◌∷◌, length, refl, sym, ◌∙◌, ap, subst, inl, inr, arith}
-use Rattle.std.specs.Prelude.{Some, IsTrue, Result, Ok, Err, IsErrAnd}
+use Rattle.std.specs.Prelude.{Option, Some, None, is_some, IsTrue, Result, Ok, Err, IsErrAnd}
 use Rattle.std.specs.Option.{option_and_then}
 use Rattle.std.specs.Str.{bytes_eq}
 use Rattle.std.specs.Cmp.Lexicographic.{bytes_decides}
@@ -11,11 +11,13 @@ use Rattle.sd_edge.specs.Tree.{NameList, Tree, IsTree, SameBut, node_at, file_at
 use Rattle.sd_edge.specs.Paths.{parts_of}
 use Rattle.sd_edge.specs.Disk.{DiskState, SameTree, HasCause}
 use Rattle.sd_edge.specs.Files.{Reads, IsNoFile}
-use Rattle.sd_core.specs.declared.search.Match.{Match}
 use Rattle.sd_core.specs.declared.error.Error.{Error}
 use Rattle.sd_core.specs.Fault.{IsErrorOf}
-use Rattle.sd_core.specs.Rewriting.{Spans, NewBytes, IsFilePath, RewritesFile, IsOldOrNew, LeavesFile, IsCleared, HasRewritingCause}
-use Rattle.sd_core.specs.Replaced.{replaced_from}
+use Rattle.sd_core.specs.Rewriting.{ReplacesCover, NewBytes, IsFilePath, RewritesFile, IsOldOrNew, LeavesFile, IsCleared, HasRewritingCause}
+use Rattle.grep_matcher.specs.Span.{Span}
+use Rattle.grep_matcher.specs.Cover.{prefers, IsFirst}
+use Rattle.grep_matcher.proofs.CoverLemmas.{cover_from_chain}
+use Rattle.sd_core.specs.Plain.{end_of_text, text_lawful}
 use Rattle.sd_core.specs.Temporary.{HasBytes, Exchanges, LeavesBytes, HasDiskCause}
 use Rattle.sd_core.proofs.FillingLemmas.{leads_to_file}
 use Rattle.sd_core.proofs.CreatingLemmas.{placed, disk_cause}
@@ -77,15 +79,23 @@ module _ (s0 : DiskState) (path find replacement bytes : List ℕ) (is : IsTree 
 -- ---- new bytes
 
 -- where nothing is found, the bytes stay
-pub none_found : (find replacement bytes : List ℕ) (spans : List Match) → Spans find bytes spans → length spans ≡ 0 → NewBytes find replacement bytes bytes 0
-none_found find replacement bytes [] are none = record { spans = []; are_spans = are; bytes_are = refl; count_is = refl }
-none_found find replacement bytes (span ∷ spans) are none = absurd (omega arith)
+pub none_found : (find replacement bytes text haystack : List ℕ) (found : Option Span) → text ≡ find → haystack ≡ bytes → IsFirst (prefers (end_of_text haystack text)) 0 (length haystack) found → is_some found ≡ false
+    → NewBytes find replacement bytes bytes 0
+none_found find replacement bytes text haystack (Some span) t h first none = absurd (cc)
+none_found find replacement bytes text haystack None t h first none = record {
+  spans = [];
+  are_spans = cover_from_chain (end_of_text bytes find) 0 (length bytes) [] (text_lawful bytes find)
+      (subst (λ (b : List ℕ). IsFirst (prefers (end_of_text b find)) 0 (length b) None) h (subst (λ (f : List ℕ). IsFirst (prefers (end_of_text haystack f)) 0 (length haystack) None) t first));
+  bytes_are = refl;
+  count_is = refl;
+}
 
--- what the code makes of the spans that it found
-pub new_bytes : (find replacement bytes new : List ℕ) (spans : List Match) (haystack text : List ℕ) (found : List Match) → Spans find bytes spans → haystack ≡ bytes → text ≡ replacement → found ≡ spans
-    → new ≡ replaced_from (λ _. text) haystack 0 found → NewBytes find replacement bytes new (length found)
-new_bytes find replacement bytes new spans haystack text found are h t f is =
-    record { spans = spans; are_spans = are; bytes_are = is ∙ (λ i. replaced_from (λ _. t i) (h i) 0 (f i)); count_is = ap length f }
+-- what the code makes of the texts that it was given
+pub new_bytes : (find replacement bytes text with haystack new : List ℕ) (count : ℕ) → text ≡ find → haystack ≡ bytes → with ≡ replacement → ReplacesCover (end_of_text haystack text) with haystack new count
+    → NewBytes find replacement bytes new count
+new_bytes find replacement bytes text with haystack new count t h w is =
+    subst (λ (r : List ℕ). NewBytes find r bytes new count) w
+    (subst (λ (b : List ℕ). ReplacesCover (end_of_text b find) with b new count) h (subst (λ (f : List ℕ). ReplacesCover (end_of_text haystack f) with haystack new count) t is))
 
 -- what the test of their difference tells
 pub differ : (a b : List ℕ) → true ≡ not (bytes_eq a b) → a ≢ b

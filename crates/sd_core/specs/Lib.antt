@@ -1,10 +1,9 @@
 pub mod Chosen
-pub mod Cover
 pub mod Fault
 pub mod Glob
 pub mod Headline
 pub mod Places
-pub mod Replaced
+pub mod Plain
 pub mod Report
 pub mod Rewriting
 pub mod Run

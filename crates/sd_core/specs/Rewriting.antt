@@ -1,5 +1,5 @@
 -- What the rewriting of one file does.
-use Rattle.std.specs.Prelude.{◌≡◌, ◌≢◌, ◌↔◌, ◌<◌, ◌≤◌, ◌+◌, ◌/◌, ◌%◌, ◌⊎◌, ℕ, Bool, false, IsTrue, List, [], ◌∷◌, ◌++◌, length, codes, Some, None, IsSome, Result, Err, IsErrOf, if◌then◌else◌, nat_lt}
+use Rattle.std.specs.Prelude.{◌≡◌, ◌≢◌, ◌↔◌, ◌<◌, ◌≤◌, ◌+◌, ◌/◌, ◌%◌, ◌⊎◌, ℕ, Bool, false, IsTrue, List, [], ◌∷◌, ◌++◌, length, codes, Option, Some, None, IsSome, Result, Err, IsErrOf, if◌then◌else◌, nat_lt}
 use Rattle.sd_edge.specs.Count.{HasRisen, IsAtLast}
 use Rattle.sd_edge.specs.Tree.{Name, NameList, Tree, SameBut, node_at, file_at}
 use Rattle.sd_edge.specs.Paths.{parts_of, parent_of}
@@ -7,27 +7,28 @@ use Rattle.sd_edge.specs.Disk.{DiskState}
 use Rattle.sd_edge.specs.Files.{path_text}
 use Rattle.sd_edge.specs.declared.fault.DiskFault.{DiskFault}
 use Rattle.sd_edge.specs.declared.fault.DiskFault.TheVariants as disk
-use Rattle.sd_core.specs.declared.search.Match.{Match}
 use Rattle.sd_core.specs.declared.rewriting.Rewrite.{Rewrite}
 use Rattle.sd_core.specs.declared.error.Error.{Error}
 use Rattle.sd_core.specs.declared.error.Error.TheVariants.{File, RootMissing, FailedProcessing}
 use Rattle.sd_core.specs.declared.error.FailedJobs.{FailedJobs}
 use Rattle.sd_core.specs.declared.error.JobFault.TheVariants.{TempName}
-use Rattle.sd_core.specs.Cover.{IsFairCover, end_of_text}
-use Rattle.sd_core.specs.Replaced.{replaced_from}
+use Rattle.grep_matcher.specs.Span.{Span}
+use Rattle.grep_matcher.specs.Cover.{IsFairCover}
+use Rattle.grep_matcher.specs.Replaced.{replaced_from}
+use Rattle.sd_core.specs.Plain.{end_of_text}
 
 -- ---- new bytes
 
--- The spans of the fair cover of a plain text in some bytes.
-abbrev pub Spans : List ℕ → List ℕ → List Match → Type 0
-Spans find bytes spans = IsFairCover (end_of_text bytes find) 0 (length bytes) spans
-
--- The bytes with the replacement in the place of each span, and how many spans there are.
-pub record NewBytes (find replacement bytes new_bytes : List ℕ) (count : ℕ) : Type 0 where
-  pub spans : List Match
-  pub are_spans : Spans find bytes spans
+-- The bytes with the replacement in the place of each span of the fair cover, and how many spans there are.
+pub record ReplacesCover (preferred : ℕ → Option ℕ) (replacement bytes new_bytes : List ℕ) (count : ℕ) : Type 0 where
+  pub spans : List Span
+  pub are_spans : IsFairCover preferred 0 (length bytes) spans
   pub bytes_are : new_bytes ≡ replaced_from (λ _. replacement) bytes 0 spans
   pub count_is : count ≡ length spans
+
+-- The new bytes of a file, where a plain text is found and another comes in its place.
+abbrev pub NewBytes : List ℕ → List ℕ → List ℕ → List ℕ → ℕ → Type 0
+NewBytes find replacement bytes = ReplacesCover (end_of_text bytes find) replacement bytes
 
 -- ---- reserved names
 

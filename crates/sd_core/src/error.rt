@@ -4,6 +4,7 @@ ghost use Rattle.std.specs.Prelude.{◌≡◌, ◌<◌, ◌↔◌, [], length, s
 ghost use Rattle.sd_core.specs.declared.error.Error.TheVariants as error;
 ghost use Rattle.sd_core.specs.Fault.{IsErrorOf};
 
+use grep_matcher::Fault;
 use sd_edge::{DiskFault, NoMemory, Text};
 use std::alloc::{AllocError, AllocFailed};
 use std::fmt;
@@ -53,6 +54,15 @@ impl From<NoMemory> for Error {
     ghost from_gives = { λ _ e. e ≡ error.NoMemory };
 
     fn from(_error: NoMemory) -> Error {
+        Error::NoMemory
+    }
+}
+
+/// Where the matcher fails for want of memory alone.
+impl From<Fault<NoMemory>> for Error {
+    ghost from_gives = { λ _ e. e ≡ error.NoMemory };
+
+    fn from(_fault: Fault<NoMemory>) -> Error {
         Error::NoMemory
     }
 }

@@ -1,12 +1,9 @@
 //! Laws of what is chosen, of what is found and of what takes its place.
 
-ghost use Rattle.std.specs.Prelude.{◌≡◌, ℕ, List, Option, length, slice_range, All};
-ghost use Rattle.sd_core.specs.declared.search.Match.{Match};
+ghost use Rattle.std.specs.Prelude.{◌≡◌, ℕ, List};
 ghost use Rattle.sd_edge.specs.Tree.{NameList, Tree};
 ghost use Rattle.sd_core.specs.declared.globs.Piece.{Piece};
 ghost use Rattle.sd_core.specs.Chosen.{Chosen, ListsChosen};
-ghost use Rattle.sd_core.specs.Cover.{IsLawful, IsInTurn, IsFairCover};
-ghost use Rattle.sd_core.specs.Replaced.{replaced_from, LiesWithin};
 ghost use Rattle.sd_core.specs.Rewriting.{NewBytes};
 
 /// A tree, a place and globs determine the list of the chosen files below the place. A tree, a root and globs determine
@@ -16,18 +13,6 @@ pub fn one_list_of_chosen_files()
         → Chosen tree top globs ys → xs ≡ ys }
     ensures paths { (tree : Tree) (root : List ℕ) (globs : List (List Piece)) (xs ys : List (List ℕ)) → ListsChosen tree root globs xs
         → ListsChosen tree root globs ys → xs ≡ ys }
-{}
-
-/// There is at most one fair cover.
-pub fn one_fair_cover()
-    ensures { (preferred : ℕ → Option ℕ) (at n : ℕ) (xs ys : List Match) → IsLawful preferred n
-        → IsFairCover preferred at n xs → IsFairCover preferred at n ys → xs ≡ ys }
-{}
-
-/// To put its own bytes in the place of each span changes nothing.
-pub fn same_bytes_back()
-    ensures { (haystack : List ℕ) (spans : List Match) → IsInTurn spans → All (LiesWithin (length haystack)) spans
-        → replaced_from (λ span. slice_range haystack span.start span.end) haystack 0 spans ≡ haystack }
 {}
 
 /// A file's bytes and the two texts determine its new bytes and how many texts are replaced. A text replaced by itself

@@ -16,5 +16,5 @@ mod top;
 mod words;
 
 pub use error::{Error, FailedJobs, JobFault, Result};
-pub use laws::{one_fair_cover, one_list_of_chosen_files, one_list_of_new_bytes, same_bytes_back};
+pub use laws::{one_list_of_chosen_files, one_list_of_new_bytes};
 pub use top::{Ended, Why, run};

@@ -10,8 +10,9 @@ ghost use Rattle.sd_core.specs.Fault.{IsErrorOf};
 ghost use Rattle.sd_core.specs.Rewriting.{IsFilePath, RewritesFile, LeavesFile, NoneFree, HasRewritingCause, HasRisenBy, IsCleared, reserved_names};
 ghost use Rattle.sd_core.specs.Temporary.{IsReservedPath, CreatesTemporary, AreTwoFiles, Moves, MayHaveMoved, Exchanges, LeavesBytes, HasDiskCause, IsNoName, IsRemoved};
 
-use crate::search::{cover_of, replaced};
+use crate::search::{PlainText, replace_all};
 use crate::{Error, FailedJobs, JobFault, Result};
+use grep_matcher::Matcher;
 use sd_edge::{Disk, DiskFault, Text};
 use std::alloc::Global;
 
@@ -51,21 +52,21 @@ pub fn rewrite_file<D: Disk>(
     ensures few { IfOk result (λ rewrite. rewrite.replaced < 2 ^ 64) }
 {
     let bytes = disk.read_file(alloc, path)?;
-    let spans = cover_of(alloc, &bytes, find.as_bytes())?;
-    if spans.is_empty() {
+    let matcher = PlainText::new(find.as_bytes());
+    if !matcher.is_match(&bytes)? {
         return Ok(Rewrite {
             changed: false,
             replaced: 0,
         });
     }
-    let new = replaced(alloc, &bytes, &spans, replacement.as_bytes())?;
-    let changed = new != bytes;
+    let new = replace_all(alloc, &matcher, &bytes, replacement.as_bytes())?;
+    let changed = new.bytes != bytes;
     if changed {
-        exchange(alloc, disk, path, &new)?;
+        exchange(alloc, disk, path, &new.bytes)?;
     }
     Ok(Rewrite {
         changed,
-        replaced: spans.len() as u128,
+        replaced: new.spans as u128,
     })
 }
 

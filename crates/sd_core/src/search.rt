@@ -1,55 +1,104 @@
 //! Texts in the place of texts.
 
-ghost use Rattle.std.specs.Prelude.{◌≡◌, ◌<◌, ◌≤◌, ℕ, List, Option, length, All, IfOk};
-ghost use Rattle.sd_core.specs.Cover.{IsLawful, IsInTurn, IsFairCover, end_of_text};
-ghost use Rattle.sd_core.specs.Replaced.{replaced_from, LiesWithin};
+ghost use Rattle.std.specs.Prelude.{◌≡◌, ◌+◌, ◌-◌, ◌^◌, ◌++◌, length, min, false, true, [], IfOk, OnOk, OnErr};
+ghost use Rattle.sd_core.specs.Plain.{end_of_text, text_lawful, no_groups};
+ghost use Rattle.sd_core.specs.Rewriting.{ReplacesCover};
 
+use grep_matcher::{Fault, Match, Matcher, NoCaptures};
 use memchr::memmem::Finder;
 use sd_edge::NoMemory;
 use std::alloc::Global;
 
-/// A span of a haystack, in bytes: from its start up to its end.
-#[derive(Clone, Copy, Debug, PartialEq, Eq)]
-pub struct Match {
-    pub start: usize,
-    pub end: usize,
+/// The matcher of a plain text, without captures: it is found where it stands.
+#[derive(Drop)]
+pub struct PlainText<'a> {
+    text: &'a [u8],
+    finder: Finder<'a>,
+    ghost same: { finder ≡ text.now },
 }
 
-/// The spans at which a text is found: its fair cover, from the front on and never in what was found already.
-pub fn cover_of(alloc: Global, haystack: &[u8], find: &[u8]) -> Result<Vec<Match>, NoMemory>
-    requires { 0 < length find.now }
-    ensures { IfOk result (λ spans. IsFairCover (end_of_text haystack.now find.now) 0 (length haystack.now) spans.items) }
-{
-    let finder = Finder::new(find);
-    let mut spans = Vec::new(alloc);
-    let mut at = 0;
-    while let Some(found) = finder.find(&haystack[at..]) {
-        let start = at + found;
-        let end = start + find.len();
-        spans.push(Match { start, end })?;
-        at = end;
+impl<'a> PlainText<'a> {
+    /// The matcher of this text.
+    pub fn new(text: &'a [u8]) -> PlainText<'a>
+        ensures { result.text.now ≡ text.now }
+    {
+        PlainText {
+            text,
+            finder: Finder::new(text),
+        }
     }
-    Ok(spans)
 }
 
-/// The haystack with the replacement in the place of each span.
-pub fn replaced(
+impl Matcher for PlainText<'_> {
+    type Captures = NoCaptures;
+
+    type Error = NoMemory;
+
+    ghost preferred = { λ m haystack place. end_of_text haystack m.text.now place };
+
+    ghost fits = { λ _ _. Unit {0} };
+
+    ghost may_fail = { λ _ _. ⊥ };
+
+    ghost lawful = { λ m haystack. text_lawful haystack m.text.now };
+
+    ghost lawful_groups = { λ m haystack place end le is never. no_groups place end (length haystack) [] never };
+
+    fn find_at(&self, haystack: &[u8], at: usize) -> Result<Option<Match>, NoMemory> {
+        match self.finder.find(&haystack[at..]) {
+            None => Ok(None),
+            Some(found) => {
+                let start = at + found;
+                Ok(Some(Match::new(start, start + self.text.len())))
+            }
+        }
+    }
+
+    fn new_captures(&self) -> Result<NoCaptures, NoMemory> {
+        Ok(NoCaptures::new())
+    }
+
+    fn captures_at(
+        &self,
+        _haystack: &[u8],
+        _at: usize,
+        _caps: &mut NoCaptures,
+    ) -> Result<bool, NoMemory> {
+        Ok(false)
+    }
+}
+
+/// What takes the place of some bytes.
+#[derive(Drop)]
+pub struct Replaced {
+    pub bytes: Vec<u8>,
+    /// How many spans were replaced.
+    pub spans: usize,
+}
+
+/// The haystack with the replacement in the place of each match.
+pub fn replace_all<M: Matcher>(
     alloc: Global,
+    matcher: &M,
     haystack: &[u8],
-    spans: &[Match],
     replacement: &[u8],
-) -> Result<Vec<u8>, NoMemory>
-    requires in_turn { IsInTurn spans.now }
-    requires within { All (LiesWithin (length haystack.now)) spans.now }
-    ensures { IfOk result (λ bytes. bytes.items ≡ replaced_from (λ _. replacement.now) haystack.now 0 spans.now) }
+) -> Result<Replaced, Fault<M::Error>>
+    ensures { IfOk result (λ new. ReplacesCover (M.preferred matcher.now haystack.now) replacement.now haystack.now new.bytes.items new.spans) }
 {
-    let mut bytes = Vec::with_capacity(alloc, haystack.len())?;
-    let mut at = 0;
-    for span in spans {
-        bytes.extend_from_slice(&haystack[at..span.start])?;
-        bytes.extend_from_slice(replacement)?;
-        at = span.end;
-    }
-    bytes.extend_from_slice(&haystack[at..])?;
-    Ok(bytes)
+    let Ok(mut bytes) = Vec::with_capacity(alloc, haystack.len()) else {
+        return Err(Fault::NoMemory);
+    };
+    let mut spans = 0usize;
+    let mut append = |_span: Match, written: &mut Vec<u8>| -> Result<bool, NoMemory>
+        ensures goes_on { IfOk result (λ more. more ≡ true) }
+        ensures appended { OnOk result (written.new.items ≡ written.old.items ++ replacement.entry.now) }
+        ensures refused { OnErr result (written.new.items ≡ written.old.items) }
+        ensures counted { spans.exit ≡ min (spans.entry + 1) (2 ^ 64 - 1) }
+    {
+        spans = spans.saturating_add(1);
+        written.extend_from_slice(replacement)?;
+        Ok(true)
+    };
+    matcher.replace_by(haystack, &mut bytes, &mut append)?;
+    Ok(Replaced { bytes, spans })
 }

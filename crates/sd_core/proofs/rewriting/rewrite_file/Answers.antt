@@ -11,18 +11,18 @@ returns-in_err-bytes-clause-cause g c =
     reading_cause _ _ _ _ c.in_err-bytes.field-0.0 c.from_residual.result (g.met.D.Disk.is_tree c.args.disk.now) c.requires.file c.in_err-bytes.ensures.cause
     (λ e. c.in_err-bytes.ensures.not_taken (ap (λ (f : DiskFault). Err f) e)) (λ told e. c.in_err-bytes.ensures.absent told (ap (λ (f : DiskFault). Err f) e)) c.from_residual.ensures.1
 
-pub returns-then-is_empty-clause-rewritten : goal.returns-then-is_empty-clause-rewritten
-returns-then-is_empty-clause-rewritten g c =
+pub returns-then-not-branch-clause-rewritten : goal.returns-then-not-branch-clause-rewritten
+returns-then-not-branch-clause-rewritten g c =
     λ told.
-    let spans = rw (c.deref.ensures.value, c.as_bytes.ensures.value) at c.in_ok-spans.ensures in
-    let none : length c.in_ok-spans.spans.items ≡ 0 = sym c.in_ok-spans.spans.ok.0 ∙ eqb-true _ 0 (sym c.if-is_empty.ensures) in
-    same_file _ _ _ _ _ (g.met.D.Disk.is_tree c.args.disk.now told) (c.requires.file told) (c.in_ok-bytes.ensures.bytes told) _ 0 c.in_ok-bytes.ensures.tree (none_found _ _ _ _ spans none)
+    let there = c.in_ok-is_match.ensures.found in
+    let no = c.if-not-branch.true in
+    same_file _ _ _ _ _ (g.met.D.Disk.is_tree c.args.disk.now told) (c.requires.file told) (c.in_ok-bytes.ensures.bytes told) _ 0 c.in_ok-bytes.ensures.tree
+    (none_found _ _ _ _ _ there.0 (c.new-matcher.ensures ∙ c.as_bytes.ensures.value) c.deref.ensures.value there.1 (let is = there.2 in cc))
 
 pub returns-in_err-exchange-clause-refused : goal.returns-in_err-exchange-clause-refused
 returns-in_err-exchange-clause-refused g c =
     λ told.
-    let spans = rw (c.deref.ensures.value, c.as_bytes.ensures.value) at c.in_ok-spans.ensures in
-    let is_new = new_bytes _ _ _ _ _ _ _ _ spans c.deref-2.ensures.value c.as_bytes-2.ensures.value c.deref-3.ensures.value c.in_ok-new.ensures in
+    let is_new = new_bytes _ _ _ _ _ _ _ _ (c.new-matcher.ensures ∙ c.as_bytes.ensures.value) c.deref-2.ensures.value c.as_bytes-2.ensures.value c.in_ok-new.ensures in
     let left = rw (c.in_ok-bytes.ensures.tree.tree, c.deref-then-changed.ensures.value) at (c.in_err-exchange.ensures.refused told) in
     at_err c.from_residual-in_err-exchange.result
     (left_file (g.D.Disk.state c.args.disk.now) _ _ _ _ (g.met.D.Disk.is_tree c.args.disk.now told) (c.requires.file told) (c.in_ok-bytes.ensures.bytes told) _ _ _ left is_new)
@@ -41,18 +41,16 @@ returns-in_err-exchange-clause-cleared g c =
 pub returns-clause-rewritten : goal.returns-clause-rewritten
 returns-clause-rewritten g c =
     λ told.
-    let spans = rw (c.deref.ensures.value, c.as_bytes.ensures.value) at c.in_ok-spans.ensures in
-    let is_new = new_bytes _ _ _ _ _ _ _ _ spans c.deref-2.ensures.value c.as_bytes-2.ensures.value c.deref-3.ensures.value c.in_ok-new.ensures in
-    let count : c.len.result ≡ length c.deref-3.result.now = c.len.ensures ∙ sym c.deref-3.ensures.len in
+    let is_new = new_bytes _ _ _ _ _ _ _ _ (c.new-matcher.ensures ∙ c.as_bytes.ensures.value) c.deref-2.ensures.value c.as_bytes-2.ensures.value c.in_ok-new.ensures in
     elim c.if-changed.branch [
       | then-changed+in_ok-exchange w ↦
           let exchanged = rw (c.in_ok-bytes.ensures.tree.tree, w.deref-then-changed.ensures.value) at (w.in_ok-exchange.ensures.exchanged told) in
-          rw (w.disk-is, w.if-changed.true, count)
+          rw (w.disk-is, w.if-changed.true)
           (changed_file (g.D.Disk.state c.args.disk.now) _ _ _ _ (g.met.D.Disk.is_tree c.args.disk.now told) (c.requires.file told) (c.in_ok-bytes.ensures.bytes told) _ _ _ exchanged is_new
           (differ _ _ w.if-changed.ensures))
       | else-changed w ↦
-          let kept = same c.in_ok-new.new.items c.in_ok-bytes.bytes.items w.if-changed.ensures in
-          rw (w.disk-is, w.if-changed.false, count)
+          let kept = same c.in_ok-new.new.bytes.items c.in_ok-bytes.bytes.items w.if-changed.ensures in
+          rw (w.disk-is, w.if-changed.false)
           (same_file _ _ _ _ _ (g.met.D.Disk.is_tree c.args.disk.now told) (c.requires.file told) (c.in_ok-bytes.ensures.bytes told) _ _ c.in_ok-bytes.ensures.tree
-          (subst (λ (new : List ℕ). NewBytes c.args.find.now c.args.replacement.now c.in_ok-bytes.bytes.items new (length c.deref-3.result.now)) kept is_new))
+          (subst (λ (new : List ℕ). NewBytes c.args.find.now c.args.replacement.now c.in_ok-bytes.bytes.items new c.in_ok-new.new.spans) kept is_new))
     ]

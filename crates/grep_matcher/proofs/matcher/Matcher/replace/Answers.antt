@@ -1,0 +1,5 @@
+use Rattle.grep_matcher.proofs.VisitLemmas.{written_forgets}
+use Rattle.grep_matcher.proofs.matcher.Matcher.replace.Goals as goal
+
+pub returns-clause-replaced : goal.returns-clause-replaced
+returns-clause-replaced g c = written_forgets _ _ _ _ _ _ _ _ _ _ c.replace_by.ensures.replaced

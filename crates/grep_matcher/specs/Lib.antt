@@ -1,0 +1,17 @@
+pub mod ByteSets
+pub mod Callable
+pub mod CaptureRefs
+pub mod Cover
+pub mod Faults
+pub mod Groups
+pub mod NoMatch
+pub mod Pairs
+pub mod Plain
+pub mod PlainLemmas
+pub mod Reached
+pub mod ReferenceExamples
+pub mod References
+pub mod Replaced
+pub mod Span
+pub mod Terminators
+pub mod Visits

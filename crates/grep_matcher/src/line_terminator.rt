@@ -1,0 +1,110 @@
+//! What ends a line.
+
+ghost use Rattle.std.specs.Prelude.{◌≡◌, ◌↔◌, ◌-◌, ◌∷◌, [], Some, IsTrue, length, slice_get};
+ghost use Rattle.grep_matcher.specs.Terminators.{terminator_bytes, terminator_byte};
+
+use std::slice::from_ref;
+
+/// What ends a line: one byte, or `\r\n`.
+#[derive(Clone, Copy, Debug, Eq, Hash, PartialEq)]
+pub struct LineTerminator(Ending);
+
+#[derive(Clone, Copy, Debug, Eq, Hash, PartialEq)]
+enum Ending {
+    Byte(u8),
+    Crlf,
+}
+
+impl LineTerminator {
+    /// Lines end with one byte, as with `b'\n'` or `0`.
+    pub fn byte(byte: u8) -> LineTerminator
+        ensures bytes { terminator_bytes result ≡ byte ∷ [] }
+        ensures last { terminator_byte result ≡ byte }
+    {
+        LineTerminator(Ending::Byte(byte))
+    }
+
+    /// Lines end with `\r\n`.
+    pub fn crlf() -> LineTerminator
+        ensures bytes { terminator_bytes result ≡ 13 ∷ 10 ∷ [] }
+        ensures last { terminator_byte result ≡ 10 }
+    {
+        LineTerminator(Ending::Crlf)
+    }
+
+    /// Whether lines end with `\r\n`.
+    pub fn is_crlf(&self) -> bool
+        ensures { IsTrue result ↔ (terminator_bytes self.now ≡ 13 ∷ 10 ∷ []) }
+    {
+        self.0 == Ending::Crlf
+    }
+
+    /// The last byte of the terminator: `\n` for `\r\n`.
+    pub fn as_byte(&self) -> u8
+        ensures { result ≡ terminator_byte self.now }
+    {
+        match self.0 {
+            Ending::Byte(byte) => byte,
+            Ending::Crlf => b'\n',
+        }
+    }
+
+    /// The bytes of the terminator.
+    pub fn as_bytes(&self) -> &[u8]
+        ensures { result.now ≡ terminator_bytes self.now }
+    {
+        match &self.0 {
+            Ending::Byte(byte) => from_ref(byte),
+            Ending::Crlf => b"\r\n",
+        }
+    }
+
+    /// Whether a slice ends with the terminator's last byte.
+    ///
+    /// With `\r\n`, `a\n` does, and so does `a\r\n`. The empty slice never does.
+    pub fn is_suffix(&self, slice: &[u8]) -> bool
+        ensures { IsTrue result ↔ (slice_get slice.now (length slice.now - 1) ≡ Some (terminator_byte self.now)) }
+    {
+        slice.last().copied() == Some(self.as_byte())
+    }
+}
+
+impl Default for LineTerminator {
+    ghost is_default = { λ terminator. terminator_bytes terminator ≡ 10 ∷ [] };
+
+    /// Lines end with `\n`.
+    fn default() -> LineTerminator {
+        LineTerminator::byte(b'\n')
+    }
+}
+
+#[cfg(test)]
+mod tests {
+    use super::*;
+    use std::test::Fail;
+
+    #[test]
+    fn lines_end(rt: HostRuntime) {
+        let newline = LineTerminator::default();
+        let crlf = LineTerminator::crlf();
+        assert!(rt; newline == LineTerminator::byte(b'\n') && newline != crlf);
+        assert!(rt; crlf.is_crlf() && !newline.is_crlf() && !LineTerminator::byte(b'\r').is_crlf());
+        assert_eq!(rt; newline.as_bytes(), b"\n".as_slice());
+        assert_eq!(rt; crlf.as_bytes(), b"\r\n".as_slice());
+        assert_eq!(rt; crlf.as_byte(), b'\n');
+        assert_eq!(rt; LineTerminator::byte(0).as_byte(), 0);
+        assert!(rt; crlf.is_suffix(b"a\n") && crlf.is_suffix(b"a\r\n"));
+        assert!(rt; !crlf.is_suffix(b"") && !crlf.is_suffix(b"a\r"));
+        assert!(rt; LineTerminator::byte(0).is_suffix(&[7, 0]));
+    }
+
+    #[test]
+    fn prints(rt: HostRuntime) -> Result<(), Fail> {
+        let newline = LineTerminator::default();
+        assert_eq!(rt;
+            format!(in rt.alloc(); "{newline:?}")?.as_str(),
+            "LineTerminator(Byte(10))"
+        );
+        Ok(())
+    }
+}

@@ -1,0 +1,7 @@
+mod capturing;
+mod finding;
+mod gathered;
+mod pairs;
+mod plain;
+mod replacing;
+mod values;

@@ -1,0 +1,65 @@
+//! What a closure gathers at the spans of the fair cover, as far as its caller can know it.
+
+ghost use Rattle.std.specs.Prelude.{◌≡◌, ℕ, length, min, ◌+◌, ◌-◌, ◌^◌, true, IfOk, OnOk, ◌++◌, Result, List};
+ghost use Rattle.grep_matcher.specs.Cover.{IsFairCover};
+ghost use Rattle.grep_matcher.specs.Replaced.{replaced_from};
+ghost use Rattle.grep_matcher.specs.Span.{Span};
+
+use crate::visiting::put;
+use crate::{Fault, Match, Matcher};
+use std::alloc::{AllocError, Global};
+
+/// The spans of the fair cover.
+pub fn all_spans<M: Matcher>(
+    matcher: &M,
+    alloc: Global,
+    haystack: &[u8],
+) -> Result<Result<Vec<Match>, AllocError>, M::Error>
+    ensures { IfOk result (λ made. IfOk made (λ spans. IsFairCover (M.preferred matcher.now haystack.now) 0 (length haystack.now) spans.items)) }
+{
+    let mut spans = Vec::new(alloc);
+    let mut keep = |span: Match| -> Result<bool, AllocError> {
+        spans.push(span)?;
+        Ok(true)
+    };
+    let done = matcher.try_visit_at(haystack, 0, &mut keep)?;
+    match done {
+        Ok(()) => Ok(Ok(spans)),
+        Err(error) => Ok(Err(error)),
+    }
+}
+
+/// How many spans the fair cover has.
+pub fn count<M: Matcher>(matcher: &M, haystack: &[u8]) -> Result<u64, M::Error>
+    ensures { IfOk result (λ n. (spans : List Span) × IsFairCover (M.preferred matcher.now haystack.now) 0 (length haystack.now) spans × (n ≡ min (length spans) (2 ^ 64 - 1))) }
+{
+    let mut n = 0u64;
+    matcher.visit_at(
+        haystack,
+        0,
+        &mut |_span: Match| -> bool
+            ensures goes_on { result ≡ true }
+            ensures counted { n.exit ≡ min (n.entry + 1) (2 ^ 64 - 1) }
+        {
+            n = n.saturating_add(1);
+            true
+        },
+    )?;
+    Ok(n)
+}
+
+/// Appends the haystack with the text in the place of each span.
+pub fn replaced_with<M: Matcher>(
+    matcher: &M,
+    haystack: &[u8],
+    text: &[u8],
+    dst: &mut Vec<u8>,
+) -> Result<(), Fault<M::Error>>
+    ensures { OnOk result ((spans : List Span) × IsFairCover (M.preferred matcher.now haystack.now) 0 (length haystack.now) spans
+        × (dst.new.items ≡ dst.old.items ++ replaced_from (λ _. text.now) haystack.now 0 spans)) }
+{
+    matcher.replace(haystack, dst, |_span, out: &mut Vec<u8>| {
+        put(out, text)?;
+        Ok(true)
+    })
+}

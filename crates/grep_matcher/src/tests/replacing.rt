@@ -1,0 +1,89 @@
+//! The replacing calls.
+
+use super::gathered::replaced_with;
+use super::pairs::{PairCaptures, Pairs};
+use super::plain::Plain;
+use crate::visiting::put;
+use crate::{Captures, Fault, Match, Matcher};
+use sd_edge::NoMemory;
+use std::test::Fail;
+
+const TEXT: &[u8] = b"one two one";
+
+const PAIRS: &[u8] = b"-a-b.";
+
+#[test]
+fn each_span_gives_way_to_a_text(rt: HostRuntime) -> Result<(), Fail> {
+    let alloc = rt.alloc();
+    let one = Plain { text: b"one" };
+    let mut dst = b"> ".to_vec(alloc)?;
+    assert!(rt; replaced_with(&one, TEXT, b"1", &mut dst).is_ok());
+    assert_eq!(rt; dst.as_slice(), b"> 1 two 1".as_slice());
+    Ok(())
+}
+
+#[test]
+fn each_span_gives_way_to_its_own_bytes(rt: HostRuntime) -> Result<(), Fail> {
+    let alloc = rt.alloc();
+    let one = Plain { text: b"one" };
+    let mut dst = Vec::new(alloc);
+    let done = one.replace(TEXT, &mut dst, |span, out: &mut Vec<u8>| {
+        put(out, span.slice_of(TEXT))?;
+        put(out, b"!")?;
+        Ok(true)
+    });
+    assert!(rt; done.is_ok());
+    assert_eq!(rt; dst.as_slice(), b"one! two one!".as_slice());
+    Ok(())
+}
+
+#[test]
+fn the_rest_stands_after_a_false(rt: HostRuntime) -> Result<(), Fail> {
+    let alloc = rt.alloc();
+    let one = Plain { text: b"one" };
+    let mut dst = Vec::new(alloc);
+    let done = one.replace(TEXT, &mut dst, |_span, out: &mut Vec<u8>| {
+        put(out, b"1")?;
+        Ok(false)
+    });
+    assert!(rt; done.is_ok());
+    assert_eq!(rt; dst.as_slice(), b"1 two one".as_slice());
+    let refused = one.replace(TEXT, &mut dst, |_span, _out: &mut Vec<u8>| Err(NoMemory));
+    assert!(rt; matches!(refused, Err(Fault::NoMemory)));
+    Ok(())
+}
+
+#[test]
+fn pairs_give_way_by_their_groups(rt: HostRuntime) -> Result<(), Fail> {
+    let alloc = rt.alloc();
+    let pairs = Pairs { first: b'-' };
+    let mut caps = pairs.new_captures()?;
+    assert!(rt; pairs.captures(PAIRS, &mut caps)?);
+    assert_eq!(rt; caps.get(1), Some(Match::new(1, 2)));
+    let mut dst = Vec::new(alloc);
+    let done = pairs.replace_with_captures(
+        PAIRS,
+        &mut caps,
+        &mut dst,
+        |c: &PairCaptures, out: &mut Vec<u8>| {
+            let text: &[u8] = if c.get(1).is_some() { b"2" } else { b"-" };
+            put(out, text)?;
+            Ok(true)
+        },
+    );
+    assert!(rt; done.is_ok());
+    assert_eq!(rt; dst.as_slice(), b"22.".as_slice());
+    Ok(())
+}
+
+#[test]
+fn without_captures_the_haystack_stands(rt: HostRuntime) -> Result<(), Fail> {
+    let alloc = rt.alloc();
+    let one = Plain { text: b"one" };
+    let mut caps = one.new_captures()?;
+    let mut dst = Vec::new(alloc);
+    let done = one.replace_with_captures_at(TEXT, 4, &mut caps, &mut dst, |_caps, _out| Ok(true));
+    assert!(rt; done.is_ok());
+    assert_eq!(rt; dst.as_slice(), b"two one".as_slice());
+    Ok(())
+}

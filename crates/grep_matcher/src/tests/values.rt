@@ -1,0 +1,34 @@
+//! Spans, and printed texts.
+
+use crate::{Captures, LineMatchKind, Match, NoCaptures};
+use std::test::Fail;
+
+#[test]
+fn spans_are_moved_and_cut(rt: HostRuntime) -> Result<(), Fail> {
+    let span = Match::new(2, 7);
+    assert_eq!(rt; span.with_start(4), Match::new(4, 7));
+    assert_eq!(rt; span.with_end(4), Match::new(2, 4));
+    assert_eq!(rt; span.offset(10), Match::new(12, 17));
+    assert_eq!(rt; span.len(), 5);
+    assert!(rt; !span.is_empty() && Match::zero(3).is_empty());
+    let two = Match::new(4, 7);
+    assert_eq!(rt; two.slice_of(b"one two one"), b"two".as_slice());
+    assert_eq!(rt; two.str_of("one two one"), "two");
+    let mut bytes = *b"one two one";
+    two.slice_of_mut(&mut bytes).fill(b'-');
+    assert_eq!(rt; bytes.as_slice(), b"one --- one".as_slice());
+    Ok(())
+}
+
+#[test]
+fn texts_are_printed(rt: HostRuntime) -> Result<(), Fail> {
+    let alloc = rt.alloc();
+    let span = format!(in alloc; "{:?}", Match::new(2, 7))?;
+    assert_eq!(rt; span.as_str(), "Match { start: 2, end: 7 }");
+    let line = format!(in alloc; "{:?}", LineMatchKind::Candidate(3))?;
+    assert_eq!(rt; line.as_str(), "Candidate(3)");
+    let caps = NoCaptures::new().clone()?;
+    assert_eq!(rt; caps.len(), 0);
+    assert!(rt; caps.is_empty() && caps.get(0).is_none());
+    Ok(())
+}

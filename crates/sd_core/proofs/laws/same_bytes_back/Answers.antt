@@ -1,6 +1,0 @@
-use Rattle.std.proofs.Common.{length}
-use Rattle.sd_core.proofs.ReplacedLemmas.{own_bytes, from_start}
-use Rattle.sd_core.proofs.laws.same_bytes_back.Goals as goal
-
-pub returns : goal.returns
-returns c = λ haystack spans turn within. own_bytes haystack 0 spans (from_start (length haystack) spans turn within)
