@@ -1,5 +1,5 @@
 -- What a caller learns from the calls of its own closure.
-use Rattle.std.proofs.Common.{◌≡◌, ◌≢◌, ℕ, ◌⊎◌, inl, inr, List, [], ◌∷◌, refl, sym, subst, ◌++◌, append-nil, append_assoc, drop, slice_range, ap, ◌∙◌, Bool, true, false, Option, Result, Ok, Err, OnOk}
+use Rattle.std.proofs.Common.{◌≡◌, ◌≢◌, ℕ, inl, inr, List, [], ◌∷◌, refl, sym, subst, ◌++◌, append-nil, append_assoc, drop, slice_range, ap, ◌∙◌, Bool, true, false, Option, Result, Ok, Err, OnOk}
 use Rattle.grep_matcher.specs.Span.{Span}
 use Rattle.grep_matcher.specs.Cover.{IsFairCover}
 use Rattle.grep_matcher.specs.Visits.{End, at_the_end, at_answer, broken_off, Visits, VisitsCover, IsStopped, IsAnswered}

@@ -49,7 +49,7 @@ impl LineTerminator {
         }
     }
 
-    /// The bytes of the terminator.
+    /// The bytes of the terminator: one byte, or `\r\n`.
     pub fn as_bytes(&self) -> &[u8]
         ensures { result.now ≡ terminator_bytes self.now }
     {

@@ -37,6 +37,7 @@ pub enum Ref<'a> {
 impl<'a> From<&'a str> for Ref<'a> {
     ghost from_gives = { λ name made. target_of made ≡ form.named name.now };
 
+    /// A group by its name, also where the name reads as a number.
     fn from(name: &'a str) -> Ref<'a> {
         Ref::Named(name)
     }
@@ -45,6 +46,7 @@ impl<'a> From<&'a str> for Ref<'a> {
 impl From<usize> for Ref<'_> {
     ghost from_gives = { λ number made. target_of made ≡ form.number number };
 
+    /// A group by its number.
     fn from(number: usize) -> Self {
         Ref::Number(number)
     }

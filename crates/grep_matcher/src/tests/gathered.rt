@@ -63,3 +63,17 @@ pub fn replaced_with<M: Matcher>(
         Ok(true)
     })
 }
+
+/// Appends the haystack with each span's own bytes in its place, which is the haystack itself.
+pub fn copied<M: Matcher>(
+    matcher: &M,
+    haystack: &[u8],
+    dst: &mut Vec<u8>,
+) -> Result<(), Fault<M::Error>>
+    ensures { OnOk result (dst.new.items ≡ dst.old.items ++ haystack.now) }
+{
+    matcher.replace(haystack, dst, |span, out: &mut Vec<u8>| {
+        put(out, span.slice_of(haystack))?;
+        Ok(true)
+    })
+}

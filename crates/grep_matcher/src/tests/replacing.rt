@@ -1,6 +1,6 @@
 //! The replacing calls.
 
-use super::gathered::replaced_with;
+use super::gathered::{copied, replaced_with};
 use super::pairs::{PairCaptures, Pairs};
 use super::plain::Plain;
 use crate::visiting::put;
@@ -19,6 +19,9 @@ fn each_span_gives_way_to_a_text(rt: HostRuntime) -> Result<(), Fail> {
     let mut dst = b"> ".to_vec(alloc)?;
     assert!(rt; replaced_with(&one, TEXT, b"1", &mut dst).is_ok());
     assert_eq!(rt; dst.as_slice(), b"> 1 two 1".as_slice());
+    let mut same = Vec::new(alloc);
+    assert!(rt; copied(&one, TEXT, &mut same).is_ok());
+    assert_eq!(rt; same.as_slice(), TEXT);
     Ok(())
 }
 
