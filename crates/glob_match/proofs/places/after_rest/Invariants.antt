@@ -1,0 +1,6 @@
+use Rattle.glob_match.specs.declared.piece.Piece.TheVariants.{AnyRest}
+use Rattle.glob_match.proofs.PlacesLemmas.{StarSoFar}
+use Rattle.glob_match.proofs.places.after_rest.Given as goal
+
+abbrev pub invariant-loop-to : goal.invariant-loop-to
+invariant-loop-to l = StarSoFar AnyRest l.fn.path l.fn.places l.places l.to-index l.reached

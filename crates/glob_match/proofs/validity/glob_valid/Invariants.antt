@@ -1,0 +1,5 @@
+use Rattle.glob_match.proofs.ValidityLemmas.{CharactersSoFar}
+use Rattle.glob_match.proofs.validity.glob_valid.Given as goal
+
+abbrev pub invariant-loop-c : goal.invariant-loop-c
+invariant-loop-c l = CharactersSoFar l.yielded l.cursor

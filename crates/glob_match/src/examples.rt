@@ -1,0 +1,44 @@
+//! Worked examples of globs.
+
+ghost use Rattle.std.specs.Prelude.{codes, [], ◌∷◌, ◌+◌, ◌≡◌, ◌↔◌, ℕ, true, false, IsSome, Some};
+ghost use Rattle.glob_match.specs.Examples.{IsInvalid, IsReadAs, character};
+ghost use Rattle.glob_match.specs.Pieces.Pieces.{no_pieces, piece, brace};
+ghost use Rattle.glob_match.specs.Pieces.Options.{no_options, option};
+ghost use Rattle.glob_match.specs.Reading.{pieces_of};
+ghost use Rattle.glob_match.specs.Takes.{Fits};
+ghost use Rattle.glob_match.specs.declared.piece.Single.TheVariants.{AnyCharacter, Class};
+ghost use Rattle.glob_match.specs.declared.piece.Piece.TheVariants.{One, AnyRun, AnyDepth, AnyRest};
+
+/// How globs are read, and which are invalid.
+pub fn globs_are_read_as_in_the_examples()
+    ensures open_brace { IsInvalid (codes "{a") }
+    ensures open_class { IsInvalid (codes "[!]") }
+    ensures open_class_of_two { IsInvalid (codes "[^]a") }
+    ensures last_backslash { IsInvalid (codes "a\\") }
+    ensures eleven_braces { IsInvalid (codes "{{{{{{{{{{{}}}}}}}}}}}") }
+    ensures ten_braces { IsSome (pieces_of (codes "{{{{{{{{{{}}}}}}}}}}")) }
+    ensures any_rest { IsReadAs (codes "a**") (character 97 (piece AnyRest no_pieces)) }
+    ensures any_depth { IsReadAs (codes "a/**/b") (character 97 (character 47 (piece AnyDepth (character 98 no_pieces)))) }
+    ensures any_depth_in_a_word { IsReadAs (codes "a**/**/b") (character 97 (piece AnyDepth (character 98 no_pieces))) }
+    ensures stars_in_a_word { IsReadAs (codes "a**/b") (character 97 (piece AnyRun (character 47 (character 98 no_pieces)))) }
+    ensures empty_option { IsReadAs (codes "x{a,}") (character 120 (brace (option (character 97 no_pieces) (option no_pieces no_options)) no_pieces)) }
+    ensures signs_outside { IsReadAs (codes "!!},]") (character 125 (character 44 (character 93 no_pieces))) }
+    ensures class { IsReadAs (codes "[^a-c\\n-]") (piece (One (Class true (record { first = 97; last = 99 } ∷ record { first = 10; last = 10 } ∷ record { first = 45; last = 45 } ∷ []))) no_pieces) }
+    ensures closing_member { IsReadAs (codes "[]a]") (piece (One (Class false (record { first = 93; last = 93 } ∷ record { first = 97; last = 97 } ∷ []))) no_pieces) }
+    ensures escapes { IsReadAs (codes "\\a\\*\\b") (character 97 (character 42 (character 8 no_pieces))) }
+    ensures one_character { IsReadAs (codes "?") (piece (One AnyCharacter) no_pieces) }
+{}
+
+/// Which paths globs fit.
+pub fn globs_fit_as_in_the_examples()
+    ensures closing_member { Fits (codes "[]a]") (codes "]") }
+    ensures any_rest { Fits (codes "a**") (codes "a/b/c") }
+    ensures any_depth { Fits (codes "a/**/b") (codes "a/b") }
+    ensures any_depth_first { Fits (codes "**/b*c") (codes "b/bc") }
+    ensures empty_option { Fits (codes "x{a,}") (codes "x") }
+    ensures class_in_a_brace { Fits (codes "a/{b,c[}]*}") (codes "a/c}xx") }
+    ensures negated { Fits (codes "!*.md") (codes "x.txt") }
+    ensures negated_twice { Fits (codes "!!*.md") (codes "x.md") }
+    ensures invalid { ¬ Fits (codes "{a") (codes "a") }
+    ensures invalid_negated { ¬ Fits (codes "!x[") (codes "y") }
+{}

@@ -1,0 +1,30 @@
+//! Globs over paths: whether a glob is valid, and whether it fits a path.
+//!
+//! A glob is any number of `!` and a sequence of pieces, over characters; the separator is `/`.
+//!
+//! - `?` takes one character but `/`, and `*` any text without `/`.
+//! - A star token is `**` and any number of `/**` after it. At the glob's end it takes any text. Followed by `/`, and
+//!   begun at the glob's start or just after `/` or with at least one `/**`, it takes with that `/` any text after which
+//!   the place is the path's start or just after a `/`. Else it is as `*`.
+//! - `[a-z_]` takes one character of the class, `/` too, and `[^a-z]` or `[!a-z]` one that isn't in it. A `]` that comes
+//!   first is a member.
+//! - `{a,b}` takes what one of its options takes. Braces nest, at most ten deep.
+//! - `\` before a character takes its meaning away; `\b`, `\n`, `\r` and `\t` are controls.
+//! - Any other character takes itself.
+//!
+//! An odd number of `!` negates the answer. An invalid glob fits nothing.
+#![tactic(auto)]
+
+mod braces;
+mod examples;
+mod laws;
+mod matching;
+mod parse;
+mod piece;
+mod places;
+mod validity;
+
+pub use examples::{globs_are_read_as_in_the_examples, globs_fit_as_in_the_examples};
+pub use laws::{one_more_sign_turns_the_answer, plain_fits_itself};
+pub use matching::glob_match;
+pub use validity::glob_valid;

@@ -1,0 +1,141 @@
+//! The tokens of a glob, one after another, over the places of a path.
+
+ghost use Rattle.std.specs.Prelude.{◌≡◌, ◌↔◌, ◌+◌, All, length, chars, Some, IfOk, IsTrue};
+ghost use Rattle.glob_match.specs.Pieces.{Pieces};
+ghost use Rattle.glob_match.specs.Reading.{pieces_of_tokens};
+ghost use Rattle.glob_match.specs.Places.{IsOfPlaces, IsReached};
+ghost use Rattle.glob_match.specs.Braces.{IsTokenStep};
+ghost use Rattle.glob_match.specs.Takes.{Fits};
+
+use crate::braces::{Brace, close_brace, open_brace, part_brace};
+use crate::parse::{after_signs, read};
+use crate::piece::Token;
+use crate::places::{after_piece, start_alone};
+use sd_edge::NoMemory;
+use std::alloc::Global;
+
+/// Turns the places reached and the open braces into those after one more token.
+fn after_token(
+    alloc: Global,
+    token: &Token,
+    path: &[char],
+    braces: &mut Vec<Brace>,
+    places: &mut [bool],
+) -> Result<(), NoMemory>
+    requires path { length places.old ≡ length path.now + 1 }
+    requires braces { All (IsOfPlaces (length places.old)) braces.old.items }
+    ensures { IfOk result (λ _. IsTokenStep token.now path.now braces.old.items places.old braces.new.items places.new) }
+{
+    match token {
+        Token::Piece(piece) => after_piece(piece, path, places),
+        Token::Open => open_brace(alloc, braces, places)?,
+        Token::Comma => part_brace(braces, path, places)?,
+        Token::Close => close_brace(braces, path, places),
+    }
+    Ok(())
+}
+
+/// The places to which the pieces of a glob lead from the path's start.
+fn places_after(alloc: Global, tokens: &[Token], path: &[char]) -> Result<Vec<bool>, NoMemory>
+    ensures { IfOk result (λ places. (pieces : Pieces) → pieces_of_tokens (Some tokens.now) ≡ Some pieces → IsReached pieces path.now places.items) }
+{
+    let mut places = start_alone(alloc, path.len())?;
+    let mut braces = Vec::new(alloc);
+    for token in tokens {
+        after_token(alloc, token, path, &mut braces, &mut places)?;
+    }
+    Ok(places)
+}
+
+/// Whether a glob fits a path, both by their characters.
+fn fits(alloc: Global, glob: &[char], path: &[char]) -> Result<bool, NoMemory>
+    ensures { IfOk result (λ fits. IsTrue fits ↔ Fits glob.now path.now) }
+{
+    let (negated, text) = after_signs(glob);
+    let Some(tokens) = read(alloc, text)? else {
+        return Ok(false);
+    };
+    let places = places_after(alloc, &tokens, path)?;
+    Ok(places[path.len()] != negated)
+}
+
+/// Whether a glob is valid and fits a path.
+///
+/// `?` takes one character but `/`, `*` any text without `/`, `[..]` a character of a class, `{a,b}` what one of
+/// its options takes, `**/` any folders, and `**` at the end any text. A `!` at the start negates the answer, and a
+/// backslash takes a sign's meaning away. An invalid glob fits nothing. Asks of each piece and each place
+/// between the path's characters at most once. Refuses for want of memory alone.
+pub fn glob_match(alloc: Global, glob: &str, path: &str) -> Result<bool, NoMemory>
+    ensures { IfOk result (λ fits. IsTrue fits ↔ Fits (chars glob.now) (chars path.now)) }
+{
+    let glob: Vec<char> = glob.chars().collect(alloc)?;
+    let path: Vec<char> = path.chars().collect(alloc)?;
+    fits(alloc, &glob, &path)
+}
+
+#[cfg(test)]
+mod tests {
+    use super::*;
+    use std::test::Fail;
+
+    #[test]
+    fn fits_whole_paths(rt: HostRuntime) -> Result<(), Fail> {
+        let cases = [
+            ("**/b*c", "b/bc", true),
+            ("a/{b,c[}]*}", "a/c}xx", true),
+            ("x{a,}", "x", true),
+            ("{a", "a", false),
+            ("?", "é", true),
+            ("[]a]", "]", true),
+            ("a**", "a/b/c", true),
+            ("a/**/b", "a/b", true),
+            ("!*.md", "x.txt", true),
+            ("!!*.md", "x.md", true),
+            ("{a*,b?}", "bc", true),
+            ("src/**/*.{js,jsx}", "src/app.js", true),
+            ("src/**/*.{js,jsx}", "src/ui/list.jsx", true),
+            ("src/**/*.{js,jsx}", "README.md", false),
+            ("test/{foo/**,bar}/baz", "test/bar/test/baz", false),
+            (
+                "some/**/{a,b,c}/**/needle.txt",
+                "some/path/a/to/the/needle.txt",
+                true,
+            ),
+        ];
+        for (glob, path, wanted) in cases {
+            assert_eq!(rt;
+                glob_match(rt.alloc(), glob, path)?,
+                wanted,
+                "{glob} {path}"
+            );
+        }
+        Ok(())
+    }
+
+    #[test]
+    fn invalid_globs_fit_nothing(rt: HostRuntime) -> Result<(), Fail> {
+        for glob in [
+            "{{{{{{{{{{{}}}}}}}}}}}",
+            "!{{{{{{{{{{{}}}}}}}}}}}",
+            "[!]",
+            "!\\",
+            "\\",
+        ] {
+            assert!(rt; !glob_match(rt.alloc(), glob, "")?, "{glob}");
+        }
+        assert!(rt; glob_match(rt.alloc(), "{{{{{{{{{{}}}}}}}}}}", "")?);
+        Ok(())
+    }
+
+    #[test]
+    fn a_hostile_glob_answers_at_once(rt: HostRuntime) -> Result<(), Fail> {
+        let mut path = String::new(rt.alloc());
+        for _ in 0..3000 {
+            path.push('a')?;
+        }
+        assert!(rt; !glob_match(rt.alloc(), "*a*a*a*a*a*b", path.as_str())?);
+        path.push('b')?;
+        assert!(rt; glob_match(rt.alloc(), "*a*a*a*a*a*b", path.as_str())?);
+        Ok(())
+    }
+}

@@ -1,0 +1,124 @@
+//! Sets of places in a path. A path of n characters has the places 0 to n between them.
+
+ghost use Rattle.std.specs.Prelude.{◌≡◌, ◌≢◌, ◌+◌, ◌-◌, ◌<◌, ◌⊎◌, ◌↔◌, ℕ, length, slice_get, IfOk, IsTrue, Some, true, false};
+ghost use Rattle.glob_match.specs.Takes.{IsInClass, IsInRanges, IsAfterSeparator, TakesOne};
+ghost use Rattle.glob_match.specs.Places.{IsStartAlone, IsStep, TakesAt};
+ghost use Rattle.glob_match.specs.declared.piece.Piece.TheVariants as piece;
+
+use crate::piece::{Piece, Single};
+use sd_edge::NoMemory;
+use std::alloc::Global;
+
+/// The set of places that holds the start of a path alone.
+pub fn start_alone(alloc: Global, characters: usize) -> Result<Vec<bool>, NoMemory>
+    ensures { IfOk result (λ places. IsStartAlone characters places.items) }
+{
+    let mut places = Vec::new(alloc);
+    places.push(true)?;
+    for _ in 0..characters {
+        places.push(false)?;
+    }
+    Ok(places)
+}
+
+/// Turns a set of places into the set that a piece leads to from there.
+pub fn after_piece(piece: &Piece, path: &[char], places: &mut [bool])
+    requires { length places.old ≡ length path.now + 1 }
+    ensures { IsStep piece.now path.now places.old places.new }
+{
+    match piece {
+        Piece::One(single) => after_one(single, path, places),
+        Piece::AnyRun => after_run(path, places),
+        Piece::AnyDepth => after_depth(path, places),
+        Piece::AnyRest => after_rest(path, places),
+    }
+}
+
+impl Single {
+    /// Whether it takes this character.
+    fn takes(&self, c: char) -> bool
+        ensures { IsTrue result ↔ TakesOne self.now c }
+    {
+        match self {
+            Single::Character(own) => *own == c,
+            Single::AnyCharacter => c != '/',
+            Single::Class { negated, ranges } => ranges.contains(c) != *negated,
+        }
+    }
+}
+
+/// Whether it takes the character that stands right after a place.
+fn takes_at(single: &Single, path: &[char], place: usize) -> bool
+    ensures { IsTrue result ↔ TakesAt single.now path.now place }
+{
+    match path.get(place) {
+        Some(c) => single.takes(*c),
+        None => false,
+    }
+}
+
+/// Turns a set of places into the set that what takes one character leads to from there.
+fn after_one(single: &Single, path: &[char], places: &mut [bool])
+    requires { length places.old ≡ length path.now + 1 }
+    ensures { IsStep (piece.One single.now) path.now places.old places.new }
+{
+    let mut before = false;
+    for (place, to) in places.iter_mut().enumerate() {
+        let from = *to;
+        *to = before;
+        before = from && takes_at(single, path, place);
+    }
+}
+
+/// Whether a `/` stands right after a place.
+fn is_separator(path: &[char], place: usize) -> bool
+    ensures { IsTrue result ↔ (slice_get path.now place ≡ Some 47) }
+{
+    path.get(place) == Some(&'/')
+}
+
+/// Turns a set of places into the set that `*` leads to from there.
+fn after_run(path: &[char], places: &mut [bool])
+    requires { length places.old ≡ length path.now + 1 }
+    ensures { IsStep piece.AnyRun path.now places.old places.new }
+{
+    let mut running = false;
+    for (place, to) in places.iter_mut().enumerate() {
+        let leads = *to || running;
+        *to = leads;
+        running = leads && !is_separator(path, place);
+    }
+}
+
+/// Whether a place is the path's start, or just after a `/`.
+fn is_after_separator(path: &[char], place: usize) -> bool
+    ensures { IsTrue result ↔ IsAfterSeparator path.now place }
+{
+    place == 0 || is_separator(path, place - 1)
+}
+
+/// Turns a set of places into the set that a star token with its `/` leads to from there.
+fn after_depth(path: &[char], places: &mut [bool])
+    requires { length places.old ≡ length path.now + 1 }
+    ensures { IsStep piece.AnyDepth path.now places.old places.new }
+{
+    let mut reached = false;
+    for (place, to) in places.iter_mut().enumerate() {
+        let here = *to || reached;
+        *to = here && is_after_separator(path, place);
+        reached = here;
+    }
+}
+
+/// Turns a set of places into the set that a star token at the glob's end leads to from there.
+fn after_rest(path: &[char], places: &mut [bool])
+    requires { length places.old ≡ length path.now + 1 }
+    ensures { IsStep piece.AnyRest path.now places.old places.new }
+{
+    let mut reached = false;
+    for to in places.iter_mut() {
+        let here = *to || reached;
+        *to = here;
+        reached = here;
+    }
+}
