@@ -5,4 +5,5 @@ pub mod GroupLemmas
 pub mod ReachedLemmas
 pub mod ReferenceLemmas
 pub mod ReplacedLemmas
+pub mod SpanLemmas
 pub mod VisitLemmas

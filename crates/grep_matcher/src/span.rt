@@ -1,6 +1,8 @@
 //! Spans of a haystack.
 
 ghost use Rattle.std.specs.Prelude.{◌≡◌, ◌+◌, ◌<◌, ◌≤◌, ◌^◌, ◌↔◌, IsTrue, length, slice_range};
+ghost use Rattle.std.specs.Borrow.{sem, Lends, Array, u8};
+ghost use Rattle.std.specs.List.{splice};
 ghost use Rattle.std.specs.Str.{IsCharBoundary};
 ghost use Rattle.grep_matcher.specs.Span.{Span};
 
@@ -120,10 +122,12 @@ impl Match {
         &haystack[self.start..self.end]
     }
 
-    /// The bytes of the span, to write to. Its end lies within the haystack.
+    /// The bytes of the span, to write to. Its end lies within the haystack, whose other bytes stay. With `xxx` written to 4 to
+    /// 7 of `one two one` it is `one xxx one`.
     pub fn slice_of_mut<'h>(&self, haystack: &'h mut [u8]) -> &'h mut [u8]
         requires { self.now.end ≤ length haystack.old }
-        ensures { result.now ≡ slice_range haystack.old self.now.start self.now.end }
+        ensures* writes_back { sem 𝓛 (Lends (Array u8 0) (Array u8 0) haystack.entry result (splice haystack.old self.now.start self.now.end)) }
+        ensures lent { result.now ≡ slice_range haystack.old self.now.start self.now.end }
     {
         &mut haystack[self.start..self.end]
     }

@@ -15,8 +15,8 @@ fn spans_are_moved_and_cut(rt: HostRuntime) -> Result<(), Fail> {
     assert_eq!(rt; two.slice_of(b"one two one"), b"two".as_slice());
     assert_eq!(rt; two.str_of("one two one"), "two");
     let mut bytes = *b"one two one";
-    two.slice_of_mut(&mut bytes).fill(b'-');
-    assert_eq!(rt; bytes.as_slice(), b"one --- one".as_slice());
+    two.slice_of_mut(&mut bytes).fill(b'x');
+    assert_eq!(rt; bytes.as_slice(), b"one xxx one".as_slice());
     Ok(())
 }
 
