@@ -1,7 +1,25 @@
 //! Spans, and printed texts.
 
+ghost use Rattle.std.specs.Prelude.{◌≡◌, ◌≤◌, length, replicate, slice_range};
+ghost use Rattle.std.specs.List.{splice};
+
 use crate::{Captures, LineMatchKind, Match, NoCaptures};
 use std::test::Fail;
+
+/// Each byte becomes an `x`.
+fn cross(bytes: &mut [u8])
+    ensures { bytes.new ≡ replicate (length bytes.old) 120 }
+{
+    bytes.fill(b'x');
+}
+
+/// Each byte of the span becomes an `x`, and the others stay.
+fn cross_out(span: &Match, haystack: &mut [u8])
+    requires { span.now.end ≤ length haystack.old }
+    ensures { haystack.new ≡ splice haystack.old span.now.start span.now.end (replicate (length (slice_range haystack.old span.now.start span.now.end)) 120) }
+{
+    cross(span.slice_of_mut(haystack));
+}
 
 #[test]
 fn spans_are_moved_and_cut(rt: HostRuntime) -> Result<(), Fail> {
@@ -15,7 +33,7 @@ fn spans_are_moved_and_cut(rt: HostRuntime) -> Result<(), Fail> {
     assert_eq!(rt; two.slice_of(b"one two one"), b"two".as_slice());
     assert_eq!(rt; two.str_of("one two one"), "two");
     let mut bytes = *b"one two one";
-    two.slice_of_mut(&mut bytes).fill(b'x');
+    cross_out(&two, &mut bytes);
     assert_eq!(rt; bytes.as_slice(), b"one xxx one".as_slice());
     Ok(())
 }
