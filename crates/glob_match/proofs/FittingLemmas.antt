@@ -1,5 +1,5 @@
 -- From the places that a glob's pieces reach to whether it fits.
-use Rattle.std.proofs.Common.{◌≡◌, ◌↔◌, ℕ, zero, suc, Bool, true, false, not, List, length, drop, slice_get, Some, None, refl, sym, ap, ◌∙◌}
+use Rattle.std.proofs.Common.{◌≡◌, ◌↔◌, ℕ, zero, suc, Bool, true, false, not, List, length, drop, slice_get, Option, Some, None, refl, sym, ap, ◌∙◌}
 use mathlib.Core.Bool.{beq}
 use Rattle.glob_match.specs.Pieces.{Pieces}
 use Rattle.glob_match.specs.Reading.{is_odd, negations, symbols_after, pieces_of_symbols, pieces_of}
@@ -26,11 +26,14 @@ under whole path b takes (suc signs) =
     let turn = turned b (is_odd signs) in
     ((λ e. λ f. turn.0 e (before.1 f)), (λ n. turn.1 (λ e. n (before.0 e))))
 
+-- the pieces of a glob are those of the text after its `!`s
+pub read_whole : (glob text : List ℕ) (pieces : Option Pieces) → text ≡ drop (negations glob) glob → pieces_of_symbols (symbols_after false text) ≡ pieces → pieces_of glob ≡ pieces
+read_whole glob text pieces rest is = ap (λ t. pieces_of_symbols (symbols_after false t)) (sym rest) ∙ is
+
 -- a valid glob fits as its pieces reach the path's end
-pub fits_valid : (glob path text : List ℕ) (pieces : Pieces) (places : List Bool) (takes negated : Bool) → text ≡ drop (negations glob) glob → pieces_of_symbols (symbols_after false text) ≡ Some pieces → negated ≡ is_odd (negations glob)
+pub fits_valid : (glob path : List ℕ) (pieces : Pieces) (places : List Bool) (takes negated : Bool) → pieces_of glob ≡ Some pieces → negated ≡ is_odd (negations glob)
     → IsReached pieces path places → slice_get places (length path) ≡ Some takes → (not (beq takes negated) ≡ true) ↔ Fits glob path
-fits_valid glob path text pieces places takes negated rest is odd reached there =
-    let whole : pieces_of glob ≡ Some pieces = ap (λ t. pieces_of_symbols (symbols_after false t)) (sym rest) ∙ is in
+fits_valid glob path pieces places takes negated whole odd reached there =
     let test : (takes ≡ true) ↔ Takes pieces path 0 (length path) = (
       (λ e. (reached.these (length path)).0 (there ∙ ap Some e)),
       (λ t. some_true takes (sym there ∙ (reached.these (length path)).1 t)),
@@ -39,7 +42,5 @@ fits_valid glob path text pieces places takes negated rest is odd reached there 
     rw (odd, whole) all
 
 -- an invalid glob fits nothing
-pub fits_invalid : (glob path text : List ℕ) → text ≡ drop (negations glob) glob → pieces_of_symbols (symbols_after false text) ≡ None → ¬ Fits glob path
-fits_invalid glob path text rest is fits =
-    let whole : pieces_of glob ≡ None = ap (λ t. pieces_of_symbols (symbols_after false t)) (sym rest) ∙ is in
-    rw whole at fits
+pub fits_invalid : (glob path : List ℕ) → pieces_of glob ≡ None → ¬ Fits glob path
+fits_invalid glob path whole fits = rw whole at fits

@@ -1,5 +1,6 @@
 pub mod Braces
 pub mod Examples
+pub mod GlobRead
 pub mod Laws
 pub mod Pieces
 pub mod Places

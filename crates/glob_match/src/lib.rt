@@ -17,6 +17,7 @@
 
 mod braces;
 mod examples;
+mod glob;
 mod laws;
 mod matching;
 mod parse;
@@ -25,6 +26,7 @@ mod places;
 mod validity;
 
 pub use examples::{globs_are_read_as_in_the_examples, globs_fit_as_in_the_examples};
+pub use glob::Glob;
 pub use laws::{one_more_sign_turns_the_answer, plain_fits_itself};
 pub use matching::glob_match;
 pub use validity::glob_valid;

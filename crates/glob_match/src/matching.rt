@@ -8,7 +8,7 @@ ghost use Rattle.glob_match.specs.Braces.{IsTokenStep};
 ghost use Rattle.glob_match.specs.Takes.{Fits};
 
 use crate::braces::{Brace, close_brace, open_brace, part_brace};
-use crate::parse::{after_signs, read};
+use crate::glob::Glob;
 use crate::piece::Token;
 use crate::places::{after_piece, start_alone};
 use sd_edge::NoMemory;
@@ -36,7 +36,7 @@ fn after_token(
 }
 
 /// The places to which the pieces of a glob lead from the path's start.
-fn places_after(alloc: Global, tokens: &[Token], path: &[char]) -> Result<Vec<bool>, NoMemory>
+pub fn places_after(alloc: Global, tokens: &[Token], path: &[char]) -> Result<Vec<bool>, NoMemory>
     ensures { IfOk result (λ places. (pieces : Pieces) → pieces_of_tokens (Some tokens.now) ≡ Some pieces → IsReached pieces path.now places.items) }
 {
     let mut places = start_alone(alloc, path.len())?;
@@ -45,18 +45,6 @@ fn places_after(alloc: Global, tokens: &[Token], path: &[char]) -> Result<Vec<bo
         after_token(alloc, token, path, &mut braces, &mut places)?;
     }
     Ok(places)
-}
-
-/// Whether a glob fits a path, both by their characters.
-fn fits(alloc: Global, glob: &[char], path: &[char]) -> Result<bool, NoMemory>
-    ensures { IfOk result (λ fits. IsTrue fits ↔ Fits glob.now path.now) }
-{
-    let (negated, text) = after_signs(glob);
-    let Some(tokens) = read(alloc, text)? else {
-        return Ok(false);
-    };
-    let places = places_after(alloc, &tokens, path)?;
-    Ok(places[path.len()] != negated)
 }
 
 /// Whether a glob is valid and fits a path.
@@ -68,9 +56,10 @@ fn fits(alloc: Global, glob: &[char], path: &[char]) -> Result<bool, NoMemory>
 pub fn glob_match(alloc: Global, glob: &str, path: &str) -> Result<bool, NoMemory>
     ensures { IfOk result (λ fits. IsTrue fits ↔ Fits (chars glob.now) (chars path.now)) }
 {
-    let glob: Vec<char> = glob.chars().collect(alloc)?;
-    let path: Vec<char> = path.chars().collect(alloc)?;
-    fits(alloc, &glob, &path)
+    match Glob::read(alloc, glob)? {
+        None => Ok(false),
+        Some(glob) => glob.fits(alloc, path),
+    }
 }
 
 #[cfg(test)]
