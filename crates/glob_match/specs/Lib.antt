@@ -2,6 +2,7 @@ pub mod Braces
 pub mod Examples
 pub mod GlobRead
 pub mod Laws
+pub mod Onward
 pub mod Pieces
 pub mod Places
 pub mod Reading
