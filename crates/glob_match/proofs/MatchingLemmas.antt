@@ -83,21 +83,21 @@ LeadsRight depth left path stack places pieces = (rest : Rest) × (rest_of depth
 
 -- ---- one token
 
-piece_rest : (p : Piece) (o : Option Rest) (rest : Rest) → with_piece p o ≡ Some rest → (next : Rest) × (o ≡ Some next) × (rest ≡ piece_before p next)
+pub piece_rest : (p : Piece) (o : Option Rest) (rest : Rest) → with_piece p o ≡ Some rest → (next : Rest) × (o ≡ Some next) × (rest ≡ piece_before p next)
 piece_rest p None rest e = absurd (cc)
 piece_rest p (Some next) rest e = (next, refl, cc)
 
-opened_rest : (o : Option Rest) (rest : Rest) → opened o ≡ Some rest → (left : Pieces) × (others : Options) × (next : Rest) × (o ≡ Some (inside left others next)) × (rest ≡ brace_before (option left others) next)
+pub opened_rest : (o : Option Rest) (rest : Rest) → opened o ≡ Some rest → (left : Pieces) × (others : Options) × (next : Rest) × (o ≡ Some (inside left others next)) × (rest ≡ brace_before (option left others) next)
 opened_rest None rest e = absurd (cc)
 opened_rest (Some (outside left)) rest e = absurd (cc)
 opened_rest (Some (inside left others next)) rest e = (left, others, next, refl, cc)
 
-parted_rest : (o : Option Rest) (rest : Rest) → parted o ≡ Some rest → (left : Pieces) × (others : Options) × (next : Rest) × (o ≡ Some (inside left others next)) × (rest ≡ inside no_pieces (option left others) next)
+pub parted_rest : (o : Option Rest) (rest : Rest) → parted o ≡ Some rest → (left : Pieces) × (others : Options) × (next : Rest) × (o ≡ Some (inside left others next)) × (rest ≡ inside no_pieces (option left others) next)
 parted_rest None rest e = absurd (cc)
 parted_rest (Some (outside left)) rest e = absurd (cc)
 parted_rest (Some (inside left others next)) rest e = (left, others, next, refl, cc)
 
-closed_rest : (o : Option Rest) (rest : Rest) → closed o ≡ Some rest → (next : Rest) × (o ≡ Some next) × (rest ≡ inside no_pieces no_options next)
+pub closed_rest : (o : Option Rest) (rest : Rest) → closed o ≡ Some rest → (next : Rest) × (o ≡ Some next) × (rest ≡ inside no_pieces no_options next)
 closed_rest None rest e = absurd (cc)
 closed_rest (Some next) rest e = (next, refl, cc)
 
@@ -115,7 +115,7 @@ after_step p o rest path stack places next pieces is these step =
       ),
     )
 
-piece_is : (depth : ℕ) (p : Piece) (left : List Token) → rest_of depth (token.Piece p ∷ left) ≡ with_piece p (rest_of depth left)
+pub piece_is : (depth : ℕ) (p : Piece) (left : List Token) → rest_of depth (token.Piece p ∷ left) ≡ with_piece p (rest_of depth left)
 piece_is zero p left = refl
 piece_is (suc depth) p left = refl
 
@@ -124,7 +124,7 @@ right_piece : (depth : ℕ) (p : Piece) (left : List Token) (path : List ℕ) (s
 right_piece depth p left path stack places next pieces (rest, is, these) step = after_step p (rest_of depth left) rest path stack places next pieces (sym (piece_is depth p left) ∙ is) these step
 
 -- a brace opened at depth ten is none
-open_is : (depth : ℕ) (left : List Token) (rest : Rest) → rest_of depth (token.Open ∷ left) ≡ Some rest → opened (rest_of (suc depth) left) ≡ Some rest
+pub open_is : (depth : ℕ) (left : List Token) (rest : Rest) → rest_of depth (token.Open ∷ left) ≡ Some rest → opened (rest_of (suc depth) left) ≡ Some rest
 open_is zero left rest is = is
 open_is (suc depth) left rest is = go (suc depth == 10) refl
   where
@@ -206,7 +206,7 @@ TokensLeadRight left path braces places pieces = LeadsRight (length braces) left
 length_last : {A : Type 0} (xs : List A) (x : A) → length (xs ++ x ∷ []) ≡ suc (length xs)
 length_last xs x = omega (arith, length-append xs (x ∷ []))
 
-reverse_last : {A : Type 0} (xs : List A) (x : A) → reverse (xs ++ x ∷ []) ≡ x ∷ reverse xs
+pub reverse_last : {A : Type 0} (xs : List A) (x : A) → reverse (xs ++ x ∷ []) ≡ x ∷ reverse xs
 reverse_last xs x = reverse-append xs (x ∷ [])
 
 -- with an innermost brace, the depth and the stack are one more
@@ -269,10 +269,10 @@ right_more token.Close left path braces after places next pieces right step = el
 abbrev pub AreOfPlaces : ℕ → List OpenBrace → List Bool → Type 0
 AreOfPlaces n braces places = All (IsOfPlaces n) braces × (length places ≡ n)
 
-without_last : (n : ℕ) (braces outer : List OpenBrace) (one : OpenBrace) → braces ≡ outer ++ one ∷ [] → All (IsOfPlaces n) braces → All (IsOfPlaces n) outer × IsOfPlaces n one
+pub without_last : (n : ℕ) (braces outer : List OpenBrace) (one : OpenBrace) → braces ≡ outer ++ one ∷ [] → All (IsOfPlaces n) braces → All (IsOfPlaces n) outer × IsOfPlaces n one
 without_last n braces outer one is all = All-pop (IsOfPlaces n) braces outer (Some one) is all
 
-with_one_more : (n : ℕ) (after outer : List OpenBrace) (one : OpenBrace) → after ≡ outer ++ one ∷ [] → All (IsOfPlaces n) outer → IsOfPlaces n one → All (IsOfPlaces n) after
+pub with_one_more : (n : ℕ) (after outer : List OpenBrace) (one : OpenBrace) → after ≡ outer ++ one ∷ [] → All (IsOfPlaces n) outer → IsOfPlaces n one → All (IsOfPlaces n) after
 with_one_more n after outer one is all here =
     subst (λ (bs : List OpenBrace). All (IsOfPlaces n) bs) (sym is) (All-append (IsOfPlaces n) outer (one ∷ []) all (All-cons (IsOfPlaces n) one [] here (All-nil (IsOfPlaces n))))
 

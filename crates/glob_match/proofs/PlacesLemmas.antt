@@ -20,13 +20,13 @@ pub record IsTurned (P : ℕ → Type 0) (old now : List Bool) (k : ℕ) : Type 
   pub rest : (to : ℕ) → k ≤ to → slice_get now to ≡ slice_get old to
 
 -- what is written is there
-set_here : (xs : List Bool) (k : ℕ) (b : Bool) → k < length xs → slice_get (set xs k b) k ≡ Some b
+pub set_here : (xs : List Bool) (k : ℕ) (b : Bool) → k < length xs → slice_get (set xs k b) k ≡ Some b
 set_here [] k b lt = absurd (omega arith)
 set_here (x ∷ xs) zero b lt = refl
 set_here (x ∷ xs) (suc k) b lt = set_here xs k b (omega arith)
 
 -- a write leaves the other places
-set_elsewhere : (xs : List Bool) (k to : ℕ) (b : Bool) → to ≢ k → slice_get (set xs k b) to ≡ slice_get xs to
+pub set_elsewhere : (xs : List Bool) (k to : ℕ) (b : Bool) → to ≢ k → slice_get (set xs k b) to ≡ slice_get xs to
 set_elsewhere [] k to b other = refl
 set_elsewhere (x ∷ xs) zero zero b other = absurd (other refl)
 set_elsewhere (x ∷ xs) zero (suc to) b other = refl

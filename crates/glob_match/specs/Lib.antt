@@ -1,3 +1,4 @@
+pub mod Backward
 pub mod Braces
 pub mod Examples
 pub mod GlobRead

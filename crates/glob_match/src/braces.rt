@@ -10,10 +10,10 @@ use sd_edge::NoMemory;
 use std::alloc::Global;
 use std::marker::Model;
 
-/// A brace that is open.
+/// A brace that is open. Where a glob is taken from its end, a brace begins at its `}`.
 #[derive(Drop)]
 pub struct Brace {
-    /// The places before it, from which each option begins.
+    /// The places where it begins, and so each option.
     start: Vec<bool>,
     /// The places to which its options so far lead.
     reached: Vec<bool>,
@@ -28,7 +28,7 @@ impl Model for Brace {
 }
 
 /// The empty set of places.
-fn nowhere(alloc: Global, places: usize) -> Result<Vec<bool>, NoMemory>
+pub fn nowhere(alloc: Global, places: usize) -> Result<Vec<bool>, NoMemory>
     ensures { IfOk result (λ none. IsNowhere places none.items) }
 {
     let mut none = Vec::new(alloc);
@@ -61,7 +61,7 @@ impl Brace {
     }
 
     /// Ends an option that leads to these places, and goes back to the brace's start for the next one.
-    fn next_option(self, places: &mut [bool]) -> Brace
+    pub fn next_option(self, places: &mut [bool]) -> Brace
         requires { IsOfPlaces (length places.old) self }
         ensures start { result.start ≡ self.start }
         ensures reached { IsUnion self.reached places.old result.reached }
@@ -71,6 +71,14 @@ impl Brace {
         add(places, &mut reached);
         places.copy_from_slice(&start);
         Brace { start, reached }
+    }
+
+    /// Ends the last option, and goes on from the places to which any of the options leads.
+    pub fn close(self, places: &mut [bool])
+        requires { IsOfPlaces (length places.old) self }
+        ensures { IsUnion places.old self.reached places.new }
+    {
+        add(&self.reached, places);
     }
 }
 
@@ -109,6 +117,6 @@ pub fn close_brace(braces: &mut Vec<Brace>, path: &[char], places: &mut [bool])
 {
     match braces.pop() {
         None => after_piece(&Piece::One(Single::Character('}')), path, places),
-        Some(brace) => add(&brace.reached, places),
+        Some(brace) => brace.close(places),
     }
 }

@@ -20,6 +20,7 @@ mod examples;
 mod glob;
 mod laws;
 mod matching;
+mod onward;
 mod parse;
 mod piece;
 mod places;

@@ -48,7 +48,7 @@ impl Single {
 }
 
 /// Whether it takes the character that stands right after a place.
-fn takes_at(single: &Single, path: &[char], place: usize) -> bool
+pub fn takes_at(single: &Single, path: &[char], place: usize) -> bool
     ensures { IsTrue result ↔ TakesAt single.now path.now place }
 {
     match path.get(place) {
@@ -71,7 +71,7 @@ fn after_one(single: &Single, path: &[char], places: &mut [bool])
 }
 
 /// Whether a `/` stands right after a place.
-fn is_separator(path: &[char], place: usize) -> bool
+pub fn is_separator(path: &[char], place: usize) -> bool
     ensures { IsTrue result ↔ (slice_get path.now place ≡ Some 47) }
 {
     path.get(place) == Some(&'/')
@@ -91,7 +91,7 @@ fn after_run(path: &[char], places: &mut [bool])
 }
 
 /// Whether a place is the path's start, or just after a `/`.
-fn is_after_separator(path: &[char], place: usize) -> bool
+pub fn is_after_separator(path: &[char], place: usize) -> bool
     ensures { IsTrue result ↔ IsAfterSeparator path.now place }
 {
     place == 0 || is_separator(path, place - 1)
