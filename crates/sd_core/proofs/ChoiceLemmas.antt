@@ -12,9 +12,9 @@ use Rattle.sd_edge.specs.Files.{Describes, kind_of, len_of, path_text}
 use Rattle.sd_edge.specs.declared.meta.Kind.TheVariants as kind
 use Rattle.sd_edge.specs.declared.meta.Meta.{Meta}
 use Rattle.sd_edge.proofs.PathTextLemmas.{directory_stands, differs, text_below, text_not_followed, text_top}
-use Rattle.sd_core.specs.declared.globs.Piece.{Piece}
 use Rattle.sd_core.specs.declared.listing.Pending.{Pending}
-use Rattle.sd_core.specs.Chosen.{FitsAny, IsChosen}
+use Rattle.sd_core.specs.Chosen.{IsChosen}
+use Rattle.sd_core.specs.Globs.{FitsAny}
 use Rattle.sd_core.specs.Walk.{child_text, IsFolderAt, IsPendingAt, IsWithin}
 
 -- a folder's text, and what it is not: the names follow after `/`
@@ -95,13 +95,13 @@ module _ {tree : Tree} {root place : NameList} {top : List ℕ} {node : Pending}
   names_are same below = below (join_with_byte 47 here.within.0) (same ∙ path_below)
 
   -- a chosen file's names fit
-  pub chosen_fits : {globs : List (List Piece)} {names : List ℕ} → names ≡ join_with_byte 47 here.within.0 → IsChosen tree root globs place → FitsAny globs names
+  pub chosen_fits : {globs : List (List ℕ)} {names : List ℕ} → names ≡ join_with_byte 47 here.within.0 → IsChosen tree root globs place → FitsAny globs names
   chosen_fits {globs} are chosen =
       let same : chosen.names ≡ here.within.0 = append_cancel_left root chosen.names here.within.0 (sym chosen.below ∙ here.within.1) in
       subst (λ (text : List ℕ). FitsAny globs text) (ap (join_with_byte 47) same ∙ sym are) chosen.fits
 
   -- a file whose names fit is chosen exactly if it is regular and has a byte
-  pub fitting_chosen : {globs : List (List Piece)} {shown names : List ℕ} {meta : Meta} (old : DiskState) → old.tree ≡ tree → shown ≡ node.path → names ≡ join_with_byte 47 here.within.0 → FitsAny globs names
+  pub fitting_chosen : {globs : List (List ℕ)} {shown names : List ℕ} {meta : Meta} (old : DiskState) → old.tree ≡ tree → shown ≡ node.path → names ≡ join_with_byte 47 here.within.0 → FitsAny globs names
       → Describes old shown false meta → ((meta.kind ≡ kind.File) × (0 < meta.len)) ↔ IsChosen tree root globs place
   fitting_chosen {globs} {shown} old same is_path are fits told = (
     (λ (k, some).

@@ -4,7 +4,6 @@ use Rattle.std.specs.List.Sorted.{IsStrictlySortedBy}
 use Rattle.std.specs.Cmp.{IsTotalOrder, tied_itself}
 use Rattle.sd_edge.specs.Tree.{NameList, Tree, name_list_cmp}
 use Rattle.sd_edge.specs.Files.{path_text}
-use Rattle.sd_core.specs.declared.globs.Piece.{Piece}
 use Rattle.sd_core.specs.Chosen.{IsListOf, Chosen, ListsChosen}
 use Rattle.sd_core.proofs.StackLemmas.{In, in_from_contains, contains_from_in, in_from_all, place_total}
 
@@ -60,11 +59,11 @@ one_list_of P xs ys h k =
     )
 
 -- there is one list of chosen files
-pub one_chosen : (tree : Tree) (root : NameList) (globs : List (List Piece)) (xs ys : List NameList) → Chosen tree root globs xs → Chosen tree root globs ys → xs ≡ ys
+pub one_chosen : (tree : Tree) (root : NameList) (globs : List (List ℕ)) (xs ys : List NameList) → Chosen tree root globs xs → Chosen tree root globs ys → xs ≡ ys
 one_chosen tree root globs xs ys h k = one_list_of _ xs ys h k
 
 -- and one list of their paths
-pub one_list_of_paths : (tree : Tree) (root : List ℕ) (globs : List (List Piece)) (xs ys : List (List ℕ)) → ListsChosen tree root globs xs → ListsChosen tree root globs ys → xs ≡ ys
+pub one_list_of_paths : (tree : Tree) (root : List ℕ) (globs : List (List ℕ)) (xs ys : List (List ℕ)) → ListsChosen tree root globs xs → ListsChosen tree root globs ys → xs ≡ ys
 one_list_of_paths tree root globs xs ys h k =
     let top : k.top ≡ h.top = cc (h.leads, k.leads) in
     let same = one_chosen tree h.top globs h.places k.places h.chosen (subst (λ (t : NameList). Chosen tree t globs k.places) top k.chosen) in

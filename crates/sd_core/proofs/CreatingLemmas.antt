@@ -247,6 +247,7 @@ disk_cause tells old s t disk.Absent e low cause not_taken not_absent is = recor
   fault_is = λ fault at. inr cc;
   no_job = λ jobs at. cc;
   no_root = λ at. cc;
+  no_glob = λ place at. cc;
 }
 disk_cause tells old s t disk.Taken e low cause not_taken not_absent is = absurd (not_taken refl)
 disk_cause tells old s t disk.Failed e low cause not_taken not_absent is = record {
@@ -255,6 +256,7 @@ disk_cause tells old s t disk.Failed e low cause not_taken not_absent is = recor
   fault_is = λ fault at. inl cc;
   no_job = λ jobs at. cc;
   no_root = λ at. cc;
+  no_glob = λ place at. cc;
 }
 disk_cause tells old s t disk.NoMemory e low cause not_taken not_absent is = record {
   never_falls = omega (arith, cause.never_falls);
@@ -262,4 +264,5 @@ disk_cause tells old s t disk.NoMemory e low cause not_taken not_absent is = rec
   fault_is = λ fault at. cc;
   no_job = λ jobs at. cc;
   no_root = λ at. cc;
+  no_glob = λ place at. cc;
 }

@@ -4,15 +4,14 @@ pub mod CreatingLemmas
 pub mod EntryLemmas
 pub mod ExchangeLemmas
 pub mod FillingLemmas
+pub mod GlobsLemmas
 pub mod NewBytesLemmas
 pub mod OneReplacementLemmas
 pub mod OrderLemmas
-pub mod PlacesLemmas
 pub mod ReportLemmas
 pub mod ReservedPathLemmas
 pub mod RunLemmas
 pub mod SearchLemmas
 pub mod StackLemmas
-pub mod StarLemmas
 pub mod SweepLemmas
 pub mod WalkLemmas

@@ -1,5 +1,5 @@
 -- A file with its new bytes.
-use Rattle.std.proofs.Common.{◌≤◌, ◌≡◌, ◌≢◌, ◌⊎◌, ℕ, Bool, true, false, not, List, [], ◌∷◌, length, refl, sym, ◌∙◌, ap, subst, inl, inr, arith}
+use Rattle.std.proofs.Common.{◌≤◌, ◌≡◌, ◌≢◌, ◌⊎◌, ℕ, Bool, true, false, not, List, [], length, refl, sym, ◌∙◌, ap, subst, inl, inr, arith}
 use Rattle.std.specs.Prelude.{Option, Some, None, is_some, IsTrue, Result, Ok, Err, IsErrAnd}
 use Rattle.std.specs.Option.{option_and_then}
 use Rattle.std.specs.Str.{bytes_eq}
@@ -17,7 +17,8 @@ use Rattle.sd_core.specs.Rewriting.{ReplacesCover, NewBytes, IsFilePath, Rewrite
 use Rattle.grep_matcher.specs.Span.{Span}
 use Rattle.grep_matcher.specs.Cover.{prefers, IsFirst}
 use Rattle.grep_matcher.proofs.CoverLemmas.{cover_from_chain}
-use Rattle.sd_core.specs.Plain.{end_of_text, text_lawful}
+use Rattle.grep_matcher.specs.Plain.{end_of_text}
+use Rattle.grep_matcher.specs.PlainLemmas.{text_lawful}
 use Rattle.sd_core.specs.Temporary.{HasBytes, Exchanges, LeavesBytes, HasDiskCause}
 use Rattle.sd_core.proofs.FillingLemmas.{leads_to_file}
 use Rattle.sd_core.proofs.CreatingLemmas.{placed, disk_cause}
@@ -119,6 +120,7 @@ rewriting_cause tells old new path r cause = record {
   job = λ jobs e. absurd (cause.no_job jobs e);
   job_risen = λ jobs untold e. absurd (cause.no_job jobs e);
   no_root = cause.no_root;
+  no_glob = cause.no_glob;
 }
 
 -- reading counts no fault away

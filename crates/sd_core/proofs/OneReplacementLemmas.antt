@@ -5,7 +5,8 @@ use Rattle.std.proofs.lemmas.List.Elements.{recursion_from_All, All-weaker}
 use Rattle.std.proofs.lemmas.Slice.Eq.{starts_is}
 use Rattle.std.proofs.lemmas.Bool.Decides.{Decides-eqb}
 use Rattle.grep_matcher.specs.Span.{Span}
-use Rattle.sd_core.specs.Plain.{end_of_text, text_lawful, text_end}
+use Rattle.grep_matcher.specs.Plain.{end_of_text}
+use Rattle.grep_matcher.specs.PlainLemmas.{text_lawful, text_end}
 use Rattle.grep_matcher.specs.Replaced.{replaced_from}
 use Rattle.sd_core.specs.Rewriting.{NewBytes}
 use Rattle.grep_matcher.proofs.CoverLemmas.{fair_cover_unique}

@@ -7,7 +7,7 @@ use Rattle.std.proofs.lemmas.Option.{none-some}
 use Rattle.sd_edge.proofs.WayLemmas.{cond_some_then}
 use Rattle.sd_edge.specs.Tree.{Tree}
 use Rattle.sd_core.specs.declared.report.Report.{Report}
-use Rattle.sd_core.specs.Words.{TreeOrder, tree_order, is_tree_form, is_plain_find, is_plain_replacement, is_simple_glob, is_value}
+use Rattle.sd_core.specs.Words.{TreeOrder, tree_order, is_tree_form, is_plain_find, is_plain_replacement, is_value}
 use Rattle.sd_core.specs.Headline.{RewritesTree, LeavesTree}
 use Rattle.sd_core.proofs.SweepLemmas.{rewrites_leave}
 
@@ -17,11 +17,10 @@ plain_is_long [] e = absurd (false≢true e)
 plain_is_long (c ∷ find) e = omega arith
 
 -- the find text of a tree command stands for itself
-form_is_plain : (option root dashes find replacement glob : List ℕ) → is_tree_form option root dashes find replacement glob ≡ true → is_plain_find find ≡ true
-form_is_plain option root dashes find replacement glob e =
+form_is_plain : (option root dashes find replacement : List ℕ) → is_tree_form option root dashes find replacement ≡ true → is_plain_find find ≡ true
+form_is_plain option root dashes find replacement e =
     let begins = bytes_eq option (codes "--root") && is_value root && bytes_eq dashes (codes "--") in
-    let but_glob = (and_parts (begins && is_plain_find find && is_plain_replacement replacement) (is_simple_glob glob) e).0 in
-    let but_replacement = (and_parts (begins && is_plain_find find) (is_plain_replacement replacement) but_glob).0 in
+    let but_replacement = (and_parts (begins && is_plain_find find) (is_plain_replacement replacement) e).0 in
     (and_parts begins (is_plain_find find) but_replacement).1
 
 -- the find text of an order, or no text
@@ -33,8 +32,8 @@ find_of (Some order) = order.find
 pub order_finds : (words : List (List ℕ)) (order : TreeOrder) → tree_order words ≡ Some order → 0 < length order.find
 unfolding find_of
 order_finds (option ∷ root ∷ dashes ∷ find ∷ replacement ∷ glob ∷ []) order e =
-    let given = cond_some_then (is_tree_form option root dashes find replacement glob) _ order e in
-    let long = plain_is_long find (form_is_plain option root dashes find replacement glob given.0) in
+    let given = cond_some_then (is_tree_form option root dashes find replacement) _ order e in
+    let long = plain_is_long find (form_is_plain option root dashes find replacement given.0) in
     let same = ap (λ o. length (find_of o)) given.1 in
     omega arith
 order_finds [] order e = absurd (none-some order e)

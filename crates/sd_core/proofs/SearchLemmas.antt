@@ -1,14 +1,13 @@
 -- A plain text that is searched for from a place on.
-use Rattle.std.proofs.Common.{◌≡◌, ℕ, ◌+◌, ◌-◌, ◌<◌, ◌≤◌, List, [], ◌∷◌, ◌++◌, arith, refl, ◌∙◌, ap, length, drop, take, eqb, true, Option, Some, None, cond, length-drop, take_all}
+use Rattle.std.proofs.Common.{◌≡◌, ℕ, ◌+◌, ◌-◌, ◌≤◌, List, [], ◌∷◌, ◌++◌, arith, refl, ◌∙◌, ap, length, drop, take, eqb, true, Some, None, cond, length-drop, take_all}
 use Rattle.std.specs.List.{starts_with}
 use Rattle.std.proofs.lemmas.Slice.Eq.{starts_is}
 use Rattle.std.proofs.lemmas.List.{drop-drop}
 use Rattle.std.proofs.lemmas.Bool.Decides.{Decides-eqb}
 use Rattle.memchr.specs.Find.{OccursAt, FindsNeedle}
 use Rattle.memchr.proofs.lemmas.MatchLemmas.{OccursAt-split, OccursAt-from_part}
-use Rattle.grep_matcher.specs.Span.{Span}
-use Rattle.grep_matcher.specs.Cover.{NoneBetween, IsFirst}
-use Rattle.sd_core.specs.Plain.{Text, text_end, text_fits}
+use Rattle.grep_matcher.specs.Cover.{IsFirst}
+use Rattle.grep_matcher.specs.PlainLemmas.{Text, text_end, text_fits}
 
 -- where a text occurs, the rest of the list begins with it
 occurs_starts : (s find : List ℕ) (k : ℕ) → OccursAt s find k → starts_with eqb (drop k s) find ≡ true

@@ -1,6 +1,6 @@
 -- Files rewritten one after the other.
 use Rattle.std.proofs.Common.{◌≡◌, ◌≢◌, ◌↔◌, ◌⊎◌, ℕ, ◌+◌, ◌<◌, ◌≤◌, Bool, true, false, cond, List, [], ◌∷◌, ◌++◌, take, drop, length, get_or, refl, sym, ◌∙◌, ap, subst, inl, inr, arith, Less, Equal}
-use Rattle.std.specs.Prelude.{Option, Some, None, IsSome, is_some, IsTrue, Contains, chars}
+use Rattle.std.specs.Prelude.{Option, Some, None, IsSome, is_some, IsTrue, Contains}
 use Rattle.std.specs.List.Sorted.{IsStrictlySortedBy}
 use Rattle.std.specs.Str.{bytes_eq}
 use Rattle.std.specs.Cmp.Lexicographic.{bytes_decides}
@@ -18,8 +18,6 @@ use Rattle.sd_core.specs.declared.error.JobFault.TheVariants.{TempName}
 use Rattle.sd_core.specs.declared.report.Report.{Report}
 use Rattle.sd_core.specs.declared.rewriting.Rewrite.{Rewrite}
 use Rattle.sd_core.specs.Rewriting.{IsFilePath, RewritesFile, IsOldOrNew, LeavesFile, Reserved, NoneFree}
-use Rattle.sd_core.specs.declared.globs.Piece.{Piece}
-use Rattle.sd_core.specs.Glob.{pieces_of}
 use Rattle.sd_core.specs.Words.{TreeOrder}
 use Rattle.sd_core.specs.Chosen.{Chosen, ListsChosen}
 use Rattle.sd_core.specs.Headline.{IsRewritten, RewritesOnly, change_of, CountsFile, Counts, RewritesTree, LeavesFiles, LeavesTree, HasNoRoomBeside, HasNoRoom}
@@ -339,9 +337,9 @@ module _ (old : Tree) (find replacement : List ℕ) (places : List NameList) whe
 
 -- ---- the chosen files of a command
 
-module _ (old mid : Tree) (order : TreeOrder) (globs : List (List Piece)) (paths : List (List ℕ)) (same : mid ≡ old) (one : globs ≡ pieces_of (chars order.glob) ∷ []) (listed : ListsChosen old order.root globs paths) where
-  chosen_places : Chosen old listed.top (pieces_of (chars order.glob) ∷ []) listed.places
-  chosen_places = subst (λ (gs : List (List Piece)). Chosen old listed.top gs listed.places) one listed.chosen
+module _ (old mid : Tree) (order : TreeOrder) (globs : List (List ℕ)) (paths : List (List ℕ)) (same : mid ≡ old) (one : globs ≡ order.globs) (listed : ListsChosen old order.root globs paths) where
+  chosen_places : Chosen old listed.top order.globs listed.places
+  chosen_places = subst (λ (gs : List (List ℕ)). Chosen old listed.top gs listed.places) one listed.chosen
 
   -- the paths that were listed are those of files
   pub file_paths : AreFilePaths mid listed.places paths

@@ -18,7 +18,6 @@ use Rattle.sd_edge.specs.declared.meta.Kind.TheVariants as kind
 use Rattle.sd_edge.specs.declared.meta.Meta.{Meta}
 use Rattle.sd_edge.specs.declared.meta.RawEntry.{RawEntry}
 use Rattle.sd_edge.proofs.PathTextLemmas.{above, directory_stands, text_directory, text_not_followed}
-use Rattle.sd_core.specs.declared.globs.Piece.{Piece}
 use Rattle.sd_core.specs.declared.listing.Pending.{Pending}
 use Rattle.sd_core.specs.Chosen.{IsChosen, ListsChosen}
 use Rattle.sd_core.specs.Walk.{pending_in, StacksEntries, IsFolderAt, IsPendingAt, IsWithin, ListsBelow}
@@ -89,7 +88,7 @@ entries_pending tree is place there (entry ∷ entries) told = (
 pub folder_leads : {tree : Tree} {place : NameList} {text : List ℕ} → IsTree tree → IsFolderAt tree place text → IsSome (directory_of tree text)
 folder_leads {tree} {place} is folder = ap is_some (ap (directory_of tree) folder.text_is ∙ text_directory tree place is folder.is_directory)
 
-module _ (tree : Tree) (is : IsTree tree) (root : NameList) (globs : List (List Piece)) where
+module _ (tree : Tree) (is : IsTree tree) (root : NameList) (globs : List (List ℕ)) where
   -- what is chosen at or below a name in a folder shows that something stands under that name
   name_stands : (folder : NameList) (name : Name) (rest : NameList) → IsChosen tree root globs (folder ++ name ∷ rest) → IsSome (node_at tree (folder ++ name ∷ []))
   name_stands folder name rest chosen =
@@ -140,7 +139,7 @@ module _ (tree : Tree) (is : IsTree tree) (root : NameList) (globs : List (List 
 -- ---- how far a walk has come
 
 -- what is chosen so far, and the nodes that it hasn't come to yet, the next one last
-pub record HasCome (tree : Tree) (root : NameList) (globs : List (List Piece)) (chosen : List (List ℕ)) (pending : List Pending) : Type 0 where
+pub record HasCome (tree : Tree) (root : NameList) (globs : List (List ℕ)) (chosen : List (List ℕ)) (pending : List Pending) : Type 0 where
   pub found : List NameList
   pub places : List NameList
   pub walked : IsWalked (IsChosen tree root globs) root found places
@@ -148,7 +147,7 @@ pub record HasCome (tree : Tree) (root : NameList) (globs : List (List Piece)) (
   pub stand : AllPendingAt tree places (reverse pending)
 
 -- the same, where the next node is taken off
-pub record IsNext (tree : Tree) (root : NameList) (globs : List (List Piece)) (chosen : List (List ℕ)) (node : Pending) (rest : List Pending) : Type 0 where
+pub record IsNext (tree : Tree) (root : NameList) (globs : List (List ℕ)) (chosen : List (List ℕ)) (node : Pending) (rest : List Pending) : Type 0 where
   pub found : List NameList
   pub place : NameList
   pub places : List NameList
@@ -158,10 +157,10 @@ pub record IsNext (tree : Tree) (root : NameList) (globs : List (List Piece)) (c
   pub others : AllPendingAt tree places (reverse rest)
 
 -- what `is_chosen` says of a node
-abbrev pub IsJudged : Tree → List ℕ → List (List Piece) → Pending → Bool → Type 0
+abbrev pub IsJudged : Tree → List ℕ → List (List ℕ) → Pending → Bool → Type 0
 IsJudged tree top globs node answer = (root place : NameList) → IsFolderAt tree root top → IsPendingAt tree place node → IsWithin root place → IsTrue answer ↔ IsChosen tree root globs place
 
-pub next_of : {tree : Tree} {root : NameList} {globs : List (List Piece)} {chosen : List (List ℕ)} (old rest : List Pending) (node : Pending) → old ≡ rest ++ node ∷ [] → HasCome tree root globs chosen old → IsNext tree root globs chosen node rest
+pub next_of : {tree : Tree} {root : NameList} {globs : List (List ℕ)} {chosen : List (List ℕ)} (old rest : List Pending) (node : Pending) → old ≡ rest ++ node ∷ [] → HasCome tree root globs chosen old → IsNext tree root globs chosen node rest
 next_of {tree} {root} {globs} {chosen} old rest node whole came =
     by came.places came.walked (subst (λ (nodes : List Pending). AllPendingAt tree came.places nodes) (ap reverse whole ∙ reverse-append rest (node ∷ [])) came.stand)
   where
@@ -169,7 +168,7 @@ next_of {tree} {root} {globs} {chosen} old rest node whole came =
     by [] walked stand = absurd stand
     by (place ∷ places) walked stand = record { found = came.found; place = place; places = places; walked = walked; chosen_are = came.chosen_are; stands = stand.0; others = stand.1 }
 
-module _ {tree : Tree} (is : IsTree tree) {root : NameList} {globs : List (List Piece)} {chosen : List (List ℕ)} where
+module _ {tree : Tree} (is : IsTree tree) {root : NameList} {globs : List (List ℕ)} {chosen : List (List ℕ)} where
   -- at first the top's nodes are pending
   pub came_first : {top : List ℕ} {old new : List Pending} → IsFolderAt tree root top → chosen ≡ [] → old ≡ [] → StacksEntries tree top old new → HasCome tree root globs chosen new
   came_first {top} {old} {new} folder none empty stacks =
@@ -238,7 +237,7 @@ module _ {tree : Tree} (is : IsTree tree) {root : NameList} {globs : List (List 
     }
 
 -- at the end all chosen files are found
-pub came_last : {tree : Tree} {root : NameList} {globs : List (List Piece)} {chosen : List (List ℕ)} {pending : List Pending} → pending ≡ [] → HasCome tree root globs chosen pending → ListsBelow tree root globs chosen
+pub came_last : {tree : Tree} {root : NameList} {globs : List (List ℕ)} {chosen : List (List ℕ)} {pending : List Pending} → pending ≡ [] → HasCome tree root globs chosen pending → ListsBelow tree root globs chosen
 came_last {tree} {root} {globs} {chosen} none came = by came.places came.walked (subst (λ (nodes : List Pending). AllPendingAt tree came.places (reverse nodes)) none came.stand)
   where
     by : (places : List NameList) → IsWalked (IsChosen tree root globs) root came.found places → AllPendingAt tree places [] → ListsBelow tree root globs chosen
@@ -252,7 +251,7 @@ came_last {tree} {root} {globs} {chosen} none came = by came.places came.walked 
     by (place ∷ places) walked stand = absurd stand
 
 -- below a root that is no directory nothing is chosen
-pub none_chosen : {old now : DiskState} {root : List ℕ} {globs : List (List Piece)} {meta : Meta} {paths : List (List ℕ)} → IsTree old.tree → SameTree old now → Describes now root true meta → meta.kind ≢ kind.Directory → paths ≡ []
+pub none_chosen : {old now : DiskState} {root : List ℕ} {globs : List (List ℕ)} {meta : Meta} {paths : List (List ℕ)} → IsTree old.tree → SameTree old now → Describes now root true meta → meta.kind ≢ kind.Directory → paths ≡ []
     → ListsChosen old.tree root globs paths
 unfolding IsStrictlySortedBy
 none_chosen {old} {now} {root} {globs} is same told no_folder none =

@@ -1,10 +1,9 @@
 -- What a tree command does to a tree, and what it leaves after a refusal.
-use Rattle.std.specs.Prelude.{◌≡◌, ◌≤◌, ◌+◌, ◌⊎◌, ℕ, List, [], ◌∷◌, length, chars, Contains, Some, true, if◌then◌else◌}
+use Rattle.std.specs.Prelude.{◌≡◌, ◌≤◌, ◌+◌, ◌⊎◌, ℕ, List, [], ◌∷◌, length, Contains, Some, true, if◌then◌else◌}
 use Rattle.std.specs.Str.{bytes_eq}
 use Rattle.sd_edge.specs.Tree.{NameList, Tree, node_at, file_at}
 use Rattle.sd_edge.specs.Paths.{reached, parent_of}
 use Rattle.sd_edge.specs.Files.{path_text}
-use Rattle.sd_core.specs.Glob.{pieces_of}
 use Rattle.sd_core.specs.Words.{TreeOrder}
 use Rattle.sd_core.specs.Chosen.{Chosen}
 use Rattle.sd_core.specs.Rewriting.{NewBytes, IsOldOrNew, Free, NoneFree}
@@ -55,7 +54,7 @@ pub record RewritesTree (old : Tree) (order : TreeOrder) (report : Report) (new 
   pub top : NameList
   pub leads : reached old order.root true ≡ Some top
   pub places : List NameList
-  pub chosen : Chosen old top (pieces_of (chars order.glob) ∷ []) places
+  pub chosen : Chosen old top order.globs places
   pub rewritten : RewritesOnly old order.find order.replacement places new
   pub chosen_count : report.chosen ≡ length places
   pub counts : Counts old order.find order.replacement places report.changed report.replaced
@@ -79,7 +78,7 @@ pub record LeavesChosen (old : Tree) (order : TreeOrder) (new : Tree) : Type 0 w
   pub top : NameList
   pub leads : reached old order.root true ≡ Some top
   pub places : List NameList
-  pub chosen : Chosen old top (pieces_of (chars order.glob) ∷ []) places
+  pub chosen : Chosen old top order.globs places
   pub left : LeavesFiles old order.find order.replacement places new
 
 -- what a tree command leaves at every exit: all as it was, or the chosen files old or new
@@ -98,5 +97,5 @@ pub record HasNoRoom (tree : Tree) (order : TreeOrder) (jobs : FailedJobs) : Typ
   pub top : NameList
   pub leads : reached tree order.root true ≡ Some top
   pub places : List NameList
-  pub chosen : Chosen tree top (pieces_of (chars order.glob) ∷ []) places
+  pub chosen : Chosen tree top order.globs places
   pub no_room : HasNoRoomBeside tree places jobs

@@ -1,9 +1,7 @@
 pub mod Chosen
 pub mod Fault
-pub mod Glob
+pub mod Globs
 pub mod Headline
-pub mod Places
-pub mod Plain
 pub mod Report
 pub mod Rewriting
 pub mod Run

@@ -1,5 +1,5 @@
 -- What a run of the program does, and why it ends as it does.
-use Rattle.std.specs.Prelude.{◌≡◌, ◌<◌, ◌≤◌, ◌⊎◌, ℕ, Bool, false, IsTrue, List, [], ◌∷◌, ◌++◌, chars, Some, true, Contains}
+use Rattle.std.specs.Prelude.{◌≡◌, ◌<◌, ◌≤◌, ◌⊎◌, ℕ, Bool, false, IsTrue, List, [], ◌∷◌, ◌++◌, Some, true, Contains}
 use Rattle.sd_edge.specs.Count.{HasRisen}
 use Rattle.sd_edge.specs.Tree.{NameList, Tree}
 use Rattle.sd_edge.specs.Paths.{reached, parent_of}
@@ -13,7 +13,6 @@ use Rattle.sd_core.specs.declared.error.JobFault.TheVariants.{TempName}
 use Rattle.sd_core.specs.declared.report.Report.{Report}
 use Rattle.sd_core.specs.declared.top.Why.{Why}
 use Rattle.sd_core.specs.declared.top.Why.TheVariants.{Done, Fault, NotYet}
-use Rattle.sd_core.specs.Glob.{pieces_of}
 use Rattle.sd_core.specs.Words.{TreeOrder}
 use Rattle.sd_core.specs.Chosen.{Chosen}
 use Rattle.sd_core.specs.Rewriting.{Free, HasRisenBy, reserved_names}
@@ -42,7 +41,7 @@ pub record FailsToPrint (old : Tree) (order : TreeOrder) (new : Tree) (tells_byt
 abbrev pub HasRoom : Tree → TreeOrder → Type 0
 HasRoom tree order =
     (top : NameList) (places : List NameList) (place : NameList) → reached tree order.root true ≡ Some top
-    → Chosen tree top (pieces_of (chars order.glob) ∷ []) places → Contains places place
+    → Chosen tree top order.globs places → Contains places place
     → (temporary : NameList) × Free tree (parent_of place) temporary
 
 -- The counts of faults never fall. A fault of a file is `Failed` or `Absent`, and comes only where the count of the disk or of the sink rose

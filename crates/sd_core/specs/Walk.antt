@@ -12,8 +12,7 @@ use Rattle.sd_edge.specs.declared.fault.DiskFault.{DiskFault}
 use Rattle.sd_edge.specs.declared.fault.DiskFault.TheVariants as disk
 use Rattle.sd_core.specs.declared.error.FailedJobs.{FailedJobs}
 use Rattle.sd_core.specs.declared.error.Error.{Error}
-use Rattle.sd_core.specs.declared.error.Error.TheVariants.{File, RootMissing, FailedProcessing}
-use Rattle.sd_core.specs.declared.globs.Piece.{Piece}
+use Rattle.sd_core.specs.declared.error.Error.TheVariants.{File, RootMissing, FailedProcessing, BadGlob}
 use Rattle.sd_core.specs.declared.listing.Pending.{Pending}
 use Rattle.sd_core.specs.Chosen.{Chosen}
 
@@ -36,13 +35,14 @@ pub record LeavesLists (old new : DiskState) : Type 0 where
 -- ---- why it is refused
 
 -- The count of faults never falls. A fault of the disk is `Failed` or `Absent`, and comes only where the count rose or stands at its last value;
--- on a disk that doesn't tell its tree, a missing root comes only where the count rose. A listing has no failed jobs.
+-- on a disk that doesn't tell its tree, a missing root comes only where the count rose. A listing has no failed jobs, and reads no glob.
 pub record HasListingCause {T : Type 0} (tells : Bool) (old new : DiskState) (result : Result T Error) : Type 0 where
   pub never_falls : old.faults ≤ new.faults
   pub risen : (fault : DiskFault) → IsErrOf result (File fault) → HasRisen old.faults new.faults
   pub fault_is : (fault : DiskFault) → IsErrOf result (File fault) → (fault ≡ disk.Failed) ⊎ (fault ≡ disk.Absent)
   pub root_missing : tells ≡ false → IsErrOf result RootMissing → old.faults < new.faults
   pub no_jobs : (jobs : FailedJobs) → result ≢ Err (FailedProcessing jobs)
+  pub no_glob : (place : ℕ) → result ≢ Err (BadGlob place)
 
 -- a fault is want of memory, or else `Failed` or `Absent` with a counted fault
 abbrev pub IsCounted : DiskFault → DiskState → DiskState → Type 0
@@ -99,7 +99,7 @@ abbrev pub IsWithin : NameList → NameList → Type 0
 IsWithin top place = (names : NameList) × (place ≡ top ++ names)
 
 -- the paths of the chosen files below a directory, in the order of their places
-pub record ListsBelow (tree : Tree) (top : NameList) (globs : List (List Piece)) (paths : List (List ℕ)) : Type 0 where
+pub record ListsBelow (tree : Tree) (top : NameList) (globs : List (List ℕ)) (paths : List (List ℕ)) : Type 0 where
   pub places : List NameList
   pub chosen : Chosen tree top globs places
   pub paths_are : paths ≡ map path_text places

@@ -3,12 +3,12 @@ use Rattle.std.specs.Prelude.{◌==◌, ◌&&◌, ◌||◌, ℕ, Bool, false, no
 use Rattle.std.specs.List.{list_any}
 use Rattle.std.specs.Str.{bytes_eq}
 
--- a tree command: the root, the text to find, the text that takes its place, and the glob of the files
+-- a tree command: the root, the text to find, the text that takes its place, and the globs of the files
 pub record TreeOrder : Type 0 where
   pub root : List ℕ
   pub find : List ℕ
   pub replacement : List ℕ
-  pub glob : List ℕ
+  pub globs : List (List ℕ)
 
 -- whether a word can be the value of an option: it is nonempty and doesn't begin with `-`
 abbrev pub is_value : List ℕ → Bool
@@ -34,33 +34,15 @@ is_reference c = c == 36 || c == 92
 abbrev pub is_plain_replacement : List ℕ → Bool
 is_plain_replacement replacement = not (list_any is_reference (chars replacement))
 
--- `?`, `[`, `{` or `\`
-abbrev pub is_glob_form : ℕ → Bool
-is_glob_form c = c == 63 || c == 91 || c == 123 || c == 92
-
--- two `*` in a row
-abbrev pub has_star_token : List ℕ → Bool
-has_star_token [] = false
-has_star_token (c ∷ []) = false
-has_star_token (c ∷ d ∷ glob) = (c == 42 && d == 42) || has_star_token (d ∷ glob)
-
-abbrev pub begins_negated : List ℕ → Bool
-begins_negated [] = false
-begins_negated (c ∷ glob) = c == 33
-
--- a glob of characters and `*` alone
-abbrev pub is_simple_glob : List ℕ → Bool
-is_simple_glob glob = not (begins_negated glob) && not (has_star_token glob) && not (list_any is_glob_form (chars glob))
-
 -- `--root DIR -- FIND REPLACE_WITH GLOB`, where the texts are of forms that are built
-abbrev pub is_tree_form : List ℕ → List ℕ → List ℕ → List ℕ → List ℕ → List ℕ → Bool
-is_tree_form option root dashes find replacement glob =
+abbrev pub is_tree_form : List ℕ → List ℕ → List ℕ → List ℕ → List ℕ → Bool
+is_tree_form option root dashes find replacement =
     bytes_eq option (codes "--root") && is_value root && bytes_eq dashes (codes "--")
-    && is_plain_find find && is_plain_replacement replacement && is_simple_glob glob
+    && is_plain_find find && is_plain_replacement replacement
 
 -- the tree command that the words are, or none: they are of another form, or of one that isn't built yet
 abbrev pub tree_order : List (List ℕ) → Option TreeOrder
 tree_order (option ∷ root ∷ dashes ∷ find ∷ replacement ∷ glob ∷ []) =
-    if is_tree_form option root dashes find replacement glob
-    then Some (record { root = root; find = find; replacement = replacement; glob = glob }) else None
+    if is_tree_form option root dashes find replacement
+    then Some (record { root = root; find = find; replacement = replacement; globs = glob ∷ [] }) else None
 tree_order _ = None

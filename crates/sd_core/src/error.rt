@@ -20,6 +20,9 @@ pub enum Error {
     /// These files could not be processed.
     #[error("failed processing files:\n\t{0}")]
     FailedProcessing(FailedJobs),
+    /// The glob at this place among the globs, counted from 0, is the first that is invalid.
+    #[error("invalid glob at place {0}")]
+    BadGlob(usize),
     /// The root leads to no node.
     #[error("the root leads to nothing")]
     RootMissing,

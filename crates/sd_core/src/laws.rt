@@ -2,16 +2,15 @@
 
 ghost use Rattle.std.specs.Prelude.{◌≡◌, ℕ, List};
 ghost use Rattle.sd_edge.specs.Tree.{NameList, Tree};
-ghost use Rattle.sd_core.specs.declared.globs.Piece.{Piece};
 ghost use Rattle.sd_core.specs.Chosen.{Chosen, ListsChosen};
 ghost use Rattle.sd_core.specs.Rewriting.{NewBytes};
 
 /// A tree, a place and globs determine the list of the chosen files below the place. A tree, a root and globs determine
 /// the list of their paths.
 pub fn one_list_of_chosen_files()
-    ensures places { (tree : Tree) (top : NameList) (globs : List (List Piece)) (xs ys : List NameList) → Chosen tree top globs xs
+    ensures places { (tree : Tree) (top : NameList) (globs : List (List ℕ)) (xs ys : List NameList) → Chosen tree top globs xs
         → Chosen tree top globs ys → xs ≡ ys }
-    ensures paths { (tree : Tree) (root : List ℕ) (globs : List (List Piece)) (xs ys : List (List ℕ)) → ListsChosen tree root globs xs
+    ensures paths { (tree : Tree) (root : List ℕ) (globs : List (List ℕ)) (xs ys : List (List ℕ)) → ListsChosen tree root globs xs
         → ListsChosen tree root globs ys → xs ≡ ys }
 {}
 

@@ -5,7 +5,6 @@
 #![tactic(auto)]
 
 mod error;
-mod globs;
 mod laws;
 mod listing;
 mod report;

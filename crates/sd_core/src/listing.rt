@@ -8,11 +8,12 @@ ghost use Rattle.sd_edge.specs.Disk.{SameTree, SameLists};
 ghost use Rattle.sd_edge.specs.Files.{LeadsNowhere};
 ghost use Rattle.sd_edge.specs.Lists.{IsOpen, SameOtherLists, SameOpen, directory_of};
 ghost use Rattle.sd_edge.specs.declared.meta.RawEntry.{RawEntry};
-ghost use Rattle.sd_core.specs.Chosen.{FitsAny, IsChosen, ListsChosen};
+ghost use Rattle.sd_core.specs.Globs.{FitsAny};
+ghost use Rattle.sd_core.specs.Chosen.{IsChosen, ListsChosen};
 ghost use Rattle.sd_core.specs.Walk.{listable, TakesEntries, LeavesLists, HasListingCause, HasStepCause, HasLeft, ListsNames, child_text, StacksEntries, IsFolderAt, IsPendingAt, IsWithin, ListsBelow};
 
-use crate::globs::Glob;
 use crate::{Error, Result};
+use glob_match::Glob;
 use sd_edge::{Disk, DiskFault, Kind, ListId, NoMemory, RawEntry, Text};
 use std::alloc::Global;
 

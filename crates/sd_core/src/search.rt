@@ -1,7 +1,8 @@
 //! Texts in the place of texts.
 
 ghost use Rattle.std.specs.Prelude.{◌≡◌, ◌+◌, ◌-◌, ◌^◌, ◌++◌, length, min, false, true, [], IfOk, OnOk, OnErr};
-ghost use Rattle.sd_core.specs.Plain.{end_of_text, text_lawful, no_groups};
+ghost use Rattle.grep_matcher.specs.Plain.{end_of_text};
+ghost use Rattle.grep_matcher.specs.PlainLemmas.{text_lawful, no_groups};
 ghost use Rattle.sd_core.specs.Rewriting.{ReplacesCover};
 
 use grep_matcher::{Fault, Match, Matcher, NoCaptures};

@@ -1,12 +1,13 @@
 //! The program, from its words to its status.
 
-ghost use Rattle.std.specs.Prelude.{◌≡◌, ◌≢◌, ◌↔◌, ◌⊎◌, true, false, None, Some, IsTrue, IsSome};
+ghost use Rattle.std.specs.Prelude.{◌≡◌, ◌≢◌, ◌↔◌, ◌⊎◌, ℕ, true, false, None, Some, IsTrue, IsSome, All};
 ghost use Rattle.sd_edge.specs.Count.{HasRisen};
 ghost use Rattle.sd_edge.specs.Paths.{reached};
 ghost use Rattle.sd_edge.specs.Files.{LeadsNowhere};
 ghost use Rattle.sd_core.specs.declared.error.Error.{Error};
 ghost use Rattle.sd_core.specs.declared.error.FailedJobs.{FailedJobs};
 ghost use Rattle.sd_core.specs.Words.{TreeOrder, tree_order};
+ghost use Rattle.sd_core.specs.Globs.{IsValid, IsFirstInvalid};
 ghost use Rattle.sd_core.specs.Walk.{LeavesLists};
 ghost use Rattle.sd_core.specs.Headline.{LeavesTree, HasNoRoom};
 ghost use Rattle.sd_core.specs.Run.{IsStatusOf, DoesOrder, FailsToPrint, HasRoom, HasRunCause};
@@ -41,8 +42,8 @@ pub enum Why {
 /// Runs the program on the words after its name.
 ///
 /// `--root DIR -- FIND REPLACE_WITH GLOB` replaces FIND by REPLACE_WITH in the files below DIR whose path from there
-/// fits GLOB, and prints how many files were chosen and changed and how many texts were replaced. The tree is listed
-/// whole before the first file is written. A file is written under a reserved name beside it and then renamed. However
+/// fits GLOB, and prints how many files were chosen and changed and how many texts were replaced. An invalid glob is told
+/// before the disk is asked for anything. The tree is listed whole before the first file is written. A file is written under a reserved name beside it and then renamed. However
 /// the run ends, each file is then old or new. Whatever goes wrong is printed to `err`, after `error: `.
 pub fn run<D: Disk, S: Source, O: Sink, E: Sink>(
     alloc: Global,
@@ -66,11 +67,15 @@ pub fn run<D: Disk, S: Source, O: Sink, E: Sink>(
         ⊎ ((error ≡ Error.File DiskFault.Failed) × FailsToPrint (D.state disk.old).tree order (D.state disk.new).tree O.tells (O.state out.old) (O.state out.new)) }
     ensures root_missing { IsTrue D.tells → (order : TreeOrder) → tree_order words.now ≡ Some order → result.why ≡ Why.Fault Error.RootMissing
         → LeadsNowhere (D.state disk.old) order.root true × ((D.state disk.new).tree ≡ (D.state disk.old).tree) }
+    ensures bad_glob { (order : TreeOrder) → tree_order words.now ≡ Some order → (place : ℕ) → result.why ≡ Why.Fault (Error.BadGlob place)
+        → IsFirstInvalid order.globs place × (D.state disk.new ≡ D.state disk.old) × (O.state out.new ≡ O.state out.old) }
+    ensures invalid { (order : TreeOrder) → tree_order words.now ≡ Some order → (place : ℕ) → IsFirstInvalid order.globs place
+        → (result.why ≡ Why.Fault (Error.BadGlob place)) ⊎ (result.why ≡ Why.Fault Error.NoMemory) }
     ensures no_room { IsTrue D.tells → (order : TreeOrder) → tree_order words.now ≡ Some order → (jobs : FailedJobs)
         → result.why ≡ Why.Fault (Error.FailedProcessing jobs) → HasNoRoom (D.state disk.old).tree order jobs }
     ensures cause { HasRunCause D.tells (D.state disk.old) (D.state disk.new) (O.state out.old) (O.state out.new) result.why }
     ensures complete { IsTrue D.tells → (order : TreeOrder) → tree_order words.now ≡ Some order
-        → IsSome (reached (D.state disk.old).tree order.root true) → HasRoom (D.state disk.old).tree order
+        → IsSome (reached (D.state disk.old).tree order.root true) → All IsValid order.globs → HasRoom (D.state disk.old).tree order
         → (HasRisen (D.state disk.old).faults (D.state disk.new).faults → ⊥) → (HasRisen (O.state out.old).faults (O.state out.new).faults → ⊥)
         → (result.why ≡ Why.Done) ⊎ (result.why ≡ Why.Fault Error.NoMemory) }
 {
@@ -103,6 +108,10 @@ fn why_ended<D: Disk, O: Sink>(alloc: Global, words: &Words, disk: &mut D, out: 
         ⊎ ((error ≡ Error.File DiskFault.Failed) × FailsToPrint (D.state disk.old).tree order (D.state disk.new).tree O.tells (O.state out.old) (O.state out.new)) }
     ensures root_missing { IsTrue D.tells → (order : TreeOrder) → tree_order words.now ≡ Some order → result ≡ Why.Fault Error.RootMissing
         → LeadsNowhere (D.state disk.old) order.root true × ((D.state disk.new).tree ≡ (D.state disk.old).tree) }
+    ensures bad_glob { (order : TreeOrder) → tree_order words.now ≡ Some order → (place : ℕ) → result ≡ Why.Fault (Error.BadGlob place)
+        → IsFirstInvalid order.globs place × (D.state disk.new ≡ D.state disk.old) × (O.state out.new ≡ O.state out.old) }
+    ensures invalid { (order : TreeOrder) → tree_order words.now ≡ Some order → (place : ℕ) → IsFirstInvalid order.globs place
+        → (result ≡ Why.Fault (Error.BadGlob place)) ⊎ (result ≡ Why.Fault Error.NoMemory) }
     ensures no_room { IsTrue D.tells → (order : TreeOrder) → tree_order words.now ≡ Some order → (jobs : FailedJobs)
         → result ≡ Why.Fault (Error.FailedProcessing jobs) → HasNoRoom (D.state disk.old).tree order jobs }
     ensures cause { HasRunCause D.tells (D.state disk.old) (D.state disk.new) (O.state out.old) (O.state out.new) result }

@@ -16,7 +16,6 @@ pub struct TreeCommand<'a> {
     pub find: &'a str,
     /// A text that stands for itself.
     pub replacement: &'a str,
-    /// A glob of characters and `*`.
     pub glob: &'a str,
 }
 
@@ -42,14 +41,13 @@ pub fn tree_command(words: &Words) -> Option<TreeCommand<'_>>
 }
 
 fn is_tree_form(option: &str, dashes: &str, command: &TreeCommand<'_>) -> bool
-    ensures { result ≡ form.is_tree_form option.now command.now.root.now dashes.now command.now.find.now command.now.replacement.now command.now.glob.now }
+    ensures { result ≡ form.is_tree_form option.now command.now.root.now dashes.now command.now.find.now command.now.replacement.now }
 {
     option == "--root"
         && is_value(command.root)
         && dashes == "--"
         && is_plain_find(command.find)
         && is_plain_replacement(command.replacement)
-        && is_simple_glob(command.glob)
 }
 
 /// Whether a word can be the value of an option: it is nonempty and doesn't begin with `-`.
@@ -91,42 +89,4 @@ fn has_reference(text: &str) -> bool
     ensures { result ≡ list_any form.is_reference (chars text.now) }
 {
     text.chars().any(|c| c == '$' || c == '\\')
-}
-
-/// Whether a glob has no piece but characters and `*`.
-fn is_simple_glob(glob: &str) -> bool
-    ensures { result ≡ form.is_simple_glob glob.now }
-{
-    !begins_negated(glob) && !has_star_token(glob) && !has_glob_form(glob)
-}
-
-fn begins_negated(glob: &str) -> bool
-    ensures { result ≡ form.begins_negated glob.now }
-{
-    match glob.as_bytes().first() {
-        None => false,
-        Some(byte) => *byte == b'!',
-    }
-}
-
-/// Whether two `*` stand in a row.
-fn has_star_token(glob: &str) -> bool
-    ensures { result ≡ form.has_star_token glob.now }
-{
-    let mut after_star = false;
-    for byte in glob.as_bytes() {
-        let is_star = *byte == b'*';
-        if after_star && is_star {
-            return true;
-        }
-        after_star = is_star;
-    }
-    false
-}
-
-fn has_glob_form(glob: &str) -> bool
-    ensures { result ≡ list_any form.is_glob_form (chars glob.now) }
-{
-    glob.chars()
-        .any(|c| c == '?' || c == '[' || c == '{' || c == '\\')
 }

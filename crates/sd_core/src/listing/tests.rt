@@ -2,10 +2,13 @@ use super::*;
 use sd_edge::MemDisk;
 use std::test::Fail;
 
+/// The valid ones of these globs.
 fn globs_of(alloc: Global, texts: &[&str]) -> Result<Vec<Glob>, Fail> {
     let mut globs = Vec::new(alloc);
     for text in texts {
-        globs.push(Glob::new(alloc, text)?)?;
+        if let Some(glob) = Glob::read(alloc, text)? {
+            globs.push(glob)?;
+        }
     }
     Ok(globs)
 }

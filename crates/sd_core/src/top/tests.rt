@@ -203,10 +203,74 @@ fn words_of_other_forms_are_not_built_yet(rt: HostRuntime) -> Result<(), Fail> {
     assert!(rt; is_not_built(alloc, &["--root", "/t", "--", "o.e", "1", "*"])?);
     assert!(rt; is_not_built(alloc, &["--root", "/t", "--", "one", "$1", "*"])?);
     assert!(rt; is_not_built(alloc, &["--root", "/t", "--", "one", "1\\n", "*"])?);
-    assert!(rt; is_not_built(alloc, &["--root", "/t", "--", "one", "1", "!*"])?);
-    assert!(rt; is_not_built(alloc, &["--root", "/t", "--", "one", "1", "**"])?);
-    assert!(rt; is_not_built(alloc, &["--root", "/t", "--", "one", "1", "{a,b}"])?);
-    assert!(rt; is_not_built(alloc, &["--root", "/t", "--", "one", "1", "[a]?"])?);
     assert!(rt; is_not_built(alloc, &["one", "1"])?);
+    Ok(())
+}
+
+#[test]
+fn an_invalid_glob_is_told_before_the_disk_is_asked(rt: HostRuntime) -> Result<(), Fail> {
+    let alloc = rt.alloc();
+    let eleven_braces = "{{{{{{{{{{{}}}}}}}}}}}";
+    for glob in ["{a", "[!]", "[a", "a\\", "!\\", eleven_braces] {
+        for root in ["/t", "/none"] {
+            let mut disk = two_files(alloc)?;
+            let words = ["--root", root, "--", "one", "1", glob];
+            let run = run_words(alloc, &mut disk, &words, 1000)?;
+            assert_eq!(rt; run.ended.status, 1, "{glob}");
+            assert!(rt;
+                matches!(run.ended.why, Why::Fault(Error::BadGlob(0))),
+                "{glob}"
+            );
+            assert_eq!(rt;
+                run.err.bytes(),
+                b"error: invalid glob at place 0\n".as_slice(),
+                "{glob}"
+            );
+            assert_eq!(rt; run.out.bytes().len(), 0, "{glob}");
+            assert_eq!(rt; disk.calls(), 0, "{glob}");
+        }
+    }
+    Ok(())
+}
+
+#[test]
+fn globs_of_all_forms_choose_files(rt: HostRuntime) -> Result<(), Fail> {
+    let alloc = rt.alloc();
+    let cases = [
+        ("*.{txt,md}", "chosen 2, changed 2, replaced 3\n"),
+        ("!*.md", "chosen 1, changed 1, replaced 2\n"),
+        ("!!*.md", "chosen 1, changed 1, replaced 1\n"),
+        ("**", "chosen 2, changed 2, replaced 3\n"),
+        ("**/a.txt", "chosen 1, changed 1, replaced 2\n"),
+        ("?.[^t]*", "chosen 1, changed 1, replaced 1\n"),
+        ("a\\.txt", "chosen 1, changed 1, replaced 2\n"),
+        ("b\\*", "chosen 0, changed 0, replaced 0\n"),
+    ];
+    for (glob, report) in cases {
+        let mut disk = two_files(alloc)?;
+        let words = ["--root", "/t", "--", "one", "1", glob];
+        let run = run_words(alloc, &mut disk, &words, 1000)?;
+        assert_eq!(rt; run.ended.status, 0, "{glob}");
+        assert_eq!(rt; run.out.bytes(), report.as_bytes(), "{glob}");
+    }
+    Ok(())
+}
+
+#[test]
+fn a_hostile_glob_answers_at_once(rt: HostRuntime) -> Result<(), Fail> {
+    let alloc = rt.alloc();
+    let mut path = String::from_str(alloc, "/")?;
+    for _ in 0..3000 {
+        path.push('a')?;
+    }
+    let mut disk = MemDisk::new(alloc);
+    disk.add_file(path.as_str(), b"one", 0o600)?;
+    let words = ["--root", "/", "--", "one", "1", "*a*a*a*a*a*b"];
+    let run = run_words(alloc, &mut disk, &words, 1000)?;
+    assert_eq!(rt; run.ended.status, 0);
+    assert_eq!(rt;
+        run.out.bytes(),
+        b"chosen 0, changed 0, replaced 0\n".as_slice()
+    );
     Ok(())
 }

@@ -1,4 +1,4 @@
-use Rattle.std.proofs.Common.{◌≡◌, ◌∙◌, sym, ap, subst, length, List, ℕ, Err, eqb-true}
+use Rattle.std.proofs.Common.{◌∙◌, ap, subst, List, ℕ, Err}
 use Rattle.sd_edge.specs.declared.fault.DiskFault.{DiskFault}
 use Rattle.sd_core.specs.Rewriting.{NewBytes}
 use Rattle.sd_core.proofs.FillingLemmas.{at_err, passed_on}

@@ -1,37 +1,33 @@
-use Rattle.std.proofs.Common.{◌≡◌, List, [], ◌∷◌, ◌++◌, ◌∙◌, sym, subst}
+use Rattle.std.proofs.Common.{◌∙◌, sym, subst}
 use Rattle.std.proofs.lemmas.Result.{IfOk-weaker, on_err_weaker}
 use Rattle.sd_core.specs.Chosen.{ListsChosen}
 use Rattle.sd_core.specs.WordsRead.{order_of}
 use Rattle.sd_core.proofs.SweepLemmas.{file_paths, rewrites_tree, leaves_tree, no_room_in_tree}
 use Rattle.sd_core.proofs.sweep.sweep.Goals as goal
 
--- a command has one glob
-one_glob : {P : Type 0} (globs pushed none : List P) (read glob : P) → globs ≡ pushed → pushed ≡ none ++ read ∷ [] → none ≡ [] → read ≡ glob → globs ≡ glob ∷ []
-one_glob globs pushed none read glob same push empty is = same ∙ push ∙ (λ i. empty i ++ is i ∷ [])
-
 pub rewrite_all-requires-clause-files : goal.rewrite_all-requires-clause-files
 rewrite_all-requires-clause-files g c = λ told.
-    let globs = one_glob _ _ _ _ _ c.deref.ensures.value c.in_ok-push.ensures.items c.new-globs.ensures.items c.in_ok-new.ensures in
+    let globs = c.deref.ensures.value ∙ c.in_ok-globs.ensures.read in
     let listed = subst (ListsChosen (g.D.Disk.state c.args.disk.now).tree c.args.command.now.root.now c.deref.result.now) (sym c.deref-2.ensures.value) (c.in_ok-chosen.ensures.chosen told) in
     (listed.places, file_paths _ _ (order_of c.args.command.now) _ _ c.in_ok-chosen.ensures.tree.tree globs listed)
 
 pub returns-clause-rewritten : goal.returns-clause-rewritten
 returns-clause-rewritten g c = λ told.
-    let globs = one_glob _ _ _ _ _ c.deref.ensures.value c.in_ok-push.ensures.items c.new-globs.ensures.items c.in_ok-new.ensures in
+    let globs = c.deref.ensures.value ∙ c.in_ok-globs.ensures.read in
     let listed = subst (ListsChosen (g.D.Disk.state c.args.disk.now).tree c.args.command.now.root.now c.deref.result.now) (sym c.deref-2.ensures.value) (c.in_ok-chosen.ensures.chosen told) in
     IfOk-weaker c.rewrite_all.result _ _ (λ report r. rewrites_tree _ _ (order_of c.args.command.now) _ _ c.in_ok-chosen.ensures.tree.tree globs listed report _ r)
     (c.rewrite_all.ensures.rewritten told listed.places (file_paths _ _ (order_of c.args.command.now) _ _ c.in_ok-chosen.ensures.tree.tree globs listed))
 
 pub returns-clause-refused : goal.returns-clause-refused
 returns-clause-refused g c = λ told.
-    let globs = one_glob _ _ _ _ _ c.deref.ensures.value c.in_ok-push.ensures.items c.new-globs.ensures.items c.in_ok-new.ensures in
+    let globs = c.deref.ensures.value ∙ c.in_ok-globs.ensures.read in
     let listed = subst (ListsChosen (g.D.Disk.state c.args.disk.now).tree c.args.command.now.root.now c.deref.result.now) (sym c.deref-2.ensures.value) (c.in_ok-chosen.ensures.chosen told) in
     on_err_weaker c.rewrite_all.result (λ left. leaves_tree _ _ (order_of c.args.command.now) _ _ c.in_ok-chosen.ensures.tree.tree globs listed _ left)
     (c.rewrite_all.ensures.refused told listed.places (file_paths _ _ (order_of c.args.command.now) _ _ c.in_ok-chosen.ensures.tree.tree globs listed))
 
 pub returns-clause-no_room : goal.returns-clause-no_room
 returns-clause-no_room g c = λ told jobs is.
-    let globs = one_glob _ _ _ _ _ c.deref.ensures.value c.in_ok-push.ensures.items c.new-globs.ensures.items c.in_ok-new.ensures in
+    let globs = c.deref.ensures.value ∙ c.in_ok-globs.ensures.read in
     let listed = subst (ListsChosen (g.D.Disk.state c.args.disk.now).tree c.args.command.now.root.now c.deref.result.now) (sym c.deref-2.ensures.value) (c.in_ok-chosen.ensures.chosen told) in
     no_room_in_tree _ _ (order_of c.args.command.now) _ _ c.in_ok-chosen.ensures.tree.tree globs listed jobs
     (c.rewrite_all.ensures.no_room told listed.places (file_paths _ _ (order_of c.args.command.now) _ _ c.in_ok-chosen.ensures.tree.tree globs listed) jobs is)

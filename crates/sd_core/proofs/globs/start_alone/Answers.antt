@@ -1,5 +1,0 @@
-use Rattle.sd_core.proofs.PlacesLemmas.{start_more}
-use Rattle.sd_core.proofs.globs.start_alone.Goals as goal
-
-pub loop-preserved : goal.loop-preserved
-loop-preserved c = start_more _ _ _ c.loop.invariant c.in_ok-push-2.ensures.items
