@@ -12,6 +12,7 @@ mod memory;
 mod meta;
 mod open_lists;
 mod path_texts;
+mod steps;
 mod stream;
 mod text;
 
@@ -32,5 +33,6 @@ pub use path_texts::{
     texts_of_places_below_a_folder, texts_of_places_hold_their_names, texts_of_places_lead_there,
     texts_of_places_name_them,
 };
+pub use steps::{Ledger, Silent, Steps, Tally};
 pub use stream::{Sink, Source};
 pub use text::{Globs, Patterns, Text, Texts, Words};
