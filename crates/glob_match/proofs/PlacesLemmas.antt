@@ -7,7 +7,7 @@ use Rattle.glob_match.specs.declared.piece.Single.{Single}
 use Rattle.glob_match.specs.declared.piece.Piece.{Piece}
 use Rattle.glob_match.specs.declared.piece.Piece.TheVariants.{One, AnyRun, AnyDepth, AnyRest}
 use Rattle.glob_match.specs.Takes.{IsAfterSeparator}
-use Rattle.glob_match.specs.Places.{Holds, TakesAt, LeadsTo, IsStep, IsStartAlone}
+use Rattle.glob_match.specs.Places.{Holds, TakesAt, LeadsTo, IsStep, IsStartAlone, IsUnion}
 
 -- a test that is there as `true`
 pub some_true : (b : Bool) → Some b ≡ Some true → b ≡ true
@@ -200,6 +200,43 @@ pub rest_more : (path : List ℕ) (old now : List Bool) (k : ℕ) (reached next 
 rest_more path old now k reached next so_far lt long is = star_more AnyRest (λ _. Unit {0}) path old now k reached next next
     (λ to within. ((λ l. ((l.0, l.1, omega (arith, l.2.0)), tt)), (λ h. (h.0.0, h.0.1, (omega (arith, h.0.2), within)))))
     so_far lt long is ((λ e. (e, tt)), (λ h. h.0))
+
+-- a place is in one of two sets
+abbrev pub HoldsOneOf : List Bool → List Bool → ℕ → Type 0
+HoldsOneOf some others to = Holds some to ⊎ Holds others to
+
+-- a test of a set is whether it holds the place
+test_holds : (places : List Bool) (k : ℕ) → k < length places → (get_or places k false ≡ true) ↔ Holds places k
+test_holds places k lt =
+    let there : slice_get places k ≡ Some (get_or places k false) = slice_get-get_or places k false lt in
+    ((λ e. there ∙ ap (λ (x : Bool). Some x) e), (λ e. some_true (get_or places k false) (sym there ∙ e)))
+
+-- one more turn of the loop that adds the places of another set
+pub union_more : (some others now : List Bool) (k : ℕ) (b : Bool) → IsTurned (HoldsOneOf some others) some now k → k < length now → k < length others
+    → (b ≡ true) ↔ ((get_or now k false ≡ true) ⊎ (get_or others k false ≡ true)) → IsTurned (HoldsOneOf some others) some (set now k b) (k + 1)
+union_more some others now k b turned lt lt_others is =
+    let old_test = turned_old (HoldsOneOf some others) some now k turned lt in
+    let other_test = test_holds others k lt_others in
+    turned_more (HoldsOneOf some others) some now k b turned lt (
+      (λ e. elim (is.0 e) [ inl test ↦ inl (old_test.0 test) | inr test ↦ inr (other_test.0 test) ]),
+      (λ holds. is.1 (elim holds [ inl here ↦ inl (old_test.1 here) | inr there ↦ inr (other_test.1 there) ])),
+    )
+
+-- a set turned to its end holds the places of both
+pub union_all : (some others now : List Bool) (k : ℕ) → length others ≡ length some → length some ≤ k → IsTurned (HoldsOneOf some others) some now k → IsUnion some others now
+union_all some others now k long all turned = record {
+  as_long = turned.as_long;
+  these = λ to. elim (cases_lt to k) [
+    | inl within ↦ turned.done to within
+    | inr beyond ↦ (
+      (λ e. absurd (let inside = slice_get_within now to true e in omega (arith, turned.as_long))),
+      (λ holds. absurd (elim holds [
+        | inl here ↦ let inside = slice_get_within some to true here in omega arith
+        | inr there ↦ let inside = slice_get_within others to true there in omega arith
+      ])),
+    )
+  ];
+}
 
 -- `false` at the end adds nothing to a set
 push_false : (xs : List Bool) (to : ℕ) → Holds (xs ++ (false ∷ [])) to ↔ Holds xs to

@@ -89,3 +89,37 @@ after_passed text more d character lt last first others is =
     let left : drop (more + 1) text ≡ drop more others = rw (is, add-one) refl in
     let all : take (length text - (more + 1)) (drop more others) ≡ drop more others = take_all _ _ (omega (arith, ap length is, length-drop more others)) in
     rw (left, all, last, is) (passed more first others d within)
+
+-- ---- how many there are
+
+-- what was read is at most so long, where it was read
+abbrev pub IsAtMost : {A : Type 0} → ℕ → Option (List A) → Type 0
+IsAtMost n None = Unit {0}
+IsAtMost n (Some xs) = length xs ≤ n
+
+at_most_before : {A : Type 0} (n m : ℕ) (x : A) (read : Option (List A)) → n + 1 ≤ m → IsAtMost n read → IsAtMost m (before x read)
+at_most_before n m x None room h = tt
+at_most_before n m x (Some xs) room h = omega arith
+
+at_most_more : {A : Type 0} (n m : ℕ) (read : Option (List A)) → n ≤ m → IsAtMost n read → IsAtMost m read
+at_most_more n m None more h = tt
+at_most_more n m (Some xs) more h = omega arith
+
+-- each symbol is of at least one character
+pub symbols_at_most : (escaped : Bool) (text : List ℕ) → IsAtMost (length text) (symbols_after escaped text)
+symbols_at_most true [] = tt
+symbols_at_most true (c ∷ text) = at_most_before (length text) _ _ _ (omega arith) (symbols_at_most false text)
+symbols_at_most false [] = omega arith
+symbols_at_most false (c ∷ text) = elim (c == 92) as (λ b. IsAtMost (suc (length text)) (elim b [ true ↦ symbols_after true text | false ↦ before (Plain c) (symbols_after false text) ])) [
+  | true ↦ at_most_more (length text) _ _ (omega arith) (symbols_at_most true text)
+  | false ↦ at_most_before (length text) _ _ _ (omega arith) (symbols_at_most false text)
+]
+
+-- each token is of at least one symbol
+pub tokens_at_most : (more : ℕ) (starts : Bool) (symbols : List Symbol) → IsAtMost (length symbols) (tokens_from more starts symbols)
+tokens_at_most more starts [] = omega arith
+tokens_at_most (suc more) starts (s ∷ text) = at_most_more (length text) _ _ (omega arith) (tokens_at_most more (character_of s == 47) text)
+tokens_at_most zero starts (s ∷ text) = elim (token_at starts s text) as (λ one. IsAtMost (suc (length text)) (elim one [ None ↦ None | Some o ↦ before o.token (tokens_from o.more (character_of s == 47) text) ])) [
+  | None ↦ tt
+  | Some one ↦ at_most_before (length text) _ _ _ (omega arith) (tokens_at_most one.more (character_of s == 47) text)
+]

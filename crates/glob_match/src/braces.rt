@@ -3,10 +3,11 @@
 ghost use Rattle.std.specs.Prelude.{◌≡◌, ◌↔◌, ◌⊎◌, ◌+◌, [], ◌∷◌, ◌++◌, Bool, List, All, length, IfOk};
 ghost use Rattle.glob_match.specs.Places.{IsUnion, IsNowhere, IsOfPlaces};
 ghost use Rattle.glob_match.specs.Braces.{IsOpened, IsPlain, IsParted, IsClosed};
+ghost use Rattle.sd_edge.specs.Steps.{IsTicked};
 
 use crate::piece::{Piece, Single};
 use crate::places::after_piece;
-use sd_edge::NoMemory;
+use sd_edge::{Ledger, NoMemory, Steps};
 use std::alloc::Global;
 use std::marker::Model;
 
@@ -38,12 +39,14 @@ pub fn nowhere(alloc: Global, places: usize) -> Result<Vec<bool>, NoMemory>
     Ok(none)
 }
 
-/// Adds the places of a set to another.
-fn add(others: &[bool], places: &mut [bool])
+/// Adds the places of a set to another. Takes a step for each place.
+fn add<L: Ledger>(others: &[bool], places: &mut [bool], steps: &mut Steps<L>)
     requires { length others.now ≡ length places.old }
-    ensures { IsUnion places.old others.now places.new }
+    ensures places { IsUnion places.old others.now places.new }
+    ensures ticks { IsTicked L.noted (length places.old) steps.old steps.new }
 {
     for (place, to) in places.iter_mut().enumerate() {
+        steps.tick();
         *to = *to || others[place];
     }
 }
@@ -61,24 +64,26 @@ impl Brace {
     }
 
     /// Ends an option that leads to these places, and goes back to the brace's start for the next one.
-    pub fn next_option(self, places: &mut [bool]) -> Brace
+    pub fn next_option<L: Ledger>(self, places: &mut [bool], steps: &mut Steps<L>) -> Brace
         requires { IsOfPlaces (length places.old) self }
         ensures start { result.start ≡ self.start }
         ensures reached { IsUnion self.reached places.old result.reached }
         ensures back { places.new ≡ self.start }
+        ensures ticks { IsTicked L.noted (length places.old) steps.old steps.new }
     {
         let Brace { start, mut reached } = self;
-        add(places, &mut reached);
+        add(places, &mut reached, steps);
         places.copy_from_slice(&start);
         Brace { start, reached }
     }
 
     /// Ends the last option, and goes on from the places to which any of the options leads.
-    pub fn close(self, places: &mut [bool])
+    pub fn close<L: Ledger>(self, places: &mut [bool], steps: &mut Steps<L>)
         requires { IsOfPlaces (length places.old) self }
-        ensures { IsUnion places.old self.reached places.new }
+        ensures places { IsUnion places.old self.reached places.new }
+        ensures ticks { IsTicked L.noted (length places.old) steps.old steps.new }
     {
-        add(&self.reached, places);
+        add(&self.reached, places, steps);
     }
 }
 
@@ -91,32 +96,40 @@ pub fn open_brace(alloc: Global, braces: &mut Vec<Brace>, places: &[bool]) -> Re
 }
 
 /// Takes a `,`: the next option of the innermost open brace, or a character outside braces.
-pub fn part_brace(
+pub fn part_brace<L: Ledger>(
     braces: &mut Vec<Brace>,
     path: &[char],
     places: &mut [bool],
+    steps: &mut Steps<L>,
 ) -> Result<(), NoMemory>
     requires path { length places.old ≡ length path.now + 1 }
     requires braces { All (IsOfPlaces (length places.old)) braces.old.items }
     ensures outside { IfOk result (λ _. IsPlain 44 path.now braces.old.items places.old braces.new.items places.new) }
     ensures inside { IfOk result (λ _. IsParted braces.old.items places.old braces.new.items places.new) }
+    ensures ticks { IsTicked L.noted (length path.now + 1) steps.old steps.new }
 {
     match braces.pop() {
-        None => after_piece(&Piece::One(Single::Character(',')), path, places),
-        Some(brace) => braces.push(brace.next_option(places))?,
+        None => after_piece(&Piece::One(Single::Character(',')), path, places, steps),
+        Some(brace) => braces.push(brace.next_option(places, steps))?,
     }
     Ok(())
 }
 
 /// Takes a `}`: the end of the innermost open brace, or a character outside braces.
-pub fn close_brace(braces: &mut Vec<Brace>, path: &[char], places: &mut [bool])
+pub fn close_brace<L: Ledger>(
+    braces: &mut Vec<Brace>,
+    path: &[char],
+    places: &mut [bool],
+    steps: &mut Steps<L>,
+)
     requires path { length places.old ≡ length path.now + 1 }
     requires braces { All (IsOfPlaces (length places.old)) braces.old.items }
     ensures outside { IsPlain 125 path.now braces.old.items places.old braces.new.items places.new }
     ensures inside { IsClosed braces.old.items places.old braces.new.items places.new }
+    ensures ticks { IsTicked L.noted (length path.now + 1) steps.old steps.new }
 {
     match braces.pop() {
-        None => after_piece(&Piece::One(Single::Character('}')), path, places),
-        Some(brace) => brace.close(places),
+        None => after_piece(&Piece::One(Single::Character('}')), path, places, steps),
+        Some(brace) => brace.close(places, steps),
     }
 }

@@ -1,13 +1,14 @@
 //! Globs that are read once and asked of many paths.
 
-ghost use Rattle.std.specs.Prelude.{◌≡◌, ◌↔◌, chars, IfOk, IsTrue, MatchOption, None};
+ghost use Rattle.std.specs.Prelude.{◌≡◌, ◌↔◌, ◌+◌, ◌*◌, chars, length, IfOk, IsTrue, MatchOption, None};
 ghost use Rattle.glob_match.specs.Reading.{pieces_of};
 ghost use Rattle.glob_match.specs.Takes.{Fits};
+ghost use Rattle.sd_edge.specs.Steps.{TicksAtMost};
 
 use crate::matching::places_after;
 use crate::parse::{after_signs, read};
 use crate::piece::Token;
-use sd_edge::NoMemory;
+use sd_edge::{Ledger, NoMemory, Silent, Steps};
 use std::alloc::Global;
 use std::marker::Model;
 
@@ -55,8 +56,21 @@ impl Glob {
     pub fn fits(&self, alloc: Global, path: &str) -> Result<bool, NoMemory>
         ensures { IfOk result (λ fits. IsTrue fits ↔ Fits (chars self.now) (chars path.now)) }
     {
+        self.fits_steps(alloc, path, &mut Steps::new(Silent))
+    }
+
+    /// [`fits`](Glob::fits), with a step for each test of a piece at a place of the path.
+    pub(crate) fn fits_steps<L: Ledger>(
+        &self,
+        alloc: Global,
+        path: &str,
+        steps: &mut Steps<L>,
+    ) -> Result<bool, NoMemory>
+        ensures answer { IfOk result (λ fits. IsTrue fits ↔ Fits (chars self.now) (chars path.now)) }
+        ensures ticks { TicksAtMost L.noted (length (chars self.now) * (length (chars path.now) + 1)) steps.old steps.new }
+    {
         let characters: Vec<char> = path.chars().collect(alloc)?;
-        let places = places_after(alloc, &self.tokens, &characters)?;
+        let places = places_after(alloc, &self.tokens, &characters, steps)?;
         Ok(places[characters.len()] != self.negated)
     }
 }

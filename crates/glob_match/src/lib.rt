@@ -29,5 +29,5 @@ mod validity;
 pub use examples::{globs_are_read_as_in_the_examples, globs_fit_as_in_the_examples};
 pub use glob::Glob;
 pub use laws::{one_more_sign_turns_the_answer, plain_fits_itself};
-pub use matching::glob_match;
+pub use matching::{glob_match, glob_match_steps};
 pub use validity::glob_valid;

@@ -1,48 +1,57 @@
 //! The tokens of a glob, one after another, over the places of a path.
 
-ghost use Rattle.std.specs.Prelude.{◌≡◌, ◌↔◌, ◌+◌, All, length, chars, Some, IfOk, IsTrue};
+ghost use Rattle.std.specs.Prelude.{◌≡◌, ◌↔◌, ◌+◌, ◌*◌, All, length, chars, Some, IfOk, IsTrue};
 ghost use Rattle.glob_match.specs.Pieces.{Pieces};
 ghost use Rattle.glob_match.specs.Reading.{pieces_of_tokens};
 ghost use Rattle.glob_match.specs.Places.{IsOfPlaces, IsReached};
 ghost use Rattle.glob_match.specs.Braces.{IsTokenStep};
 ghost use Rattle.glob_match.specs.Takes.{Fits};
+ghost use Rattle.sd_edge.specs.Steps.{TicksAtMost};
 
 use crate::braces::{Brace, close_brace, open_brace, part_brace};
 use crate::glob::Glob;
 use crate::piece::Token;
 use crate::places::{after_piece, start_alone};
-use sd_edge::NoMemory;
+use sd_edge::{Ledger, NoMemory, Silent, Steps};
 use std::alloc::Global;
 
 /// Turns the places reached and the open braces into those after one more token.
-fn after_token(
+fn after_token<L: Ledger>(
     alloc: Global,
     token: &Token,
     path: &[char],
     braces: &mut Vec<Brace>,
     places: &mut [bool],
+    steps: &mut Steps<L>,
 ) -> Result<(), NoMemory>
     requires path { length places.old ≡ length path.now + 1 }
     requires braces { All (IsOfPlaces (length places.old)) braces.old.items }
-    ensures { IfOk result (λ _. IsTokenStep token.now path.now braces.old.items places.old braces.new.items places.new) }
+    ensures places { IfOk result (λ _. IsTokenStep token.now path.now braces.old.items places.old braces.new.items places.new) }
+    ensures ticks { TicksAtMost L.noted (length path.now + 1) steps.old steps.new }
 {
     match token {
-        Token::Piece(piece) => after_piece(piece, path, places),
+        Token::Piece(piece) => after_piece(piece, path, places, steps),
         Token::Open => open_brace(alloc, braces, places)?,
-        Token::Comma => part_brace(braces, path, places)?,
-        Token::Close => close_brace(braces, path, places),
+        Token::Comma => part_brace(braces, path, places, steps)?,
+        Token::Close => close_brace(braces, path, places, steps),
     }
     Ok(())
 }
 
 /// The places to which the pieces of a glob lead from the path's start.
-pub fn places_after(alloc: Global, tokens: &[Token], path: &[char]) -> Result<Vec<bool>, NoMemory>
-    ensures { IfOk result (λ places. (pieces : Pieces) → pieces_of_tokens (Some tokens.now) ≡ Some pieces → IsReached pieces path.now places.items) }
+pub fn places_after<L: Ledger>(
+    alloc: Global,
+    tokens: &[Token],
+    path: &[char],
+    steps: &mut Steps<L>,
+) -> Result<Vec<bool>, NoMemory>
+    ensures reached { IfOk result (λ places. (pieces : Pieces) → pieces_of_tokens (Some tokens.now) ≡ Some pieces → IsReached pieces path.now places.items) }
+    ensures ticks { TicksAtMost L.noted (length tokens.now * (length path.now + 1)) steps.old steps.new }
 {
     let mut places = start_alone(alloc, path.len())?;
     let mut braces = Vec::new(alloc);
     for token in tokens {
-        after_token(alloc, token, path, &mut braces, &mut places)?;
+        after_token(alloc, token, path, &mut braces, &mut places, steps)?;
     }
     Ok(places)
 }
@@ -56,15 +65,32 @@ pub fn places_after(alloc: Global, tokens: &[Token], path: &[char]) -> Result<Ve
 pub fn glob_match(alloc: Global, glob: &str, path: &str) -> Result<bool, NoMemory>
     ensures { IfOk result (λ fits. IsTrue fits ↔ Fits (chars glob.now) (chars path.now)) }
 {
+    glob_match_steps(alloc, glob, path, &mut Steps::new(Silent))
+}
+
+/// [`glob_match`], with a step for each test of a piece at a place between the path's characters.
+///
+/// Takes at most as many steps as the glob has characters times the path has places, one more than its characters, at each
+/// answer and where memory is wanting. Reading the glob, and making a set of places for the path and for each brace, take none.
+pub fn glob_match_steps<L: Ledger>(
+    alloc: Global,
+    glob: &str,
+    path: &str,
+    steps: &mut Steps<L>,
+) -> Result<bool, NoMemory>
+    ensures answer { IfOk result (λ fits. IsTrue fits ↔ Fits (chars glob.now) (chars path.now)) }
+    ensures ticks { TicksAtMost L.noted (length (chars glob.now) * (length (chars path.now) + 1)) steps.old steps.new }
+{
     match Glob::read(alloc, glob)? {
         None => Ok(false),
-        Some(glob) => glob.fits(alloc, path),
+        Some(glob) => glob.fits_steps(alloc, path, steps),
     }
 }
 
 #[cfg(test)]
 mod tests {
     use super::*;
+    use sd_edge::Tally;
     use std::test::Fail;
 
     #[test]
@@ -125,6 +151,37 @@ mod tests {
         assert!(rt; !glob_match(rt.alloc(), "*a*a*a*a*a*b", path.as_str())?);
         path.push('b')?;
         assert!(rt; glob_match(rt.alloc(), "*a*a*a*a*a*b", path.as_str())?);
+        Ok(())
+    }
+
+    #[test]
+    fn a_hostile_glob_takes_a_step_for_each_piece_and_place(rt: HostRuntime) -> Result<(), Fail> {
+        let mut path = String::new(rt.alloc());
+        for _ in 0..3000 {
+            path.push('a')?;
+        }
+        let mut steps = Steps::new(Tally::default());
+        let fits = glob_match_steps(rt.alloc(), "*a*a*a*a*a*b", path.as_str(), &mut steps)?;
+        assert!(rt; !fits);
+        assert_eq!(rt; steps.into_ledger().ticks, 12 * 3001);
+        Ok(())
+    }
+
+    #[test]
+    fn steps_of_other_globs(rt: HostRuntime) -> Result<(), Fail> {
+        let cases = [
+            ("some/{a,b}/**/**/x", "some/a/b/x", true, 12 * 11),
+            ("{a,b}", "b", true, 4 * 2),
+            ("a,}", "a,}", true, 3 * 4),
+            ("", "abc", false, 0),
+            ("{a", "a", false, 0),
+        ];
+        for (glob, path, wanted, ticks) in cases {
+            let mut steps = Steps::new(Tally::default());
+            let fits = glob_match_steps(rt.alloc(), glob, path, &mut steps)?;
+            assert_eq!(rt; fits, wanted, "{glob} {path}");
+            assert_eq!(rt; steps.into_ledger().ticks, ticks, "{glob} {path}");
+        }
         Ok(())
     }
 }

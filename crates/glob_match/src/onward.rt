@@ -15,7 +15,7 @@ ghost use Rattle.glob_match.specs.declared.piece.Piece.TheVariants as piece;
 use crate::braces::{Brace, nowhere, open_brace};
 use crate::piece::{Piece, Single, Token};
 use crate::places::{is_after_separator, is_separator, takes_at};
-use sd_edge::NoMemory;
+use sd_edge::{NoMemory, Silent, Steps};
 use std::alloc::Global;
 use std::marker::Model;
 
@@ -129,7 +129,7 @@ fn before_comma(braces: &mut Vec<Brace>, places: &mut [bool]) -> Result<(), NoMe
     ensures inside { IfOk result (λ _. IsParted braces.old.items places.old braces.new.items places.new) }
 {
     if let Some(brace) = braces.pop() {
-        braces.push(brace.next_option(places))?;
+        braces.push(brace.next_option(places, &mut Steps::new(Silent)))?;
     }
     Ok(())
 }
@@ -141,7 +141,7 @@ fn before_open(braces: &mut Vec<Brace>, places: &mut [bool])
     ensures inside { IsClosed braces.old.items places.old braces.new.items places.new }
 {
     if let Some(brace) = braces.pop() {
-        brace.close(places);
+        brace.close(places, &mut Steps::new(Silent));
     }
 }
 

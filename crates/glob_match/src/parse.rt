@@ -263,7 +263,8 @@ fn nests_well(tokens: &[Token]) -> bool
 
 /// The tokens of a glob's text after its `!`s, or `None` where the glob is invalid.
 pub fn read(alloc: Global, text: &[char]) -> Result<Option<Vec<Token>>, NoMemory>
-    ensures { IfOk result (λ read. MatchOption read (pieces_of_symbols (symbols_after false text.now) ≡ None) (λ tokens. (pieces : Pieces) × (pieces_of_symbols (symbols_after false text.now) ≡ Some pieces) × (pieces_of_tokens (Some tokens.items) ≡ Some pieces))) }
+    ensures read { IfOk result (λ read. MatchOption read (pieces_of_symbols (symbols_after false text.now) ≡ None) (λ tokens. (pieces : Pieces) × (pieces_of_symbols (symbols_after false text.now) ≡ Some pieces) × (pieces_of_tokens (Some tokens.items) ≡ Some pieces))) }
+    ensures at_most { IfOk result (λ read. IfSome read (λ tokens. length tokens.items ≤ length text.now)) }
 {
     let Some(symbols) = symbols_of(alloc, text)? else {
         return Ok(None);

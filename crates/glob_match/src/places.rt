@@ -4,9 +4,10 @@ ghost use Rattle.std.specs.Prelude.{◌≡◌, ◌≢◌, ◌+◌, ◌-◌, ◌<
 ghost use Rattle.glob_match.specs.Takes.{IsInClass, IsInRanges, IsAfterSeparator, TakesOne};
 ghost use Rattle.glob_match.specs.Places.{IsStartAlone, IsStep, TakesAt};
 ghost use Rattle.glob_match.specs.declared.piece.Piece.TheVariants as piece;
+ghost use Rattle.sd_edge.specs.Steps.{IsTicked};
 
 use crate::piece::{Piece, Single};
-use sd_edge::NoMemory;
+use sd_edge::{Ledger, NoMemory, Steps};
 use std::alloc::Global;
 
 /// The set of places that holds the start of a path alone.
@@ -21,16 +22,22 @@ pub fn start_alone(alloc: Global, characters: usize) -> Result<Vec<bool>, NoMemo
     Ok(places)
 }
 
-/// Turns a set of places into the set that a piece leads to from there.
-pub fn after_piece(piece: &Piece, path: &[char], places: &mut [bool])
+/// Turns a set of places into the set that a piece leads to from there. Takes a step for each place.
+pub fn after_piece<L: Ledger>(
+    piece: &Piece,
+    path: &[char],
+    places: &mut [bool],
+    steps: &mut Steps<L>,
+)
     requires { length places.old ≡ length path.now + 1 }
-    ensures { IsStep piece.now path.now places.old places.new }
+    ensures places { IsStep piece.now path.now places.old places.new }
+    ensures ticks { IsTicked L.noted (length path.now + 1) steps.old steps.new }
 {
     match piece {
-        Piece::One(single) => after_one(single, path, places),
-        Piece::AnyRun => after_run(path, places),
-        Piece::AnyDepth => after_depth(path, places),
-        Piece::AnyRest => after_rest(path, places),
+        Piece::One(single) => after_one(single, path, places, steps),
+        Piece::AnyRun => after_run(path, places, steps),
+        Piece::AnyDepth => after_depth(path, places, steps),
+        Piece::AnyRest => after_rest(path, places, steps),
     }
 }
 
@@ -58,12 +65,14 @@ pub fn takes_at(single: &Single, path: &[char], place: usize) -> bool
 }
 
 /// Turns a set of places into the set that what takes one character leads to from there.
-fn after_one(single: &Single, path: &[char], places: &mut [bool])
+fn after_one<L: Ledger>(single: &Single, path: &[char], places: &mut [bool], steps: &mut Steps<L>)
     requires { length places.old ≡ length path.now + 1 }
-    ensures { IsStep (piece.One single.now) path.now places.old places.new }
+    ensures places { IsStep (piece.One single.now) path.now places.old places.new }
+    ensures ticks { IsTicked L.noted (length path.now + 1) steps.old steps.new }
 {
     let mut before = false;
     for (place, to) in places.iter_mut().enumerate() {
+        steps.tick();
         let from = *to;
         *to = before;
         before = from && takes_at(single, path, place);
@@ -78,12 +87,14 @@ pub fn is_separator(path: &[char], place: usize) -> bool
 }
 
 /// Turns a set of places into the set that `*` leads to from there.
-fn after_run(path: &[char], places: &mut [bool])
+fn after_run<L: Ledger>(path: &[char], places: &mut [bool], steps: &mut Steps<L>)
     requires { length places.old ≡ length path.now + 1 }
-    ensures { IsStep piece.AnyRun path.now places.old places.new }
+    ensures places { IsStep piece.AnyRun path.now places.old places.new }
+    ensures ticks { IsTicked L.noted (length path.now + 1) steps.old steps.new }
 {
     let mut running = false;
     for (place, to) in places.iter_mut().enumerate() {
+        steps.tick();
         let leads = *to || running;
         *to = leads;
         running = leads && !is_separator(path, place);
@@ -98,12 +109,14 @@ pub fn is_after_separator(path: &[char], place: usize) -> bool
 }
 
 /// Turns a set of places into the set that a star token with its `/` leads to from there.
-fn after_depth(path: &[char], places: &mut [bool])
+fn after_depth<L: Ledger>(path: &[char], places: &mut [bool], steps: &mut Steps<L>)
     requires { length places.old ≡ length path.now + 1 }
-    ensures { IsStep piece.AnyDepth path.now places.old places.new }
+    ensures places { IsStep piece.AnyDepth path.now places.old places.new }
+    ensures ticks { IsTicked L.noted (length path.now + 1) steps.old steps.new }
 {
     let mut reached = false;
     for (place, to) in places.iter_mut().enumerate() {
+        steps.tick();
         let here = *to || reached;
         *to = here && is_after_separator(path, place);
         reached = here;
@@ -111,12 +124,14 @@ fn after_depth(path: &[char], places: &mut [bool])
 }
 
 /// Turns a set of places into the set that a star token at the glob's end leads to from there.
-fn after_rest(path: &[char], places: &mut [bool])
+fn after_rest<L: Ledger>(path: &[char], places: &mut [bool], steps: &mut Steps<L>)
     requires { length places.old ≡ length path.now + 1 }
-    ensures { IsStep piece.AnyRest path.now places.old places.new }
+    ensures places { IsStep piece.AnyRest path.now places.old places.new }
+    ensures ticks { IsTicked L.noted (length path.now + 1) steps.old steps.new }
 {
     let mut reached = false;
     for to in places.iter_mut() {
+        steps.tick();
         let here = *to || reached;
         *to = here;
         reached = here;

@@ -1,7 +1,9 @@
-use Rattle.std.proofs.Common.{◌⊎◌}
-use Rattle.glob_match.specs.Places.{Holds}
-use Rattle.glob_match.proofs.PlacesLemmas.{IsTurned}
+use Rattle.sd_edge.specs.Steps.{IsTicked}
+use Rattle.glob_match.proofs.PlacesLemmas.{IsTurned, HoldsOneOf}
 use Rattle.glob_match.proofs.braces.add.Given as goal
 
 abbrev pub invariant-loop-place : goal.invariant-loop-place
-invariant-loop-place l = IsTurned (λ to. Holds l.fn.places to ⊎ Holds l.others to) l.fn.places l.places l.place
+invariant-loop-place g l = record {
+  places : IsTurned (HoldsOneOf l.fn.places l.others) l.fn.places l.places l.place;
+  ticks : IsTicked g.L.Ledger.noted l.place l.fn.steps l.steps;
+}

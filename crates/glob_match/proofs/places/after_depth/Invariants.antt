@@ -1,6 +1,10 @@
 use Rattle.glob_match.specs.declared.piece.Piece.TheVariants.{AnyDepth}
+use Rattle.sd_edge.specs.Steps.{IsTicked}
 use Rattle.glob_match.proofs.PlacesLemmas.{StarSoFar}
 use Rattle.glob_match.proofs.places.after_depth.Given as goal
 
 abbrev pub invariant-loop-place : goal.invariant-loop-place
-invariant-loop-place l = StarSoFar AnyDepth l.path l.fn.places l.places l.place l.reached
+invariant-loop-place g l = record {
+  places : StarSoFar AnyDepth l.path l.fn.places l.places l.place l.reached;
+  ticks : IsTicked g.L.Ledger.noted l.place l.fn.steps l.steps;
+}

@@ -1,5 +1,9 @@
+use Rattle.sd_edge.specs.Steps.{IsTicked}
 use Rattle.glob_match.proofs.PlacesLemmas.{RunSoFar}
 use Rattle.glob_match.proofs.places.after_run.Given as goal
 
 abbrev pub invariant-loop-place : goal.invariant-loop-place
-invariant-loop-place l = RunSoFar l.path l.fn.places l.places l.place l.running
+invariant-loop-place g l = record {
+  places : RunSoFar l.path l.fn.places l.places l.place l.running;
+  ticks : IsTicked g.L.Ledger.noted l.place l.fn.steps l.steps;
+}
