@@ -1,8 +1,14 @@
 pub mod BackwardLemmas
+pub mod BytesLemmas
+pub mod CapturesLemmas
+pub mod DerivationLemmas
 pub mod FittingLemmas
 pub mod MatchingLemmas
+pub mod NearestLemmas
 pub mod NestingLemmas
 pub mod OnwardLemmas
 pub mod PlacesLemmas
+pub mod RangesLemmas
 pub mod ReadingLemmas
 pub mod ValidityLemmas
+pub mod WalkLemmas

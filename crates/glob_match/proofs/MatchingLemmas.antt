@@ -203,7 +203,7 @@ right_close depth left path one stack places next pieces (rest, is, these) union
 abbrev pub TokensLeadRight : List Token → List ℕ → List OpenBrace → List Bool → Pieces → Type 0
 TokensLeadRight left path braces places pieces = LeadsRight (length braces) left path (reverse braces) places pieces
 
-length_last : {A : Type 0} (xs : List A) (x : A) → length (xs ++ x ∷ []) ≡ suc (length xs)
+pub length_last : {A : Type 0} (xs : List A) (x : A) → length (xs ++ x ∷ []) ≡ suc (length xs)
 length_last xs x = omega (arith, length-append xs (x ∷ []))
 
 pub reverse_last : {A : Type 0} (xs : List A) (x : A) → reverse (xs ++ x ∷ []) ≡ x ∷ reverse xs

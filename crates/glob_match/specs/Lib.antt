@@ -1,5 +1,6 @@
 pub mod Backward
 pub mod Braces
+pub mod Captures
 pub mod Examples
 pub mod GlobRead
 pub mod Laws
@@ -9,3 +10,4 @@ pub mod Places
 pub mod Reading
 pub mod Takes
 pub mod Validity
+pub mod Walk

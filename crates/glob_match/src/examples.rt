@@ -1,7 +1,7 @@
 //! Worked examples of globs.
 
 ghost use Rattle.std.specs.Prelude.{codes, [], ◌∷◌, ◌+◌, ◌≡◌, ◌↔◌, ℕ, true, false, IsSome, Some};
-ghost use Rattle.glob_match.specs.Examples.{IsInvalid, IsReadAs, character};
+ghost use Rattle.glob_match.specs.Examples.{IsInvalid, IsReadAs, HasCaptures, bytes, character};
 ghost use Rattle.glob_match.specs.Pieces.Pieces.{no_pieces, piece, brace};
 ghost use Rattle.glob_match.specs.Pieces.Options.{no_options, option};
 ghost use Rattle.glob_match.specs.Reading.{pieces_of};
@@ -41,4 +41,14 @@ pub fn globs_fit_as_in_the_examples()
     ensures negated_twice { Fits (codes "!!*.md") (codes "x.md") }
     ensures invalid { ¬ Fits (codes "{a") (codes "a") }
     ensures invalid_negated { ¬ Fits (codes "!x[") (codes "y") }
+{}
+
+/// What globs capture of paths, as ranges of bytes.
+pub fn captures_are_as_in_the_examples()
+    ensures one_character { HasCaptures (codes "?") (233 ∷ []) (bytes 0 2 ∷ []) }
+    ensures second_option { HasCaptures (codes "{a*,b?}") (codes "bc") (bytes 0 2 ∷ bytes 0 0 ∷ bytes 1 2 ∷ []) }
+    ensures brace_not_taken { HasCaptures (codes "{a{b,c},d?}") (codes "dx") (bytes 0 2 ∷ bytes 0 0 ∷ bytes 1 2 ∷ []) }
+    ensures no_folder { HasCaptures (codes "a/**/b") (codes "a/b") (bytes 2 2 ∷ []) }
+    ensures folders { HasCaptures (codes "some/**/{a,b,c}/**/needle.txt") (codes "some/path/a/to/the/needle.txt") (bytes 5 9 ∷ bytes 10 11 ∷ bytes 12 18 ∷ []) }
+    ensures negated { HasCaptures (codes "!*.md") (codes "x.txt") [] }
 {}

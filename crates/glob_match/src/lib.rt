@@ -16,6 +16,7 @@
 #![tactic(auto)]
 
 mod braces;
+mod captures;
 mod examples;
 mod glob;
 mod laws;
@@ -25,8 +26,13 @@ mod parse;
 mod piece;
 mod places;
 mod validity;
+mod walk;
 
-pub use examples::{globs_are_read_as_in_the_examples, globs_fit_as_in_the_examples};
+pub use captures::glob_match_with_captures;
+pub use examples::{
+    captures_are_as_in_the_examples, globs_are_read_as_in_the_examples,
+    globs_fit_as_in_the_examples,
+};
 pub use glob::Glob;
 pub use laws::{one_more_sign_turns_the_answer, plain_fits_itself};
 pub use matching::{glob_match, glob_match_steps};
