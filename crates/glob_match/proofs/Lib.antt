@@ -6,6 +6,7 @@ pub mod FittingLemmas
 pub mod MatchingLemmas
 pub mod NearestLemmas
 pub mod NestingLemmas
+pub mod OneDerivationLemmas
 pub mod OnwardLemmas
 pub mod PlacesLemmas
 pub mod RangesLemmas

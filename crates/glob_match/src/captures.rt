@@ -133,6 +133,22 @@ mod tests {
     }
 
     #[test]
+    fn a_hostile_glob_captures_at_once(rt: HostRuntime) -> Result<(), Fail> {
+        let mut path = String::new(rt.alloc());
+        for _ in 0..3000 {
+            path.push('a')?;
+        }
+        let glob = "*a*a*a*a*a*b";
+        assert!(rt; glob_match_with_captures(rt.alloc(), glob, path.as_str())?.is_none());
+        path.push('b')?;
+        let found = glob_match_with_captures(rt.alloc(), glob, path.as_str())?;
+        let ranges = found.ok_or("no match")?;
+        let last = ranges.last().ok_or("no range")?;
+        assert_eq!(rt; (last.start, last.end), (5, 3000));
+        Ok(())
+    }
+
+    #[test]
     fn what_does_not_fit_has_no_captures(rt: HostRuntime) -> Result<(), Fail> {
         for (glob, path) in [
             ("a?", "b"),

@@ -13,6 +13,10 @@
 //! - Any other character takes itself.
 //!
 //! An odd number of `!` negates the answer. An invalid glob fits nothing.
+//!
+//! A glob that fits captures a range of the path's bytes for each `?`, `*`, star token, class and brace, in the order of
+//! their beginnings, and nothing under an odd number of `!`. They're those of the first way to take the path: from
+//! left to right, wildcards take the shortest text first, and braces their options in order.
 #![tactic(auto)]
 
 mod braces;
@@ -34,6 +38,9 @@ pub use examples::{
     globs_fit_as_in_the_examples,
 };
 pub use glob::Glob;
-pub use laws::{one_more_sign_turns_the_answer, plain_fits_itself};
+pub use laws::{
+    as_many_ranges_of_each_path, one_list_of_ranges, one_more_sign_turns_the_answer,
+    plain_fits_itself,
+};
 pub use matching::{glob_match, glob_match_steps};
 pub use validity::glob_valid;
