@@ -24,7 +24,7 @@ pub use examples::{
 pub use fault::{BuildFault, DiskFault, Failed, NoMemory};
 pub use host::{HostDisk, HostSink, HostSource};
 pub use laws::{
-    calls_on_files_keep_directories_and_links, paths_lead_where_they_name,
+    a_tally_holds_its_ticks, calls_on_files_keep_directories_and_links, paths_lead_where_they_name,
     paths_rest_on_directories_and_links, plain_paths_lead_as_others,
 };
 pub use memory::{MemDisk, MemSink, MemSource};
