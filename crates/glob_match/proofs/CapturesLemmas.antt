@@ -120,10 +120,6 @@ finish_moved p (inside left others rest) [] path final place to captures moves l
 finish_moved p (inside left others rest) (choice ∷ choices) path final place to captures moves least h =
     ends_piece choice.state p choice.capture choice.start left others path (GoesOn rest path) (Finishes rest choices path final) place to captures moves least h
 
--- what is passed, one after another
-passes_on : (one others captures : List Capture) → (captures ++ one) ++ others ≡ captures ++ (one ++ others)
-passes_on one others captures = append_assoc captures one others
-
 skips_piece : (state : State) (p : Piece) (at start from : ℕ) (left : Pieces) (others : Options) (path : List ℕ) (Goes : ℕ → Type 0) (Then : ℕ → List Capture → Type 0) (place : ℕ) (captures : List Capture) → state ≢ Taking → from ≡ start
     → Ends state at start left others path Goes Then place (captures ++ captured p from from) → Ends state at start (piece p left) others path Goes Then place captures
 skips_piece Taking p at start from left others path Goes Then place captures e same h = absurd (e refl)

@@ -1,5 +1,6 @@
 -- There is one first derivation, and it captures as many parts of each path.
-use Rattle.std.proofs.Common.{◌≡◌, ◌⊎◌, inl, inr, ℕ, ◌+◌, ◌≤◌, Bool, true, false, List, [], ◌∷◌, ◌++◌, length, map, Option, Some, None, refl, sym, ap, subst, ◌∙◌, arith, length-append}
+use Rattle.std.proofs.Common.{◌≡◌, inl, inr, ℕ, Bool, true, false, List, ◌∷◌, ◌++◌, length, map, Option, Some, None, refl, sym, ap, subst, ◌∙◌, arith, length-append}
+use Rattle.std.proofs.lemmas.List.{length-map}
 use Rattle.std.specs.declared.ops.Range.{Range}
 use Rattle.glob_match.specs.declared.piece.Single.TheVariants.{Character, AnyCharacter, Class}
 use Rattle.glob_match.specs.declared.piece.Piece.{Piece}
@@ -91,10 +92,6 @@ many_under true o path other xs ys h k = ap length h ∙ sym (ap length k)
 many_under false None path other xs ys h k = absurd h
 many_under false (Some whole) path other xs ys h k = many_first whole path (IsEnd path) 0 (length path) xs h ∙ sym (many_first whole other (IsEnd other) 0 (length other) ys k)
 
-length_map : (f : Capture → Range ℕ) (xs : List Capture) → length (map f xs) ≡ length xs
-length_map f [] = refl
-length_map f (x ∷ xs) = omega (arith, length_map f xs)
-
 pub as_many : (glob path other : List ℕ) (some others : List (Range ℕ)) → GlobRanges glob path some → GlobRanges glob other others → length some ≡ length others
 as_many glob path other some others h k =
-    ap length h.2 ∙ length_map (byte_range path) h.0 ∙ many_under (is_odd (negations glob)) (pieces_of glob) path other h.0 k.0 h.1 k.1 ∙ sym (ap length k.2 ∙ length_map (byte_range other) k.0)
+    ap length h.2 ∙ length-map h.0 (byte_range path) ∙ many_under (is_odd (negations glob)) (pieces_of glob) path other h.0 k.0 h.1 k.1 ∙ sym (ap length k.2 ∙ length-map k.0 (byte_range other))

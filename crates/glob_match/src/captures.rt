@@ -81,7 +81,7 @@ pub fn glob_match_with_captures(
     path: &str,
 ) -> Result<Option<Vec<Range<usize>>>, NoMemory>
     ensures captured { IfOk result (λ found. MatchOption found (¬ Fits (chars glob.now) (chars path.now)) (λ ranges. Fits (chars glob.now) (chars path.now) × GlobRanges (chars glob.now) (chars path.now) ranges.items)) }
-    ensures within { IfOk result (λ found. IfSome found (λ ranges. All (LiesOnBoundaries path.now) ranges.items)) }
+    ensures boundaries { IfOk result (λ found. IfSome found (λ ranges. All (LiesOnBoundaries path.now) ranges.items)) }
 {
     let glob: Vec<char> = glob.chars().collect(alloc)?;
     let characters: Vec<char> = path.chars().collect(alloc)?;
