@@ -29,6 +29,8 @@ mod onward;
 mod parse;
 mod piece;
 mod places;
+#[cfg(test)]
+mod slow;
 mod validity;
 mod walk;
 
