@@ -1,0 +1,11 @@
+-- Laws of the characters beside a place.
+use Rattle.std.specs.Prelude.{◌≡◌, ℕ, List, ◌++◌, take, drop, encode_utf8}
+use Rattle.std.specs.Char.{IsScalar}
+
+-- the UTF-8 of a character begins at a place
+abbrev pub BeginsAt : ℕ → List ℕ → ℕ → Type 0
+BeginsAt c text at = IsScalar c × ((rest : List ℕ) × (drop at text ≡ encode_utf8 c ++ rest))
+
+-- the UTF-8 of a character ends at a place
+abbrev pub EndsAt : ℕ → List ℕ → ℕ → Type 0
+EndsAt c text at = IsScalar c × ((front : List ℕ) × (take at text ≡ front ++ encode_utf8 c))

@@ -1,0 +1,19 @@
+//! Patterns as trees, and what they match.
+//!
+//! What stands so far are the looks: [`Look`] names what a pattern asks of a place between two bytes of a text, and
+//! [`holds`] tells whether it holds there.
+#![tactic(auto)]
+
+mod examples;
+mod laws;
+mod look;
+mod side;
+#[cfg(test)]
+mod tests;
+
+pub use examples::{
+    ascii_words_stand_as_in_the_examples, broken_sides_count_as_in_the_examples,
+    lines_start_and_end_as_in_the_examples, words_stand_as_in_the_examples,
+};
+pub use laws::characters_stand_beside_a_place;
+pub use look::{Look, holds};
