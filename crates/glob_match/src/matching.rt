@@ -111,6 +111,10 @@ mod tests {
             ("src/**/*.{js,jsx}", "src/ui/list.jsx", true),
             ("src/**/*.{js,jsx}", "README.md", false),
             ("test/{foo/**,bar}/baz", "test/bar/test/baz", false),
+            ("**/***", "a", true),
+            ("**/***", "d/a", false),
+            ("{d/**}", "d/a", true),
+            ("{d/**}", "d/a/b", false),
             (
                 "some/**/{a,b,c}/**/needle.txt",
                 "some/path/a/to/the/needle.txt",
