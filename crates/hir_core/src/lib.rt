@@ -1,13 +1,14 @@
 //! Patterns as trees, and what they match.
 //!
 //! What stands so far are the looks: [`Look`] names what a pattern asks of a place between two bytes of a text, and
-//! [`holds`] tells whether it holds there.
+//! [`holds`] tells whether it holds there. And [`Slots`] hold the groups of a match.
 #![tactic(auto)]
 
 mod examples;
 mod laws;
 mod look;
 mod side;
+mod slots;
 #[cfg(test)]
 mod tests;
 
@@ -17,3 +18,4 @@ pub use examples::{
 };
 pub use laws::characters_stand_beside_a_place;
 pub use look::{Look, holds};
+pub use slots::Slots;

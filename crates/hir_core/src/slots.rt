@@ -1,0 +1,66 @@
+//! The groups of a match.
+
+ghost use Rattle.std.specs.Prelude.{◌≡◌, ◌+◌, length, replicate, IfOk, None};
+ghost use Rattle.grep_matcher.specs.Groups.{group_at};
+
+use grep_matcher::Match;
+use sd_edge::NoMemory;
+use std::alloc::Global;
+use std::marker::Model;
+
+/// The spans of a match's groups, by their numbers. Group 0 is the whole match. A group that took no part is unset.
+#[derive(Drop)]
+pub struct Slots {
+    spans: Vec<Option<Match>>,
+}
+
+impl Model for Slots {
+    ghost use Rattle.std.specs.Prelude.{List, Option};
+    ghost use Rattle.grep_matcher.specs.Span.{Span};
+
+    ghost Value = { List (Option Span) };
+
+    ghost view = { λ slots. slots.spans.items };
+}
+
+impl Slots {
+    /// Unset slots for the groups 0 to `groups`. Refuses for want of memory alone.
+    pub fn new(alloc: Global, groups: u32) -> Result<Slots, NoMemory>
+        ensures { IfOk result (λ slots. slots ≡ replicate (groups + 1) None) }
+    {
+        let mut spans = Vec::new(alloc);
+        spans.resize(groups as usize + 1, None)?;
+        Ok(Slots { spans })
+    }
+
+    /// How many slots there are: one more than the greatest group's number.
+    pub fn len(&self) -> usize
+        ensures { result ≡ length self.now }
+    {
+        self.spans.len()
+    }
+
+    /// The span of a group, or `None` where it is unset, or past the last one.
+    pub fn get(&self, group: usize) -> Option<Match>
+        ensures { result ≡ group_at self.now group }
+    {
+        *self.spans.get(group)?
+    }
+}
+
+#[cfg(test)]
+mod tests {
+    use super::*;
+    use std::test::Fail;
+
+    #[test]
+    fn new_slots_are_unset(rt: HostRuntime) -> Result<(), Fail> {
+        let slots = Slots::new(rt.alloc(), 2)?;
+        assert_eq!(rt; slots.len(), 3);
+        for group in 0..4 {
+            assert!(rt; slots.get(group).is_none(), "{group}");
+        }
+        assert_eq!(rt; Slots::new(rt.alloc(), 0)?.len(), 1);
+        Ok(())
+    }
+}
