@@ -1,2 +1,3 @@
 mod CharacterLemmas
 mod Computing
+mod RunsComputing

@@ -1,4 +1,7 @@
+pub mod Core
 pub mod Examples
 pub mod Laws
 pub mod Looks
+pub mod Runs
+pub mod RunsExamples
 pub mod Sides

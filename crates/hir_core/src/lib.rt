@@ -7,6 +7,7 @@
 mod examples;
 mod laws;
 mod look;
+mod runs_examples;
 mod side;
 mod slots;
 #[cfg(test)]
@@ -18,4 +19,8 @@ pub use examples::{
 };
 pub use laws::characters_stand_beside_a_place;
 pub use look::{Look, holds};
+pub use runs_examples::{
+    groups_match_as_in_the_examples, repetitions_match_as_in_the_examples,
+    sets_and_looks_match_as_in_the_examples,
+};
 pub use slots::Slots;
