@@ -1,3 +1,5 @@
 mod CharacterLemmas
 mod Computing
+mod ListLemmas
 mod RunsComputing
+mod RunsLemmas

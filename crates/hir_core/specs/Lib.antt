@@ -4,4 +4,5 @@ pub mod Laws
 pub mod Looks
 pub mod Runs
 pub mod RunsExamples
+pub mod RunsLaws
 pub mod Sides

@@ -8,6 +8,7 @@ mod examples;
 mod laws;
 mod look;
 mod runs_examples;
+mod runs_laws;
 mod side;
 mod slots;
 #[cfg(test)]
@@ -23,4 +24,5 @@ pub use runs_examples::{
     groups_match_as_in_the_examples, repetitions_match_as_in_the_examples,
     sets_and_looks_match_as_in_the_examples,
 };
+pub use runs_laws::{rounds_are_not_cut_off, runs_go_forward};
 pub use slots::Slots;

@@ -1,0 +1,25 @@
+-- Laws of runs.
+use Rattle.std.specs.Prelude.{◌≡◌, ℕ, ◌+◌, ◌≤◌, Bool, List, length, All}
+use Rattle.std.specs.List.{flat_map}
+use Rattle.hir_core.specs.Core.{Core}
+use Rattle.hir_core.specs.Runs.{Run, Step, visit, rounds_or_end, after, runs}
+
+-- each run of a core ends at its place or after it, within the text
+abbrev pub RunsGoForward : Type 0
+RunsGoForward = (text : List ℕ) (core : Core) (n : ℕ) (r : Run) → r.at ≤ length text
+    → All (λ s. (r.at ≤ s.at) × (s.at ≤ length text)) (runs text core n r)
+
+-- a round of the plus with number n
+abbrev pub round : List ℕ → Core → ℕ → Step
+round text body n = runs text body (n + 2)
+
+-- what follows a round
+abbrev pub after_round : List ℕ → Bool → Core → ℕ → Step
+after_round text greedy body n = after greedy (n + 1) (round text body n) (length text + 1)
+
+-- What follows a round of a plus is one more round and what follows that, or an end, unless the again spot was seen. So the
+-- count of rounds cuts nothing off.
+abbrev pub RoundsAreNotCutOff : Type 0
+RoundsAreNotCutOff = (text : List ℕ) (greedy : Bool) (body : Core) (n : ℕ) (r : Run) → r.at ≤ length text
+    → after_round text greedy body n r
+    ≡ visit (n + 1) (λ s. rounds_or_end greedy (flat_map (after_round text greedy body n) (round text body n s)) s) r
