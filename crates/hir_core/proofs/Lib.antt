@@ -1,5 +1,11 @@
 mod CharacterLemmas
+mod ClosureLemmas
 mod Computing
 mod ListLemmas
+mod PlacedLemmas
+mod ProgramLemmas
+mod PruningLemmas
 mod RunsComputing
 mod RunsLemmas
+mod TicksLemmas
+mod WalkLemmas

@@ -2,6 +2,7 @@ pub mod Core
 pub mod Examples
 pub mod Laws
 pub mod Looks
+pub mod Program
 pub mod Runs
 pub mod RunsExamples
 pub mod RunsLaws

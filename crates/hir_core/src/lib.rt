@@ -10,6 +10,7 @@ mod look;
 mod runs_examples;
 mod runs_laws;
 mod side;
+mod spot;
 mod slots;
 #[cfg(test)]
 mod tests;
