@@ -3,6 +3,7 @@ mod ClosureLemmas
 mod Computing
 mod ListLemmas
 mod PlacedLemmas
+mod PlacingLemmas
 mod ProgramLemmas
 mod PruningLemmas
 mod RunsComputing

@@ -16,11 +16,11 @@ use Rattle.hir_core.proofs.RunsLemmas.{TakesWithin, byte_size-within, char_size-
 -- at most all are unseen
 pub unseen_le : (n : ℕ) (seen : List ℕ) → unseen n seen ≤ n
 unseen_le zero seen = omega arith
-unseen_le (suc n) seen = let h = unseen_le n seen in go (is_seen n seen) h
+unseen_le (suc n) seen = let h = unseen_le n seen in cases (is_seen n seen) h
   where
-    go : (b : Bool) → unseen n seen ≤ n → (if b then 0 else 1) + unseen n seen ≤ suc n
-    go true h = omega arith
-    go false h = omega arith
+    cases : (b : Bool) → unseen n seen ≤ n → (if b then 0 else 1) + unseen n seen ≤ suc n
+    cases true h = omega arith
+    cases false h = omega arith
 
 -- only q changes
 seen_other : (n q : ℕ) (seen : List ℕ) → (q ≡ n → ⊥) → is_seen n (q ∷ seen) ≡ is_seen n seen
@@ -58,18 +58,18 @@ not_fail spots q s e other =
     elim (cases_lt q (length spots)) [ inl h ↦ h | inr h ↦ absurd (other (sym e ∙ get_or_past spots q spot.Fail h)) ]
 
 tie_le : (spots : List Spot) (q : ℕ) → tie (spot_at spots q) q ≤ length spots
-tie_le spots q = go (spot_at spots q) refl
+tie_le spots q = cases (spot_at spots q) refl
   where
-    go : (s : Spot) → spot_at spots q ≡ s → tie s q ≤ length spots
-    go (spot.Close i f) e = omega (arith, not_fail spots q _ e (λ h. cc))
-    go (spot.Bytes set f) e = omega arith
-    go (spot.Chars set f) e = omega arith
-    go (spot.Look l f) e = omega arith
-    go (spot.Jump f) e = omega arith
-    go (spot.Split a b) e = omega arith
-    go (spot.Open f) e = omega arith
-    go spot.Fail e = omega arith
-    go spot.Match e = omega arith
+    cases : (s : Spot) → spot_at spots q ≡ s → tie s q ≤ length spots
+    cases (spot.Close i f) e = omega (arith, not_fail spots q _ e (λ h. cc))
+    cases (spot.Bytes set f) e = omega arith
+    cases (spot.Chars set f) e = omega arith
+    cases (spot.Look l f) e = omega arith
+    cases (spot.Jump f) e = omega arith
+    cases (spot.Split a b) e = omega arith
+    cases (spot.Open f) e = omega arith
+    cases spot.Fail e = omega arith
+    cases spot.Match e = omega arith
 
 module _ (text : List ℕ) (spots : List Spot) where
   -- a spot that marks itself leads to lower rank at the same place

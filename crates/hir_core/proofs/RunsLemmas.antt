@@ -57,18 +57,18 @@ visit-new n next r h = cond-false _ _ _ h
 
 pub visit-All : (P : Run → Type 0) (n : ℕ) (next : Step) (r : Run) → (is_seen n r.seen ≡ false → AllByRecursion P (next (mark n r)))
     → AllByRecursion P (visit n next r)
-visit-All P n next r h = go (is_seen n r.seen) h
+visit-All P n next r h = cases (is_seen n r.seen) h
   where
-    go : (b : Bool) → (b ≡ false → AllByRecursion P (next (mark n r))) → AllByRecursion P (cond b [] (next (mark n r)))
-    go true k = tt
-    go false k = k refl
+    cases : (b : Bool) → (b ≡ false → AllByRecursion P (next (mark n r))) → AllByRecursion P (cond b [] (next (mark n r)))
+    cases true k = tt
+    cases false k = k refl
 
 pub visit-cong : (n : ℕ) (f g : Step) (r : Run) → (is_seen n r.seen ≡ false → f (mark n r) ≡ g (mark n r)) → visit n f r ≡ visit n g r
-visit-cong n f g r h = go (is_seen n r.seen) h
+visit-cong n f g r h = cases (is_seen n r.seen) h
   where
-    go : (b : Bool) → (b ≡ false → f (mark n r) ≡ g (mark n r)) → cond b [] (f (mark n r)) ≡ cond b [] (g (mark n r))
-    go true k = refl
-    go false k = k refl
+    cases : (b : Bool) → (b ≡ false → f (mark n r) ≡ g (mark n r)) → cond b [] (f (mark n r)) ≡ cond b [] (g (mark n r))
+    cases true k = refl
+    cases false k = k refl
 
 pub Forward-visit : (text : List ℕ) (n : ℕ) (next : Step) → Forward text next → Forward text (visit n next)
 Forward-visit text n next f r h =
@@ -81,7 +81,7 @@ All-rounds_or_end P false rounds r h k = (k, h)
 Forward-flat_map : (text : List ℕ) (f g : Step) → Forward text f → Forward text g → Forward text (λ r. flat_map g (f r))
 Forward-flat_map text f g ff fg r h =
     All-flat_map (GoesOn text r) (GoesOn text r) g (f r) (ff r h)
-    (λ s go. All-weaker (GoesOn text s) (GoesOn text r) _ (fg s go.within) (λ t on. GoesOn-then text r s t go on))
+    (λ s on. All-weaker (GoesOn text s) (GoesOn text r) _ (fg s on.within) (λ t more. GoesOn-then text r s t on more))
 
 pub Forward-after : (text : List ℕ) (greedy : Bool) (again : ℕ) (body : Step) → Forward text body → (n : ℕ) → Forward text (after greedy again body n)
 unfolding after
@@ -139,11 +139,11 @@ unfolding runs
 runs-Forward text empty n = Forward-visit text n (λ s. s ∷ []) (λ r h. (GoesOn-self text r h, tt))
 runs-Forward text (byte_in set) n = Forward-visit text n _ (Forward-take_size text _ (byte_size-within set text))
 runs-Forward text (char_in set) n = Forward-visit text n _ (Forward-take_size text _ (char_size-within set text))
-runs-Forward text (look l) n = Forward-visit text n _ (λ r h. go r h (holds l text r.at))
+runs-Forward text (look l) n = Forward-visit text n _ (λ r h. cases r h (holds l text r.at))
   where
-    go : (r : Run) → r.at ≤ length text → (b : Bool) → AllGoOn text r (if b then r ∷ [] else [])
-    go r h true = (GoesOn-self text r h, tt)
-    go r h false = tt
+    cases : (r : Run) → r.at ≤ length text → (b : Bool) → AllGoOn text r (if b then r ∷ [] else [])
+    cases r h true = (GoesOn-self text r h, tt)
+    cases r h false = tt
 runs-Forward text (group i a) n =
     Forward-visit text n _ (λ r h. All-map (GoesOn text r) (GoesOn text r) _ _ (runs-Forward text a (n + 2) r h) (λ s. GoesOn-set_group text i r.at r s))
 runs-Forward text (pair a b) n =

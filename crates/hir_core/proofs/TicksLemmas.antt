@@ -1,8 +1,8 @@
 -- The numbers of a core at which a visit is counted are at most as many as the table of spots says.
-use Rattle.std.proofs.Common.{◌≡◌, ℕ, zero, suc, ◌+◌, ◌-◌, ◌*◌, ◌<◌, ◌≤◌, Bool, true, false, List, [], ◌∷◌, length, Option, Some, None, refl, ap, ◌∙◌, arith}
+use Rattle.std.proofs.Common.{◌≡◌, ℕ, zero, suc, ◌+◌, ◌-◌, ◌*◌, ◌≤◌, Bool, true, false, List, [], ◌∷◌, length, Option, Some, None, refl, arith}
 use Rattle.std.specs.Prelude.{replicate}
 use Rattle.std.proofs.Math.Nat.{mul-le-mul_left}
-use Rattle.hir_core.specs.Core.{Core, empty, byte_in, char_in, look, group, pair, choice, none, plus, literal, pair_all, optional, copies, up_to, at_least, with_more, repeat}
+use Rattle.hir_core.specs.Core.{Core, empty, byte_in, char_in, look, group, pair, choice, none, plus, literal, pair_all, optional, copies, up_to, with_more, repeat}
 
 -- Visits are counted at bytes, looks, choices and again spots. A character class counts the bytes that it waits for too.
 abbrev pub ticks : Core → ℕ

@@ -1,5 +1,8 @@
 //! Patterns as trees, and what they match.
 //!
+//! What stands so far are the looks, and what a pattern matches. [`Look`] names what a pattern asks of a place between
+//! two bytes of a text, and [`holds`] tells whether it holds there. `specs/Core.antt` says to what a pattern is written
+//! out, and `specs/Runs.antt` what that matches; its worked examples and laws are functions here.
 //! What stands so far are the looks: [`Look`] names what a pattern asks of a place between two bytes of a text, and
 //! [`holds`] tells whether it holds there. And [`Slots`] hold the groups of a match.
 #![tactic(auto)]
