@@ -2,6 +2,7 @@ mod CharacterLemmas
 mod ClosureLemmas
 mod Computing
 mod ListLemmas
+mod NumbersLemmas
 mod PlacedLemmas
 mod PlacingLemmas
 mod ProgramLemmas

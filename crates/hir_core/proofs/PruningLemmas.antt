@@ -6,6 +6,7 @@ use Rattle.std.proofs.lemmas.List.{map-append}
 use Rattle.std.proofs.lemmas.Bool.{cond-true, cond-false, or_left, or_right}
 use Rattle.hir_core.specs.Looks.{holds}
 use Rattle.hir_core.specs.Runs.{Run, moved, mark, is_seen, byte_size, char_size, as_list, take_size}
+use Rattle.hir_core.specs.RunsLaws.{forget}
 use Rattle.hir_core.specs.Program.{spot_at, is_close, is_unmarked, Way, way, marked, closed, follow, rank, gives, ClosesFall}
 use Rattle.hir_core.specs.declared.spot.Spot.{Spot}
 use Rattle.hir_core.specs.declared.spot.Spot.TheVariants as spot
@@ -131,10 +132,6 @@ module _ (text : List ℕ) (spots : List Spot) (falls : ClosesFall spots) where
 
   pub mono : (q : ℕ) (t u : Way) → t.run.at ≡ u.run.at → Subset t.run.seen u.run.seen → gives text spots q t ≡ [] → gives text spots q u ≡ []
   mono q t u = mono-within (suc (rank text spots q t)) q t u (omega arith)
-
--- a run without what was seen
-abbrev pub forget : Run → Run
-forget r = record { at = r.at; groups = r.groups; seen = [] }
 
 -- the same with other spots seen
 abbrev pub reseen : List ℕ → Way → Way

@@ -7,11 +7,12 @@ use Rattle.std.proofs.lemmas.Bool.{or_left, or_right, cond-true, cond-false}
 use Rattle.std.proofs.lemmas.Grind.{flat_map-append}
 use Rattle.hir_core.specs.Looks.{holds}
 use Rattle.hir_core.specs.Runs.{Run, is_seen, first}
+use Rattle.hir_core.specs.RunsLaws.{forget}
 use Rattle.hir_core.specs.Program.{spot_at, is_unmarked, Way, marked, opened, closed, follow, gives, ClosesFall}
 use Rattle.hir_core.specs.declared.spot.Spot.{Spot}
 use Rattle.hir_core.specs.declared.spot.Spot.TheVariants as spot
 use Rattle.hir_core.proofs.PlacedLemmas.{gives-at, gives-close}
-use Rattle.hir_core.proofs.PruningLemmas.{Subset, unseen_before, mono, forget}
+use Rattle.hir_core.proofs.PruningLemmas.{Subset, unseen_before, mono}
 use Rattle.hir_core.proofs.ClosureLemmas.{Entry, seen_by, nonempty, nonempty-append, Covers, Children, Covers-expand, Covers-kept, Covers-seen}
 
 abbrev pub entry : ℕ → Way → Entry

@@ -1,8 +1,8 @@
 -- Laws of runs.
-use Rattle.std.specs.Prelude.{◌≡◌, ℕ, ◌+◌, ◌≤◌, Bool, List, length, All}
+use Rattle.std.specs.Prelude.{◌≡◌, ℕ, ◌+◌, ◌≤◌, Bool, List, [], length, map, All, Some, slice_set, option_map}
 use Rattle.std.specs.List.{flat_map}
 use Rattle.hir_core.specs.Core.{Core}
-use Rattle.hir_core.specs.Runs.{Run, Step, visit, rounds_or_end, after, runs}
+use Rattle.hir_core.specs.Runs.{Run, Step, begin, visit, rounds_or_end, after, runs, first, preferred}
 
 -- each run of a core ends at its place or after it, within the text
 abbrev pub RunsGoForward : Type 0
@@ -23,3 +23,18 @@ abbrev pub RoundsAreNotCutOff : Type 0
 RoundsAreNotCutOff = (text : List ℕ) (greedy : Bool) (body : Core) (n : ℕ) (r : Run) → r.at ≤ length text
     → after_round text greedy body n r
     ≡ visit (n + 1) (λ s. rounds_or_end greedy (flat_map (after_round text greedy body n) (round text body n s)) s) r
+
+-- a run without what was seen
+abbrev pub forget : Run → Run
+forget r = record { at = r.at; groups = r.groups; seen = [] }
+
+-- where nothing was seen, a core has the same runs at whichever number it stands
+abbrev pub NumbersDoNotMatter : Type 0
+NumbersDoNotMatter = (text : List ℕ) (core : Core) (n m at groups : ℕ)
+    → map forget (runs text core n (begin at groups)) ≡ map forget (runs text core m (begin at groups))
+
+-- the preferred match is the first run of the core, with group 0 from the place to its end
+abbrev pub PreferredIsTheFirstRun : Type 0
+PreferredIsTheFirstRun = (core : Core) (groups : ℕ) (text : List ℕ) (at n : ℕ)
+    → preferred core groups text at
+    ≡ option_map (λ r. slice_set r.groups 0 (Some (at, r.at))) (first (runs text core n (begin at groups)))

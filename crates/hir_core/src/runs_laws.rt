@@ -1,6 +1,6 @@
 //! Laws of runs.
 
-ghost use Rattle.hir_core.specs.RunsLaws.{RunsGoForward, RoundsAreNotCutOff};
+ghost use Rattle.hir_core.specs.RunsLaws.{RunsGoForward, RoundsAreNotCutOff, NumbersDoNotMatter, PreferredIsTheFirstRun};
 
 /// Each run of a pattern's core ends at its place or after it, within the text.
 pub fn runs_go_forward()
@@ -11,4 +11,14 @@ pub fn runs_go_forward()
 /// rounds in the definition of runs cuts nothing off.
 pub fn rounds_are_not_cut_off()
     ensures { RoundsAreNotCutOff }
+{}
+
+/// The runs of a core are the same whichever numbers its nodes have.
+pub fn numbers_do_not_matter()
+    ensures { NumbersDoNotMatter }
+{}
+
+/// The preferred match from a place is the first run of the core, with group 0 as the whole.
+pub fn preferred_is_the_first_run()
+    ensures { PreferredIsTheFirstRun }
 {}
