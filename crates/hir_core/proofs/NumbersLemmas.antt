@@ -1,9 +1,10 @@
 -- Runs don't depend on the numbers of the nodes.
-use Rattle.std.proofs.Common.{◌≡◌, ℕ, zero, suc, ◌+◌, Bool, true, false, cond, List, [], ◌∷◌, ◌++◌, length, map, Option, Some, None, if◌then◌else◌, refl, sym, ap, ap₂, ◌∙◌, true≢false, eq-eqb, arith}
+use Rattle.std.proofs.Common.{◌≡◌, ℕ, zero, suc, ◌+◌, ◌<◌, Bool, true, false, cond, List, [], ◌∷◌, ◌++◌, length, map, Option, Some, None, if◌then◌else◌, refl, sym, ap, ap₂, ◌∙◌, true≢false, eq-eqb, arith}
 use Rattle.std.specs.Prelude.{◌==◌, ◌||◌, option_map, slice_set}
 use Rattle.std.specs.List.{flat_map}
 use Rattle.std.proofs.Math.Bool.{or-false}
 use Rattle.std.proofs.lemmas.Bool.{eqb-true, ne_eqb}
+use Rattle.std.proofs.lemmas.List.{map-append}
 use Rattle.std.proofs.lemmas.Option.{none-some, same_Some}
 use Rattle.hir_core.specs.Core.{Core, empty, byte_in, char_in, look, group, pair, choice, none, plus, numbers}
 use Rattle.hir_core.specs.Looks.{holds}
@@ -65,7 +66,7 @@ module _ (n m : ℕ) where
     same_at = h.same_at;
     same_groups = h.same_groups;
     same_seen = λ i.
-    ap₂ (λ a b. a || b) (same_test p (n + i) q (m + i) (λ e. omega arith) (λ e. omega arith)) (h.same_seen i);
+        ap₂ (λ a b. a || b) (same_test p (n + i) q (m + i) (λ e. omega arith) (λ e. omega arith)) (h.same_seen i);
   }
 
   visit-alike : (k p q : ℕ) (f g : Step) (r s : Run) → p ≡ n + k → q ≡ m + k → Alike n m r s
@@ -166,6 +167,25 @@ runs-renumbered text core n m at groups =
     forget-alike n m _ _ (runs-alike n m text core 0 n m (omega arith) (omega arith) (begin at groups) (begin at groups)
     (record { same_at = refl; same_groups = refl; same_seen = λ i. refl }))
 
+-- a number below is seen, and none from n on
+below-alike : (n m p at groups : ℕ) → p < n → Alike n m (mark p (begin at groups)) (begin at groups)
+below-alike n m p at groups lt = record {
+  same_at = refl;
+  same_groups = refl;
+  same_seen = λ i. or-false (p == n + i) ∙ ne_eqb p (n + i) (λ e. absurd (omega arith));
+}
+
+-- a choice has the runs of its parts, one after the other
+pub choice-joined : (text : List ℕ) (a b : Core) (n at groups : ℕ)
+    → map forget (runs text (choice a b) n (begin at groups))
+    ≡ map forget (runs text a n (begin at groups)) ++ map forget (runs text b n (begin at groups))
+unfolding runs
+choice-joined text a b n at groups =
+    let part = λ (core : Core) (m : ℕ) (lt : n < m).
+    forget-alike m n _ _ (runs-alike m n text core 0 m n (omega arith) (omega arith) (mark n (begin at groups)) (begin at groups) (below-alike m n n at groups lt)) in
+    map-append forget (runs text a (n + 1) (mark n (begin at groups))) (runs text b (n + 1 + numbers a) (mark n (begin at groups)))
+    ∙ ap₂ (λ xs ys. xs ++ ys) (part a (n + 1) (omega arith)) (part b (n + 1 + numbers a) (omega arith))
+
 -- the groups of a run, with the whole as group 0
 abbrev with_whole : ℕ → Run → List (Option (ℕ × ℕ))
 with_whole at r = slice_set r.groups 0 (Some (at, r.at))
@@ -188,4 +208,4 @@ unfolding preferred runs
 preferred-first core groups text at n =
     first-whole at (runs text core 2 (mark 0 (begin at groups)))
     ∙ first-alike 2 n at _ _ (runs-alike 2 n text core 0 2 n (omega arith) (omega arith) (mark 0 (begin at groups)) (begin at groups)
-    (record { same_at = refl; same_groups = refl; same_seen = λ i. or-false (0 == 2 + i) ∙ ne_eqb 0 (2 + i) (λ e. absurd (omega arith)) }))
+    (below-alike 2 n 0 at groups (omega arith)))

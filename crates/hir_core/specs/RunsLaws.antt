@@ -1,7 +1,7 @@
 -- Laws of runs.
-use Rattle.std.specs.Prelude.{◌≡◌, ℕ, ◌+◌, ◌≤◌, Bool, List, [], length, map, All, Some, slice_set, option_map}
+use Rattle.std.specs.Prelude.{◌≡◌, ℕ, ◌+◌, ◌≤◌, Bool, List, [], ◌++◌, length, map, All, Some, slice_set, option_map}
 use Rattle.std.specs.List.{flat_map}
-use Rattle.hir_core.specs.Core.{Core}
+use Rattle.hir_core.specs.Core.{Core, choice}
 use Rattle.hir_core.specs.Runs.{Run, Step, begin, visit, rounds_or_end, after, runs, first, preferred}
 
 -- each run of a core ends at its place or after it, within the text
@@ -32,6 +32,12 @@ forget r = record { at = r.at; groups = r.groups; seen = [] }
 abbrev pub NumbersDoNotMatter : Type 0
 NumbersDoNotMatter = (text : List ℕ) (core : Core) (n m at groups : ℕ)
     → map forget (runs text core n (begin at groups)) ≡ map forget (runs text core m (begin at groups))
+
+-- where nothing was seen, a choice has the runs of its first part, and then those of its second
+abbrev pub ChoicesJoinRuns : Type 0
+ChoicesJoinRuns = (text : List ℕ) (a b : Core) (n at groups : ℕ)
+    → map forget (runs text (choice a b) n (begin at groups))
+    ≡ map forget (runs text a n (begin at groups)) ++ map forget (runs text b n (begin at groups))
 
 -- the preferred match is the first run of the core, with group 0 from the place to its end
 abbrev pub PreferredIsTheFirstRun : Type 0

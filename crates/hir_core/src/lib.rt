@@ -29,7 +29,8 @@ pub use runs_examples::{
     sets_and_looks_match_as_in_the_examples,
 };
 pub use runs_laws::{
-    numbers_do_not_matter, preferred_is_the_first_run, rounds_are_not_cut_off, runs_go_forward,
+    choices_join_runs, numbers_do_not_matter, preferred_is_the_first_run, rounds_are_not_cut_off,
+    runs_go_forward,
 };
 pub use runs_laws::{rounds_are_not_cut_off, runs_go_forward};
 pub use slots::Slots;
