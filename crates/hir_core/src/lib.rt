@@ -2,9 +2,8 @@
 //!
 //! What stands so far are the looks, and what a pattern matches. [`Look`] names what a pattern asks of a place between
 //! two bytes of a text, and [`holds`] tells whether it holds there. `specs/Core.antt` says to what a pattern is written
-//! out, and `specs/Runs.antt` what that matches; its worked examples and laws are functions here.
-//! What stands so far are the looks: [`Look`] names what a pattern asks of a place between two bytes of a text, and
-//! [`holds`] tells whether it holds there. And [`Slots`] hold the groups of a match.
+//! out, and `specs/Runs.antt` what that matches; its worked examples and laws are functions here. [`Slots`] hold the
+//! groups of a match.
 #![tactic(auto)]
 
 mod examples;
@@ -13,8 +12,8 @@ mod look;
 mod runs_examples;
 mod runs_laws;
 mod side;
-mod spot;
 mod slots;
+mod spot;
 #[cfg(test)]
 mod tests;
 
@@ -32,5 +31,4 @@ pub use runs_laws::{
     choices_join_runs, numbers_do_not_matter, preferred_is_the_first_run, rounds_are_not_cut_off,
     runs_go_forward,
 };
-pub use runs_laws::{rounds_are_not_cut_off, runs_go_forward};
 pub use slots::Slots;
