@@ -29,6 +29,21 @@ pub fn globs_are_read_as_in_the_examples()
     ensures one_character { IsReadAs (codes "?") (piece (One AnyCharacter) no_pieces) }
 {}
 
+/// How star tokens, braces and classes are read where that isn't plain.
+pub fn hard_globs_are_read_as_in_the_examples()
+    ensures most_tails { IsReadAs (codes "**/***") (piece AnyRun (piece AnyRun no_pieces)) }
+    ensures stars_at_a_braces_end { IsReadAs (codes "{d/**}") (brace (option (character 100 (character 47 (piece AnyRun no_pieces))) no_options) no_pieces) }
+    ensures stars_after_a_brace_opens { IsReadAs (codes "{**/x,y}") (brace (option (piece AnyRun (character 47 (character 120 no_pieces))) (option (character 121 no_pieces) no_options)) no_pieces) }
+    ensures stars_after_an_escaped_slash { IsReadAs (codes "\\/**/x") (character 47 (piece AnyDepth (character 120 no_pieces))) }
+    ensures stars_before_an_escaped_slash { IsReadAs (codes "**\\/x") (piece AnyRun (character 47 (character 120 no_pieces))) }
+    ensures escaped_end_of_a_class { IsReadAs (codes "[a\\]]") (piece (One (Class false (record { first = 97; last = 97 } ∷ record { first = 93; last = 93 } ∷ []))) no_pieces) }
+    ensures range_from_a_dash { IsReadAs (codes "[--a]") (piece (One (Class false (record { first = 45; last = 97 } ∷ []))) no_pieces) }
+    ensures reversed_range { IsReadAs (codes "[z-a]") (piece (One (Class false (record { first = 122; last = 97 } ∷ []))) no_pieces) }
+    ensures negated_sign { IsReadAs (codes "[!!]") (piece (One (Class true (record { first = 33; last = 33 } ∷ []))) no_pieces) }
+    ensures brace_in_a_brace { IsReadAs (codes "{{a,b},c}") (brace (option (brace (option (character 97 no_pieces) (option (character 98 no_pieces) no_options)) no_pieces) (option (character 99 no_pieces) no_options)) no_pieces) }
+    ensures two_empty_options { IsReadAs (codes "{,}") (brace (option no_pieces (option no_pieces no_options)) no_pieces) }
+{}
+
 /// Which paths globs fit.
 pub fn globs_fit_as_in_the_examples()
     ensures closing_member { Fits (codes "[]a]") (codes "]") }

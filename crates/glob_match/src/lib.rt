@@ -37,7 +37,7 @@ mod walk;
 pub use captures::glob_match_with_captures;
 pub use examples::{
     captures_are_as_in_the_examples, globs_are_read_as_in_the_examples,
-    globs_fit_as_in_the_examples,
+    globs_fit_as_in_the_examples, hard_globs_are_read_as_in_the_examples,
 };
 pub use glob::Glob;
 pub use laws::{

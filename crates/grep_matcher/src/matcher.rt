@@ -1,6 +1,6 @@
 //! Matchers: what finds spans in a haystack.
 
-ghost use Rattle.std.specs.Prelude.{◌≡◌, ℕ, ◌≤◌, length, Option, Some, None, IfOk, IfErr, OnOk, OnErr, IfSome, Result, Ok, ◌++◌, drop, option_map, is_some, true, false, Bool, List, []};
+ghost use Rattle.std.specs.Prelude.{◌≡◌, ◌⊎◌, ℕ, ◌≤◌, length, Option, Some, None, IfOk, IfErr, OnOk, OnErr, IfSome, Result, Ok, ◌++◌, drop, option_map, is_some, true, false, Bool, List, []};
 ghost use Rattle.sd_edge.specs.declared.fault.NoMemory.{NoMemory};
 ghost use Rattle.grep_matcher.specs.declared.line_match_kind.LineMatchKind.TheVariants.{Confirmed};
 ghost use Rattle.grep_matcher.specs.ByteSets.{is_in};
@@ -96,11 +96,11 @@ pub trait Matcher {
         ensures kept { fits self.now caps.new }
         ensures failed { IfErr result (may_fail self.now) };
 
-    /// How many groups each match has, group 0 included. 0 for a matcher that doesn't capture, as by default.
+    /// How many groups each match has, group 0 included, or 0, as by default and for a matcher that doesn't capture.
     ///
     /// `(\w+)@(\w+)` has 3.
     fn capture_count(&self) -> usize
-        ensures { result ≤ group_count self.now }
+        ensures { (result ≡ 0) ⊎ (result ≡ group_count self.now) }
     {
         0
     }

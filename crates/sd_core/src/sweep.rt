@@ -30,7 +30,7 @@ pub fn sweep<D: Disk>(alloc: Global, disk: &mut D, command: &TreeCommand<'_>) ->
     ensures root_missing { IsTrue D.tells → IsErrOf result Error.RootMissing → LeadsNowhere (D.state disk.old) command.now.root.now true }
     ensures nothing_written { IsErrOf result Error.RootMissing → (D.state disk.new).tree ≡ (D.state disk.old).tree }
     ensures bad_glob { (place : ℕ) → IsErrOf result (Error.BadGlob place) → IsFirstInvalid (order_of command.now).globs place × (D.state disk.new ≡ D.state disk.old) }
-    ensures valid { (place : ℕ) → IsFirstInvalid (order_of command.now).globs place → (result ≡ Err (Error.BadGlob place)) ⊎ (result ≡ Err Error.NoMemory) }
+    ensures invalid { (place : ℕ) → IsFirstInvalid (order_of command.now).globs place → (result ≡ Err (Error.BadGlob place)) ⊎ (result ≡ Err Error.NoMemory) }
     ensures no_room { IsTrue D.tells → (jobs : FailedJobs) → IsErrOf result (Error.FailedProcessing jobs)
         → HasNoRoom (D.state disk.old).tree (order_of command.now) jobs }
     ensures lists { LeavesLists (D.state disk.old) (D.state disk.new) }

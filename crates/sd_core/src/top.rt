@@ -49,7 +49,7 @@ pub fn run<D: Disk, S: Source, O: Sink, E: Sink>(
     alloc: Global,
     words: &Words,
     disk: &mut D,
-    _input: &mut S,
+    input: &mut S,
     out: &mut O,
     err: &mut E,
 ) -> Ended
@@ -59,6 +59,9 @@ pub fn run<D: Disk, S: Source, O: Sink, E: Sink>(
     ensures headline { IsTrue D.tells → (order : TreeOrder) → tree_order words.now ≡ Some order → result.status ≡ 0
         → DoesOrder (D.state disk.old).tree order (D.state disk.new).tree O.tells (O.state out.old) (O.state out.new) }
     ensures err_kept { result.status ≡ 0 → E.state err.new ≡ E.state err.old }
+    ensures input_kept { S.state input.new ≡ S.state input.old }
+    ensures out_kept { (error : Error) → result.why ≡ Why.Fault error → (O.state out.new ≡ O.state out.old)
+        ⊎ ((error ≡ Error.File DiskFault.Failed) × HasRisen (O.state out.old).faults (O.state out.new).faults) }
     ensures leaves { IsTrue D.tells → (order : TreeOrder) → tree_order words.now ≡ Some order
         → LeavesTree (D.state disk.old).tree order (D.state disk.new).tree }
     ensures lists { LeavesLists (D.state disk.old) (D.state disk.new) }
@@ -102,6 +105,8 @@ fn why_ended<D: Disk, O: Sink>(alloc: Global, words: &Words, disk: &mut D, out: 
         → DoesOrder (D.state disk.old).tree order (D.state disk.new).tree O.tells (O.state out.old) (O.state out.new) }
     ensures leaves { IsTrue D.tells → (order : TreeOrder) → tree_order words.now ≡ Some order
         → LeavesTree (D.state disk.old).tree order (D.state disk.new).tree }
+    ensures out_kept { (error : Error) → result ≡ Why.Fault error → (O.state out.new ≡ O.state out.old)
+        ⊎ ((error ≡ Error.File DiskFault.Failed) × HasRisen (O.state out.old).faults (O.state out.new).faults) }
     ensures lists { LeavesLists (D.state disk.old) (D.state disk.new) }
     ensures refused { IsTrue D.tells → (order : TreeOrder) → tree_order words.now ≡ Some order → (error : Error) → result ≡ Why.Fault error
         → (O.state out.new ≡ O.state out.old)

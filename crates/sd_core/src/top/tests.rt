@@ -274,3 +274,46 @@ fn a_hostile_glob_answers_at_once(rt: HostRuntime) -> Result<(), Fail> {
     );
     Ok(())
 }
+
+#[test]
+fn globs_choose_files_in_all_folders_below(rt: HostRuntime) -> Result<(), Fail> {
+    let alloc = rt.alloc();
+    let mut disk = MemDisk::new(alloc);
+    for folder in ["/p", "/p/src", "/p/src/ui"] {
+        disk.add_dir(folder)?;
+    }
+    let two_lines = b"import a from \"react\"\nimport b from \"react-dom\"\n";
+    disk.add_file("/p/src/app.js", b"from \"react\" from \"react\"", 0o644)?;
+    disk.add_file("/p/src/ui/list.jsx", two_lines, 0o600)?;
+    disk.add_file("/p/src/ui/empty.js", b"", 0o644)?;
+    disk.add_file("/p/src/notes.md", b"from \"react\"", 0o644)?;
+    let glob = "src/**/*.{js,jsx}";
+    let words = [
+        "--root",
+        "/p",
+        "--",
+        "from \"react\"",
+        "from \"preact\"",
+        glob,
+    ];
+    let run = run_words(alloc, &mut disk, &words, 1000)?;
+    assert_eq!(rt; run.ended.status, 0);
+    assert_eq!(rt;
+        run.out.bytes(),
+        b"chosen 2, changed 2, replaced 3\n".as_slice()
+    );
+    let new_lines = b"import a from \"preact\"\nimport b from \"react-dom\"\n";
+    assert!(rt; holds(alloc, &disk, "/p/src/ui/list.jsx", new_lines)?);
+    assert!(rt;
+        holds(
+            alloc,
+            &disk,
+            "/p/src/app.js",
+            b"from \"preact\" from \"preact\""
+        )?
+    );
+    assert!(rt; holds(alloc, &disk, "/p/src/ui/empty.js", b"")?);
+    assert!(rt; holds(alloc, &disk, "/p/src/notes.md", b"from \"react\"")?);
+    assert_eq!(rt; disk.mode_at("/p/src/ui/list.jsx"), Some(0o600));
+    Ok(())
+}
