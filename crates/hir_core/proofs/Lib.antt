@@ -1,5 +1,6 @@
 mod CharacterLemmas
 mod ClosureLemmas
+mod CompileLemmas
 mod Computing
 mod ListLemmas
 mod NumbersLemmas

@@ -1,4 +1,5 @@
 pub mod Core
+pub mod CoreTree
 pub mod Examples
 pub mod Laws
 pub mod Looks

@@ -6,6 +6,8 @@
 //! groups of a match.
 #![tactic(auto)]
 
+mod compile;
+mod core_tree;
 mod examples;
 mod laws;
 mod look;
