@@ -1,10 +1,11 @@
 -- A core that is appended to a program stands in it.
-use Rattle.std.proofs.Common.{◌≡◌, ℕ, ◌+◌, ◌<◌, ◌≤◌, List, [], ◌∷◌, ◌++◌, length, length-append, option_map, Vec, Global, sym, ap, ◌∙◌, add_comm, arith}
+use Rattle.std.proofs.Common.{◌≡◌, ℕ, ◌+◌, ◌<◌, ◌≤◌, Bool, List, [], ◌∷◌, ◌++◌, length, length-append, option_map, Vec, Global, if◌then◌else◌, refl, sym, ap, ◌∙◌, add_comm, arith}
 use Rattle.std.proofs.lemmas.Grind.{common_steps}
-use Rattle.hir_core.specs.Core.{Core, byte_in, char_in, group, pair, choice, numbers}
-use Rattle.hir_core.specs.CoreTree.{Extends, IsProgram, GivesPreferred}
+use Rattle.hir_core.specs.Core.{Core, empty, byte_in, char_in, look, group, pair, choice, none, plus, numbers}
+use Rattle.hir_core.specs.CoreTree.{Lays, IsProgram, GivesPreferred}
 use Rattle.hir_core.specs.Program.{spot_at, ClosesFall, Placed}
 use Rattle.hir_core.specs.Runs.{begin, first, preferred}
+use Rattle.hir_core.specs.declared.look.Look.{Look}
 use Rattle.hir_core.specs.declared.spot.Spot.{Spot}
 use Rattle.hir_core.specs.declared.spot.Spot.TheVariants as spot
 use Rattle.hir_core.proofs.PlacedLemmas.{program-runs}
@@ -18,43 +19,158 @@ pushed_at old s n e = grind (arith, common_steps)
 pushed_below : (old : List Spot) (s : Spot) (q : ℕ) → q < length old → spot_at (old ++ s ∷ []) q ≡ spot_at old q
 pushed_below old s q lt = grind (arith, common_steps)
 
-pub placed_bytes : (new old : List Spot) (set : Vec (ℕ × ℕ) Global) (ranges : List (ℕ × ℕ)) (n f : ℕ) → length old ≡ n
-    → new ≡ old ++ spot.Bytes set f ∷ [] → set.items ≡ ranges → Placed new n f (byte_in ranges)
-placed_bytes new old set ranges n f len e same = (set, ap (λ xs. spot_at xs n) e ∙ pushed_at old (spot.Bytes set f) n len, same)
+-- the places of two that were pushed
+pushed_first : (old : List Spot) (s t : Spot) → spot_at (old ++ s ∷ t ∷ []) (length old) ≡ s
+pushed_first old s t = grind (arith, common_steps)
 
-pub placed_chars : (new old : List Spot) (set : Vec (ℕ × ℕ) Global) (ranges : List (ℕ × ℕ)) (n f : ℕ) → length old ≡ n
-    → new ≡ old ++ spot.Chars set f ∷ [] → set.items ≡ ranges → Placed new n f (char_in ranges)
-placed_chars new old set ranges n f len e same = (set, ap (λ xs. spot_at xs n) e ∙ pushed_at old (spot.Chars set f) n len, same)
+pushed_second : (old : List Spot) (s t : Spot) → spot_at (old ++ s ∷ t ∷ []) (length old + 1) ≡ t
+pushed_second old s t = grind (arith, common_steps)
 
--- one spot, and then two parts
-both_placed : (old one two three : List Spot) (s : Spot) (a b : Core) (n g f : ℕ) → length old ≡ n → one ≡ old ++ s ∷ []
-    → Placed two (n + 1) g a → Extends one two (numbers a) → Placed three (n + 1 + numbers a) f b → Extends two three (numbers b)
-    → (spot_at three n ≡ s) × Placed three (n + 1) g a × Placed three (n + 1 + numbers a) f b
-both_placed old one two three s a b n g f len e first more second yet_more =
-    let size : length one ≡ n + 1 = omega (arith, ap length e, length-append old (s ∷ [])) in (
-      yet_more.kept n (omega (arith, more.size)) ∙ more.kept n (omega arith) ∙ ap (λ xs. spot_at xs n) e ∙ pushed_at old s n len,
-      Placed-same two three a (n + 1) g (λ q lo hi. yet_more.kept q (omega (arith, more.size))) first,
-      second,
-    )
+pushed_two_below : (old : List Spot) (s t : Spot) (q : ℕ) → q < length old → spot_at (old ++ s ∷ t ∷ []) q ≡ spot_at old q
+pushed_two_below old s t q lt = grind (arith, common_steps)
 
-pub placed_pair : (three old one two : List Spot) (a b : Core) (n m f : ℕ) → length old ≡ n → m ≡ n + 1 + numbers a → one ≡ old ++ spot.Jump (n + 1) ∷ []
-    → Placed two (n + 1) m a → Extends one two (numbers a) → Placed three m f b → Extends two three (numbers b)
-    → Placed three n f (pair a b)
-placed_pair three old one two a b n m f len same e first more second yet_more =
-    both_placed old one two three (spot.Jump (n + 1)) a b n (n + 1 + numbers a) f len e
-    (rw (← same) first) more (rw (← same) second) yet_more
+-- the first n spots are the same
+abbrev pub SameBelow : ℕ → List Spot → List Spot → Type 0
+SameBelow n old new = (q : ℕ) → q < n → spot_at new q ≡ spot_at old q
 
-pub placed_choice : (three old one two : List Spot) (a b : Core) (n m f : ℕ) → length old ≡ n → m ≡ n + 1 + numbers a → one ≡ old ++ spot.Split (n + 1) m ∷ []
-    → Placed two (n + 1) f a → Extends one two (numbers a) → Placed three m f b → Extends two three (numbers b)
-    → Placed three n f (choice a b)
-placed_choice three old one two a b n m f len same e first more second yet_more =
-    both_placed old one two three (spot.Split (n + 1) (n + 1 + numbers a)) a b n f f len (e ∙ ap (λ k. old ++ spot.Split (n + 1) k ∷ []) same)
-    first more (rw (← same) second) yet_more
+-- one spot was pushed
+record Pushed (old new : List Spot) (s : Spot) : Type 0 where
+  size : length new ≡ length old + 1
+  kept : SameBelow (length old) old new
+  here : spot_at new (length old) ≡ s
+
+pushed : (old new : List Spot) (s : Spot) → new ≡ old ++ s ∷ [] → Pushed old new s
+pushed old new s e = record {
+  size = omega (arith, ap length e, length-append old (s ∷ []));
+  kept = λ q lt. ap (λ xs. spot_at xs q) e ∙ pushed_below old s q lt;
+  here = ap (λ xs. spot_at xs (length old)) e ∙ pushed_at old s (length old) refl;
+}
+
+-- two spots were pushed
+record PushedTwo (old new : List Spot) (s t : Spot) : Type 0 where
+  size : length new ≡ length old + 2
+  kept : SameBelow (length old) old new
+  here : spot_at new (length old) ≡ s
+  after : spot_at new (length old + 1) ≡ t
+
+pushed_two : (old new : List Spot) (s t : Spot) → new ≡ old ++ s ∷ t ∷ [] → PushedTwo old new s t
+pushed_two old new s t e = record {
+  size = omega (arith, ap length e, length-append old (s ∷ t ∷ []));
+  kept = λ q lt. ap (λ xs. spot_at xs q) e ∙ pushed_two_below old s t q lt;
+  here = ap (λ xs. spot_at xs (length old)) e ∙ pushed_first old s t;
+  after = ap (λ xs. spot_at xs (length old + 1)) e ∙ pushed_second old s t;
+}
+
+pub lays_empty : (old new : List Spot) (f : ℕ) → new ≡ old ++ spot.Jump f ∷ [] → Lays old new f empty
+lays_empty old new f e =
+    let one = pushed old new (spot.Jump f) e in record { size = one.size; kept = one.kept; placed = one.here }
+
+pub lays_bytes : (old new : List Spot) (f : ℕ) (set : Vec (ℕ × ℕ) Global) (ranges : List (ℕ × ℕ))
+    → new ≡ old ++ spot.Bytes set f ∷ [] → set.items ≡ ranges → Lays old new f (byte_in ranges)
+lays_bytes old new f set ranges e same =
+    let one = pushed old new (spot.Bytes set f) e in record { size = one.size; kept = one.kept; placed = (set, one.here, same) }
+
+pub lays_chars : (old new : List Spot) (f : ℕ) (set : Vec (ℕ × ℕ) Global) (ranges : List (ℕ × ℕ))
+    → new ≡ old ++ spot.Chars set f ∷ [] → set.items ≡ ranges → Lays old new f (char_in ranges)
+lays_chars old new f set ranges e same =
+    let one = pushed old new (spot.Chars set f) e in record { size = one.size; kept = one.kept; placed = (set, one.here, same) }
+
+pub lays_look : (old new : List Spot) (f : ℕ) (l : Look) → new ≡ old ++ spot.Look l f ∷ [] → Lays old new f (look l)
+lays_look old new f l e =
+    let one = pushed old new (spot.Look l f) e in record { size = one.size; kept = one.kept; placed = one.here }
+
+pub lays_none : (old new : List Spot) (f : ℕ) → new ≡ old ++ spot.Fail ∷ [] → Lays old new f none
+lays_none old new f e =
+    let one = pushed old new spot.Fail e in record { size = one.size; kept = one.kept; placed = one.here }
+
+-- What was appended of a core: once this part of it is appended too, followed by f, the core stands.
+pub record Waits (old now : List Spot) (next : ℕ) (core : Core) (f : ℕ) (part : Core) : Type 0 where
+  pub size : length now + numbers part ≡ length old + numbers core
+  pub grown : length old ≤ length now
+  pub kept : SameBelow (length old) old now
+  pub whole : (final : List Spot) → SameBelow (length now) now final → Placed final (length now) f part → Placed final (length old) next core
+
+pub waits_begin : (old : List Spot) (next : ℕ) (core : Core) → Waits old old next core next core
+waits_begin old next core = record { size = refl; grown = omega arith; kept = λ q lt. refl; whole = λ final same p. p }
+
+pub waits_end : (old now new : List Spot) (next f : ℕ) (core part : Core) → Waits old now next core f part → Lays now new f part
+    → Lays old new next core
+waits_end old now new next f core part w l = record {
+  size = omega (arith, w.size, l.size);
+  kept = λ q lt. l.kept q (omega (arith, w.grown)) ∙ w.kept q lt;
+  placed = w.whole new l.kept l.placed;
+}
+
+-- more is appended, and a smaller part waits
+waits_step : (old now new : List Spot) (next f g : ℕ) (core part rest : Core) → Waits old now next core f part
+    → length now ≤ length new → SameBelow (length now) now new → length new + numbers rest ≡ length now + numbers part
+    → ((final : List Spot) → SameBelow (length new) new final → Placed final (length new) g rest → Placed final (length now) f part)
+    → Waits old new next core g rest
+waits_step old now new next f g core part rest w longer same sizes step = record {
+  size = sizes ∙ w.size;
+  grown = omega (arith, w.grown);
+  kept = λ q lt. same q (omega (arith, w.grown)) ∙ w.kept q lt;
+  whole = λ final keep p. w.whole final (λ q lt. keep q (omega arith) ∙ same q lt) (step final keep p);
+}
+
+pub waits_group : (old now new : List Spot) (next f n i : ℕ) (core a : Core) → Waits old now next core f (group i a) → length now ≡ n
+    → new ≡ now ++ spot.Open (n + 2) ∷ spot.Close i f ∷ [] → Waits old new next core (n + 1) a
+waits_group old now new next f n i core a w at e =
+    let two = pushed_two now new (spot.Open (n + 2)) (spot.Close i f) e in
+    waits_step old now new next f (n + 1) core (group i a) a w (omega (arith, two.size)) two.kept (omega (arith, two.size))
+    (λ final keep p. (
+      keep (length now) (omega (arith, two.size)) ∙ two.here ∙ ap (λ k. spot.Open (k + 2)) (sym at),
+      keep (length now + 1) (omega (arith, two.size)) ∙ two.after,
+      (rw (two.size, ← at) at p),
+    ))
+
+pub waits_plus : (old now new : List Spot) (next f n : ℕ) (greedy : Bool) (core a : Core) → Waits old now next core f (plus greedy a) → length now ≡ n
+    → new ≡ now ++ spot.Jump (n + 2) ∷ (if greedy then spot.Split (n + 2) f else spot.Split f (n + 2)) ∷ []
+    → Waits old new next core (n + 1) a
+waits_plus old now new next f n greedy core a w at e =
+    let again : ℕ → Spot = λ k. if greedy then spot.Split (k + 2) f else spot.Split f (k + 2) in
+    let two = pushed_two now new (spot.Jump (n + 2)) (again n) e in
+    waits_step old now new next f (n + 1) core (plus greedy a) a w (omega (arith, two.size)) two.kept (omega (arith, two.size))
+    (λ final keep p. (
+      keep (length now) (omega (arith, two.size)) ∙ two.here ∙ ap (λ k. spot.Jump (k + 2)) (sym at),
+      keep (length now + 1) (omega (arith, two.size)) ∙ two.after ∙ ap again (sym at),
+      (rw (two.size, ← at) at p),
+    ))
+
+pub waits_pair : (old now one two : List Spot) (next f n m : ℕ) (core a b : Core) → Waits old now next core f (pair a b) → length now ≡ n
+    → m ≡ n + 1 + numbers a → one ≡ now ++ spot.Jump (n + 1) ∷ [] → Lays one two m a → Waits old two next core f b
+waits_pair old now one two next f n m core a b w at to e l =
+    let entry = pushed now one (spot.Jump (n + 1)) e in
+    let ends : length two ≡ length now + 1 + numbers a = omega (arith, entry.size, l.size) in
+    let to_here : m ≡ length now + 1 + numbers a = omega arith in
+    waits_step old now two next f f core (pair a b) b w (omega (arith, ends)) (λ q lt. l.kept q (omega (arith, entry.size)) ∙ entry.kept q lt)
+    (omega (arith, ends))
+    (λ final keep p. (
+      keep (length now) (omega (arith, ends)) ∙ l.kept (length now) (omega (arith, entry.size)) ∙ entry.here ∙ ap (λ k. spot.Jump (k + 1)) (sym at),
+      Placed-same two final a (length now + 1) (length now + 1 + numbers a) (λ q lo hi. keep q (omega (arith, ends)))
+          (rw (entry.size, to_here) at l.placed),
+      (rw ends at p),
+    ))
+
+pub waits_choice : (old now one two : List Spot) (next f n m : ℕ) (core a b : Core) → Waits old now next core f (choice a b) → length now ≡ n
+    → m ≡ n + 1 + numbers a → one ≡ now ++ spot.Split (n + 1) m ∷ [] → Lays one two f a → Waits old two next core f b
+waits_choice old now one two next f n m core a b w at to e l =
+    let entry = pushed now one (spot.Split (n + 1) m) e in
+    let ends : length two ≡ length now + 1 + numbers a = omega (arith, entry.size, l.size) in
+    let to_here : m ≡ length now + 1 + numbers a = omega arith in
+    waits_step old now two next f f core (choice a b) b w (omega (arith, ends)) (λ q lt. l.kept q (omega (arith, entry.size)) ∙ entry.kept q lt)
+    (omega (arith, ends))
+    (λ final keep p. (
+      keep (length now) (omega (arith, ends)) ∙ l.kept (length now) (omega (arith, entry.size)) ∙ entry.here
+          ∙ ap (λ k. spot.Split (k + 1) m) (sym at) ∙ ap (spot.Split (length now + 1)) to_here,
+      Placed-same two final a (length now + 1) f (λ q lo hi. keep q (omega (arith, ends))) (rw entry.size at l.placed),
+      (rw ends at p),
+    ))
 
 -- a core that was appended to the ends of group 0, with the match after it
 pub program-placed : (start old new : List Spot) (core : Core) → start ≡ spot.Open 2 ∷ spot.Close 0 (numbers core + 2) ∷ []
-    → Placed old 2 1 core → Extends start old (numbers core) → new ≡ old ++ spot.Match ∷ [] → IsProgram core new
-program-placed start old new core at_start p more e =
+    → Lays start old 1 core → new ≡ old ++ spot.Match ∷ [] → IsProgram core new
+program-placed start old new core at_start more e =
     let two : length start ≡ 2 = ap length at_start in
     let long : length old ≡ 2 + numbers core = omega (arith, more.size) in
     let same : Same old new 0 (2 + numbers core) = λ q lo hi. ap (λ xs. spot_at xs q) e ∙ pushed_below old spot.Match q (omega arith) in
@@ -64,7 +180,7 @@ program-placed start old new core at_start p more e =
         same 0 (omega arith) (omega arith) ∙ more.kept 0 (omega arith) ∙ ap (λ xs. spot_at xs 0) at_start,
         same 1 (omega arith) (omega arith) ∙ more.kept 1 (omega arith) ∙ ap (λ xs. spot_at xs 1) at_start
             ∙ ap (λ n. spot.Close 0 n) (add_comm (numbers core) 2),
-        Placed-same old new core 2 1 (λ q lo hi. same q (omega arith) (omega arith)) p,
+        Placed-same old new core 2 1 (λ q lo hi. same q (omega arith) (omega arith)) (rw two at more.placed),
       );
       ends = ap (λ xs. spot_at xs (2 + numbers core)) e ∙ pushed_at old spot.Match (2 + numbers core) long;
     }

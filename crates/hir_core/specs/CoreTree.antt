@@ -26,10 +26,11 @@ core_of_tree (Choice' p a q b) = choice (core_of_tree a) (core_of_tree b)
 core_of_tree Nothing = none
 core_of_tree (Plus' greed p a) = plus (is_greedy greed) (core_of_tree a)
 
--- n spots were appended
-pub record Extends (old new : List Spot) (n : ℕ) : Type 0 where
-  pub size : length new ≡ length old + n
+-- The spots of a core were appended to a program, and this spot follows them.
+pub record Lays (old new : List Spot) (next : ℕ) (core : Core) : Type 0 where
+  pub size : length new ≡ length old + numbers core
   pub kept : (q : ℕ) → q < length old → spot_at new q ≡ spot_at old q
+  pub placed : Placed new (length old) next core
 
 -- A program of a core: the core stands at its start as group 0, which is the whole match, and then the match ends.
 pub record IsProgram (core : Core) (spots : List Spot) : Type 0 where

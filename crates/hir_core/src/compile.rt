@@ -1,10 +1,11 @@
 //! Compiling the core of a pattern to a program of spots.
 
-ghost use Rattle.std.specs.Prelude.{◌≡◌, ℕ, ◌+◌, ◌^◌, ◌<◌, vec_len, OnOk, IfOk, if◌then◌else◌};
-ghost use Rattle.hir_core.specs.Core.{numbers};
-ghost use Rattle.hir_core.specs.CoreTree.{core_of_tree, is_greedy, Extends, IsProgram, GivesPreferred};
-ghost use Rattle.hir_core.specs.Program.{ClosesFall, Placed};
+ghost use Rattle.std.specs.Prelude.{◌≡◌, ◌+◌, ◌^◌, ◌<◌, [], ◌∷◌, ◌++◌, vec_len, OnOk, IfOk, if◌then◌else◌};
+ghost use Rattle.hir_core.specs.Core.{byte_in, char_in, numbers};
+ghost use Rattle.hir_core.specs.CoreTree.{core_of_tree, is_greedy, Lays, IsProgram, GivesPreferred};
+ghost use Rattle.hir_core.specs.Program.{ClosesFall};
 
+use crate::Look;
 use crate::core_tree::{CoreTree, Greed, size};
 use crate::spot::Spot;
 use sd_edge::NoMemory;
@@ -35,8 +36,7 @@ pub fn program(alloc: Global, tree: &CoreTree) -> Result<Vec<Spot>, NoMemory>
 }
 
 /// Appends the spots of the tree, which the spot `next` follows. Refuses for want of memory alone, and leaves some of the
-/// spots then.
-#[tactic(auto, using(crate::proofs::CompileLemmas::placed_bytes, crate::proofs::CompileLemmas::placed_chars, crate::proofs::CompileLemmas::placed_pair, crate::proofs::CompileLemmas::placed_choice))]
+/// spots then. What comes last in a tree is laid by the loop, so a long chain of parts takes no stack.
 pub fn compile(
     alloc: Global,
     tree: &CoreTree,
@@ -44,75 +44,121 @@ pub fn compile(
     out: &mut Vec<Spot>,
 ) -> Result<(), NoMemory>
     requires { vec_len out.old + numbers (core_of_tree tree.now) < 2 ^ 63 }
-    ensures placed { OnOk result
-        (Placed out.new.items (vec_len out.old) next (core_of_tree tree.now)) }
-    ensures extends { OnOk result
-        (Extends out.old.items out.new.items (numbers (core_of_tree tree.now))) }
+    ensures { OnOk result (Lays out.old.items out.new.items next (core_of_tree tree.now)) }
 {
-    let here = out.len();
-    match tree {
-        CoreTree::Empty => out.push(Spot::Jump { next })?,
-        CoreTree::Bytes(set) => {
-            let set = Vec::from_slice(alloc, set.as_slice())?;
-            out.push(Spot::Bytes { set, next })?;
-        }
-        CoreTree::Chars(set) => {
-            let set = Vec::from_slice(alloc, set.as_slice())?;
-            out.push(Spot::Chars { set, next })?;
-        }
-        CoreTree::Look(look) => out.push(Spot::Look { look: *look, next })?,
-        CoreTree::Group(index, body) => {
-            let index = *index as usize;
-            out.push(Spot::Open { next: here + 2 })?;
-            out.push(Spot::Close { index, next })?;
-            compile(alloc, body, here + 1, out)?;
-        }
-        CoreTree::Pair(first, second) => {
-            let rest = here + 1 + size(first);
-            out.push(Spot::Jump { next: here + 1 })?;
-            compile(alloc, first, rest, out)?;
-            compile(alloc, second, next, out)?;
-        }
-        CoreTree::Choice(first, second) => {
-            let rest = here + 1 + size(first);
-            out.push(Spot::Split {
-                first: here + 1,
-                second: rest,
-            })?;
-            compile(alloc, first, next, out)?;
-            compile(alloc, second, next, out)?;
-        }
-        CoreTree::Nothing => out.push(Spot::Fail)?,
-        CoreTree::Plus { greed, body } => {
-            out.push(Spot::Jump { next: here + 2 })?;
-            out.push(again_spot(*greed, here + 2, next))?;
-            let again = here + 1;
-            compile(alloc, body, again, out)?;
+    let mut part = tree;
+    let mut follow = next;
+    'parts: loop {
+        let here = out.len();
+        match part {
+            CoreTree::Empty => return Ok(out.push(Spot::Jump { next: follow })?),
+            CoreTree::Bytes(set) => return push_bytes(alloc, set.as_slice(), follow, out),
+            CoreTree::Chars(set) => return push_chars(alloc, set.as_slice(), follow, out),
+            CoreTree::Look(look) => return push_look(*look, follow, out),
+            CoreTree::Nothing => return Ok(out.push(Spot::Fail)?),
+            CoreTree::Group(index, body) => {
+                let end = here + 1;
+                push_ends(*index, follow, out)?;
+                part = body;
+                follow = end;
+            }
+            CoreTree::Pair(first, second) => {
+                out.push(Spot::Jump { next: here + 1 })?;
+                compile(alloc, first, here + 1 + size(first), out)?;
+                part = second;
+            }
+            CoreTree::Choice(first, second) => {
+                push_split(here + 1, here + 1 + size(first), out)?;
+                compile(alloc, first, follow, out)?;
+                part = second;
+            }
+            CoreTree::Plus { greed, body } => {
+                let again = here + 1;
+                push_rounds(*greed, follow, out)?;
+                part = body;
+                follow = again;
+            }
         }
     }
+}
+
+/// Appends a spot that takes a byte of a set.
+fn push_bytes(
+    alloc: Global,
+    set: &[(u8, u8)],
+    next: usize,
+    out: &mut Vec<Spot>,
+) -> Result<(), NoMemory>
+    ensures { OnOk result (Lays out.old.items out.new.items next (byte_in set.now)) }
+{
+    let set = Vec::from_slice(alloc, set)?;
+    out.push(Spot::Bytes { set, next })?;
     Ok(())
 }
 
-/// The again spot of a repetition, which leads to one more round and to its end.
-fn again_spot(greed: Greed, round: usize, end: usize) -> Spot
-    ensures { result ≡ (if is_greedy greed then Spot.Split round end else Spot.Split end round) }
+/// Appends a spot that takes a character of a set.
+fn push_chars(
+    alloc: Global,
+    set: &[(char, char)],
+    next: usize,
+    out: &mut Vec<Spot>,
+) -> Result<(), NoMemory>
+    ensures { OnOk result (Lays out.old.items out.new.items next (char_in set.now)) }
 {
+    let set = Vec::from_slice(alloc, set)?;
+    out.push(Spot::Chars { set, next })?;
+    Ok(())
+}
+
+/// Appends a spot that goes on where a look holds.
+fn push_look(look: Look, next: usize, out: &mut Vec<Spot>) -> Result<(), NoMemory>
+    ensures { OnOk result (out.new.items ≡ out.old.items ++ Spot.Look look next ∷ []) }
+{
+    out.push(Spot::Look { look, next })?;
+    Ok(())
+}
+
+/// Appends the two ends of a group.
+fn push_ends(index: u32, next: usize, out: &mut Vec<Spot>) -> Result<(), NoMemory>
+    requires { vec_len out.old + 2 < 2 ^ 63 }
+    ensures { OnOk result (out.new.items
+        ≡ out.old.items ++ Spot.Open (vec_len out.old + 2) ∷ Spot.Close index next ∷ []) }
+{
+    let body = out.len() + 2;
+    out.push(Spot::Open { next: body })?;
+    out.push(Spot::Close {
+        index: index as usize,
+        next,
+    })?;
+    Ok(())
+}
+
+/// Appends a spot that goes on both ways, the first preferred.
+fn push_split(first: usize, second: usize, out: &mut Vec<Spot>) -> Result<(), NoMemory>
+    ensures { OnOk result (out.new.items ≡ out.old.items ++ Spot.Split first second ∷ []) }
+{
+    out.push(Spot::Split { first, second })?;
+    Ok(())
+}
+
+/// Appends the two spots of a repetition: one that leads to a round, and its again spot, which leads to one more round
+/// and to an end of them.
+fn push_rounds(greed: Greed, next: usize, out: &mut Vec<Spot>) -> Result<(), NoMemory>
+    requires { vec_len out.old + 2 < 2 ^ 63 }
+    ensures { let round = vec_len out.old + 2 in OnOk result (out.new.items ≡ out.old.items ++ Spot.Jump round
+        ∷ (if is_greedy greed then Spot.Split round next else Spot.Split next round) ∷ []) }
+{
+    let round = out.len() + 2;
+    out.push(Spot::Jump { next: round })?;
     match greed {
-        Greed::Greedy => Spot::Split {
-            first: round,
-            second: end,
-        },
-        Greed::Lazy => Spot::Split {
-            first: end,
-            second: round,
-        },
+        Greed::Greedy => push_split(round, next, out),
+        Greed::Lazy => push_split(next, round, out),
     }
 }
 
 #[cfg(test)]
 mod tests {
     use super::*;
-    use crate::Look;
     use std::test::Fail;
 
     fn byte(alloc: Global, b: u8) -> Result<Box<CoreTree>, Fail> {
@@ -190,6 +236,19 @@ mod tests {
         let spots = program(rt.alloc(), &CoreTree::Empty)?;
         assert_eq!(rt; spots.len(), 4);
         assert!(rt; matches!(&spots[2], Spot::Jump { next: 1 }));
+        Ok(())
+    }
+
+    // Parts in a row, so many that a recursion over them would run out of stack.
+    #[test]
+    fn a_long_row(rt: HostRuntime) -> Result<(), Fail> {
+        let alloc = rt.alloc();
+        let mut tree = CoreTree::Empty;
+        for _ in 0..500_000 {
+            tree = CoreTree::Pair(byte(alloc, b'a')?, Box::new(alloc, tree)?);
+        }
+        let spots = program(alloc, &tree)?;
+        assert_eq!(rt; spots.len(), 1_000_004);
         Ok(())
     }
 }

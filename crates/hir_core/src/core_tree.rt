@@ -16,7 +16,6 @@ pub enum Greed {
 }
 
 /// The core of a pattern: what its repetitions are written out to.
-#[derive(Drop)]
 pub enum CoreTree {
     /// Takes nothing.
     Empty,
@@ -38,19 +37,48 @@ pub enum CoreTree {
     Plus { greed: Greed, body: Box<CoreTree> },
 }
 
-/// How many spots the program of a tree takes, at most `usize::MAX`.
+// What comes last in a tree is dropped by the loop, so a long chain of parts takes no stack.
+impl Drop for CoreTree {
+    fn drop(mut self) {
+        loop {
+            match self {
+                CoreTree::Empty | CoreTree::Nothing => return,
+                CoreTree::Bytes(_set) => return,
+                CoreTree::Chars(_set) => return,
+                CoreTree::Look(_look) => return,
+                CoreTree::Group(_index, body) => self = Box::into_inner(body),
+                CoreTree::Pair(_first, second) => self = Box::into_inner(second),
+                CoreTree::Choice(_first, second) => self = Box::into_inner(second),
+                CoreTree::Plus {
+                    greed: _greed,
+                    body,
+                } => self = Box::into_inner(body),
+            }
+        }
+    }
+}
+
+/// How many spots a tree takes in a program, or `usize::MAX` if it takes more.
 pub fn size(tree: &CoreTree) -> usize
     ensures { result ≡ min (numbers (core_of_tree tree.now)) (2 ^ 64 - 1) }
 {
-    match tree {
-        CoreTree::Empty
-        | CoreTree::Bytes(_)
-        | CoreTree::Chars(_)
-        | CoreTree::Look(_)
-        | CoreTree::Nothing => 1,
-        CoreTree::Group(_, body) | CoreTree::Plus { body, .. } => size(body).saturating_add(2),
-        CoreTree::Pair(first, second) | CoreTree::Choice(first, second) => {
-            size(first).saturating_add(size(second)).saturating_add(1)
+    let mut part = tree;
+    let mut before: usize = 0;
+    'parts: loop {
+        match part {
+            CoreTree::Empty
+            | CoreTree::Bytes(_)
+            | CoreTree::Chars(_)
+            | CoreTree::Look(_)
+            | CoreTree::Nothing => return before.saturating_add(1),
+            CoreTree::Group(_, body) | CoreTree::Plus { body, .. } => {
+                before = before.saturating_add(2);
+                part = body;
+            }
+            CoreTree::Pair(first, second) | CoreTree::Choice(first, second) => {
+                before = before.saturating_add(size(first)).saturating_add(1);
+                part = second;
+            }
         }
     }
 }

@@ -1,4 +1,4 @@
-use Rattle.std.proofs.Common.{◌≡◌, ◌+◌, [], ◌∷◌, vec_len, arith}
+use Rattle.std.proofs.Common.{◌≡◌, ◌+◌, [], ◌∷◌, arith}
 use Rattle.hir_core.specs.Core.{numbers}
 use Rattle.hir_core.specs.CoreTree.{core_of_tree}
 use Rattle.hir_core.specs.declared.spot.Spot.TheVariants as spot
@@ -11,10 +11,7 @@ returns-clause-stands c =
     let count : c.size-count.result ≡ numbers core = omega arith in
     let begun : c.push-2.new.self.items ≡ spot.Open 2 ∷ spot.Close 0 (numbers core + 2) ∷ [] =
     rw (c.in_ok-push-2.ensures.items, c.in_ok-push.ensures.items, c.new-spots.ensures.items, count) in
-    let two : vec_len c.push-2.new.self ≡ 2 =
-    omega (arith, c.new-spots.ensures.len, c.in_ok-push.ensures.len, c.in_ok-push-2.ensures.len) in
-    program-placed c.push-2.new.self.items c.compile.new.out.items c.push-3.new.self.items core begun
-    (rw two at c.in_ok-compile.ensures.placed) c.in_ok-compile.ensures.extends c.in_ok-push-3.ensures.items
+    program-placed c.push-2.new.self.items c.compile.new.out.items c.push-3.new.self.items core begun c.in_ok-compile.ensures c.in_ok-push-3.ensures.items
 
 pub returns-clause-falls : goal.returns-clause-falls
 returns-clause-falls c = program-closes c.push-3.new.self.items (core_of_tree c.args.tree.now) (returns-clause-stands c)
