@@ -10,5 +10,6 @@ mod ProgramLemmas
 mod PruningLemmas
 mod RunsComputing
 mod RunsLemmas
+mod StackLemmas
 mod TicksLemmas
 mod WalkLemmas

@@ -8,3 +8,4 @@ pub mod Runs
 pub mod RunsExamples
 pub mod RunsLaws
 pub mod Sides
+pub mod StackSearch

@@ -13,9 +13,12 @@ mod laws;
 mod look;
 mod runs_examples;
 mod runs_laws;
+mod seen;
+mod set_size;
 mod side;
 mod slots;
 mod spot;
+mod stack_search;
 #[cfg(test)]
 mod tests;
 

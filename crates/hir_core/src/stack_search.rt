@@ -1,0 +1,248 @@
+//! A search by a stack of alternatives.
+
+ghost use Rattle.std.specs.Prelude.{◌≡◌, ◌+◌, ◌^◌, ◌<◌, ◌≤◌, [], ◌∷◌, ◌++◌, length, map, reverse, replicate, option_map, MatchOption, IfOk, IfSome};
+ghost use Rattle.std.specs.List.{AllByRecursion};
+ghost use Rattle.hir_core.specs.Program.{ClosesFall, way, opened, closed, gives};
+ghost use Rattle.hir_core.specs.Runs.{begin, moved, as_list, first};
+ghost use Rattle.hir_core.specs.RunsLaws.{forget};
+ghost use Rattle.hir_core.specs.StackSearch.{place_of, run_of, places_of, leads, first_at, IsOfLeast, LiesBefore, Advances};
+
+use crate::look::holds;
+use crate::seen::Seen;
+use crate::set_size::{byte_size, char_size};
+use crate::spot::Spot;
+use sd_edge::NoMemory;
+use std::alloc::Global;
+
+/// An alternative that is still to be tried.
+#[derive(Drop)]
+pub struct Alternative {
+    /// The spot at which it stands.
+    spot: usize,
+    /// The place in the text.
+    at: usize,
+    groups: Vec<Option<(usize, usize)>>,
+    /// Where the groups began that it is in, the innermost last.
+    starts: Vec<usize>,
+    /// The spots that it went through since the last byte.
+    seen: Seen,
+}
+
+/// As many unset groups, and group 0. Refuses for want of memory alone.
+fn unset(alloc: Global, groups: u32) -> Result<Vec<Option<(usize, usize)>>, NoMemory>
+    ensures { IfOk result (λ unset. unset.items ≡ replicate (groups + 1) None) }
+{
+    let mut unset = Vec::new(alloc);
+    unset.resize(groups as usize + 1, None)?;
+    Ok(unset)
+}
+
+/// An alternative at the first spot. Refuses for want of memory alone.
+fn begin_at(alloc: Global, at: usize, groups: u32) -> Result<Alternative, NoMemory>
+    ensures { IfOk result (λ a. place_of a ≡ (0, way [] (begin at groups))) }
+{
+    Ok(Alternative {
+        spot: 0,
+        at,
+        groups: unset(alloc, groups)?,
+        starts: Vec::new(alloc),
+        seen: Seen::new(alloc),
+    })
+}
+
+/// The same alternative at another spot. Refuses for want of memory alone.
+fn copy_at(alloc: Global, from: &Alternative, spot: usize) -> Result<Alternative, NoMemory>
+    ensures { IfOk result (λ a. place_of a ≡ (spot, (place_of from.now).1)) }
+{
+    Ok(Alternative {
+        spot,
+        at: from.at,
+        groups: Vec::from_slice(alloc, from.groups.as_slice())?,
+        starts: Vec::from_slice(alloc, from.starts.as_slice())?,
+        seen: from.seen.copy(alloc)?,
+    })
+}
+
+/// Takes so many bytes.
+fn take(from: &mut Alternative, size: usize)
+    requires { from.old.at + size < 2 ^ 64 }
+    ensures { let old = (place_of from.old).1 in
+        place_of from.new ≡ (from.old.spot, way old.starts (moved size old.run)) }
+{
+    from.at += size;
+    from.seen.clear();
+}
+
+/// Begins a group. Refuses for want of memory alone.
+fn open_group(from: &mut Alternative) -> Result<(), NoMemory>
+    ensures { IfOk result (λ _. place_of from.new ≡ (from.old.spot, opened (place_of from.old).1)) }
+{
+    from.starts.push(from.at)?;
+    Ok(())
+}
+
+/// Ends the innermost group.
+fn close_group(from: &mut Alternative, index: usize)
+    ensures { place_of from.new ≡ (from.old.spot, closed index (place_of from.old).1) }
+{
+    let start = from.starts.pop().unwrap_or(0);
+    if let Some(group) = from.groups.get_mut(index) {
+        *group = Some((start, from.at));
+    }
+}
+
+/// Puts an alternative on the stack, at another spot. Refuses for want of memory alone.
+fn go(from: Alternative, spot: usize, stack: &mut Vec<Alternative>) -> Result<(), NoMemory>
+    ensures { IfOk result (λ _.
+        places_of stack.new.items ≡ places_of stack.old.items ++ (spot, (place_of from).1) ∷ []) }
+{
+    let mut from = from;
+    from.spot = spot;
+    stack.push(from)?;
+    Ok(())
+}
+
+/// Goes on, if so many bytes are taken. Refuses for want of memory alone.
+fn go_past(
+    from: Alternative,
+    size: Option<usize>,
+    spot: usize,
+    stack: &mut Vec<Alternative>,
+) -> Result<(), NoMemory>
+    requires { MatchOption size Unit (λ k. from.at + k < 2 ^ 64) }
+    ensures { let old = (place_of from).1 in IfOk result (λ _. places_of stack.new.items
+        ≡ places_of stack.old.items ++ map (λ r. (spot, way old.starts r)) (as_list (option_map (λ k. moved k old.run) size))) }
+{
+    let mut from = from;
+    let Some(size) = size else {
+        return Ok(());
+    };
+    take(&mut from, size);
+    go(from, spot, stack)
+}
+
+/// Puts those on the stack to which a spot leads, the preferred last. Refuses for want of memory alone.
+fn lead(
+    alloc: Global,
+    text: &[u8],
+    spot: &Spot,
+    from: Alternative,
+    stack: &mut Vec<Alternative>,
+) -> Result<(), NoMemory>
+    requires { from.at ≤ length text.now }
+    ensures { IfOk result (λ _. places_of stack.new.items
+        ≡ places_of stack.old.items ++ reverse (leads text.now spot.now (place_of from).1)) }
+{
+    let mut from = from;
+    match spot {
+        Spot::Bytes { set, next } => {
+            let size = byte_size(set, text, from.at);
+            go_past(from, size, *next, stack)
+        }
+        Spot::Chars { set, next } => {
+            let size = char_size(set, text, from.at);
+            go_past(from, size, *next, stack)
+        }
+        Spot::Look { look, next } => {
+            if !holds(*look, text, from.at) {
+                return Ok(());
+            }
+            go(from, *next, stack)
+        }
+        Spot::Jump { next } => go(from, *next, stack),
+        Spot::Split { first, second } => {
+            let other = copy_at(alloc, &from, *second)?;
+            stack.push(other)?;
+            go(from, *first, stack)
+        }
+        Spot::Open { next } => {
+            open_group(&mut from)?;
+            go(from, *next, stack)
+        }
+        Spot::Close { index, next } => {
+            close_group(&mut from, *index);
+            go(from, *next, stack)
+        }
+        Spot::Fail | Spot::Match => Ok(()),
+    }
+}
+
+/// Tries one alternative: it is a match, or those to which it leads come onto the stack. Refuses for want of memory alone.
+fn advance(
+    alloc: Global,
+    spots: &[Spot],
+    text: &[u8],
+    from: Alternative,
+    stack: &mut Vec<Alternative>,
+) -> Result<Option<Alternative>, NoMemory>
+    requires falls { ClosesFall spots.now }
+    requires within { from.at ≤ length text.now }
+    ensures { IfOk result (λ found. Advances text.now spots.now (place_of from) (places_of stack.old.items)
+        (option_map run_of found) (places_of stack.new.items)) }
+{
+    let mut from = from;
+    let Some(spot) = spots.get(from.spot) else {
+        return Ok(None);
+    };
+    if let Spot::Match = spot {
+        return Ok(Some(from));
+    }
+    if let Spot::Close { .. } = spot {
+        lead(alloc, text, spot, from, stack)?;
+        return Ok(None);
+    }
+    if from.seen.has(from.spot) {
+        return Ok(None);
+    }
+    from.seen.add(from.spot)?;
+    lead(alloc, text, spot, from, stack)?;
+    Ok(None)
+}
+
+/// The first run that a program gives from a place. Refuses for want of memory alone.
+pub fn first_run(
+    alloc: Global,
+    spots: &[Spot],
+    text: &[u8],
+    at: usize,
+    groups: u32,
+) -> Result<Option<Alternative>, NoMemory>
+    requires falls { ClosesFall spots.now }
+    requires within { at ≤ length text.now }
+    ensures first { IfOk result (λ found. option_map run_of found ≡ first_at text.now spots.now groups at) }
+    ensures lie { IfOk result (λ found. IfSome found (λ a. AllByRecursion (LiesBefore a.at) a.groups.items)) }
+{
+    let mut stack = Vec::new(alloc);
+    stack.push(begin_at(alloc, at, groups)?)?;
+    while let Some(next) = stack.pop() {
+        if let Some(found) = advance(alloc, spots, text, next, &mut stack)? {
+            return Ok(Some(found));
+        }
+    }
+    Ok(None)
+}
+
+/// The first run from the least place that has one, from `at` on. Refuses for want of memory alone.
+pub fn first_from(
+    alloc: Global,
+    spots: &[Spot],
+    text: &[u8],
+    at: usize,
+    groups: u32,
+) -> Result<Option<Alternative>, NoMemory>
+    requires falls { ClosesFall spots.now }
+    requires within { at ≤ length text.now }
+    ensures lie { IfOk result (λ found. IfSome found (λ a. AllByRecursion (LiesBefore a.at) a.groups.items)) }
+    ensures least { IfOk result (λ found.
+        IsOfLeast (first_at text.now spots.now groups) at (length text.now) (option_map run_of found)) }
+{
+    for place in at..text.len() + 1 {
+        if let Some(found) = first_run(alloc, spots, text, place, groups)? {
+            return Ok(Some(found));
+        }
+    }
+    Ok(None)
+}
+
+#[cfg(test)]
+mod tests;
