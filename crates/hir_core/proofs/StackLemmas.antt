@@ -1,26 +1,28 @@
 -- Steps of the search by a stack of alternatives.
 use Rattle.std.proofs.Common.{◌≡◌, ℕ, zero, suc, ◌+◌, ◌^◌, ◌<◌, ◌≤◌, Bool, true, false, cond, inl, inr, List, [], ◌∷◌, ◌++◌, length, map, get_or, Option, Some, None, if◌then◌else◌, true≢false, refl, sym, ap, ap₂, ◌∙◌, eq-eqb, append-nil, lit<, arith}
-use Rattle.std.specs.Prelude.{◌||◌, drop, replicate, reverse, slice_index, option_map, MatchOption}
-use Rattle.std.specs.List.{flat_map, sum_by, AllByRecursion}
+use Rattle.std.specs.Prelude.{◌||◌, drop, replicate, reverse, slice_index, slice_set, option_map, MatchOption}
+use Rattle.std.specs.List.{flat_map, AllByRecursion}
 use Rattle.std.proofs.Math.Bool.{false-or}
 use Rattle.std.proofs.Math.Nat.{pow-le-pow_right, pow-succ', one-le-pow}
 use Rattle.std.proofs.lemmas.Bool.{cases_lt, cond-true, cond-false, ne_eqb}
 use Rattle.std.proofs.lemmas.Grind.{flat_map-append}
-use Rattle.std.proofs.lemmas.List.{map-append, get_or_past, reverse-append, reverse-reverse}
+use Rattle.std.proofs.lemmas.List.{map-append, get_or_past, length-set, length-replicate, reverse-append, reverse-reverse}
 use Rattle.std.proofs.lemmas.List.Sums.{sum_by-append}
+use Rattle.hir_core.specs.Core.{Core, group, numbers}
+use Rattle.hir_core.specs.Found.{IsOfLeast}
 use Rattle.hir_core.specs.Looks.{holds}
-use Rattle.hir_core.specs.Runs.{Run, begin, moved, mark, is_seen, byte_size, char_size, as_list, take_size}
+use Rattle.hir_core.specs.Runs.{Run, begin, moved, mark, is_seen, byte_size, char_size, as_list, runs, first, preferred}
 use Rattle.hir_core.specs.RunsLaws.{forget}
-use Rattle.hir_core.specs.Program.{spot_at, is_close, is_unmarked, Way, way, marked, opened, closed, follow, unseen, rank, gives, ClosesFall}
-use Rattle.hir_core.specs.StackSearch.{has, members_below, members, Place, place_of, places_of, leads, LiesBefore, IsSound, AllSound, gives_at, pending, weight, Advances}
+use Rattle.hir_core.specs.Program.{spot_at, is_close, is_unmarked, Way, way, marked, opened, closed, follow, unseen, rank, gives, ClosesFall, Placed}
+use Rattle.hir_core.specs.StackSearch.{has, members_below, members, Place, place_of, places_of, leads, LiesBefore, IsSound, AllSound, gives_at, first_at, pending, weight, Advances}
 use Rattle.hir_core.specs.declared.seen.Seen.{Seen}
 use Rattle.hir_core.specs.declared.spot.Spot.{Spot}
 use Rattle.hir_core.specs.declared.stack_search.Alternative.{Alternative}
 use Rattle.hir_core.specs.declared.spot.Spot.TheVariants as spot
-use Rattle.hir_core.proofs.ListLemmas.{All-append, All-weaker, All-set}
+use Rattle.hir_core.proofs.ListLemmas.{All-append, All-weaker}
 use Rattle.hir_core.proofs.RunsLemmas.{TakesWithin, byte_size-within, char_size-within}
 use Rattle.hir_core.proofs.ProgramLemmas.{rank-marked, rank-moved, rank-closed}
-use Rattle.hir_core.proofs.PlacedLemmas.{gives-at}
+use Rattle.hir_core.proofs.PlacedLemmas.{gives-at, program-runs}
 use Rattle.hir_core.proofs.PruningLemmas.{reseen, extend}
 
 -- the members of a set
@@ -143,6 +145,12 @@ past-few : (f : ℕ) (w : Way) (o : Option ℕ) → length (past f w o) ≤ 2
 past-few f w None = omega arith
 past-few f w (Some k) = omega arith
 
+-- so it is of each, where one is set
+All-set : {A : Type 0} (P : A → Type 0) (xs : List A) (i : ℕ) (x : A) → AllByRecursion P xs → P x → AllByRecursion P (slice_set xs i x)
+All-set P [] i x h k = tt
+All-set P (y ∷ ys) zero x h k = (k, h.1)
+All-set P (y ∷ ys) (suc i) x h k = (h.0, All-set P ys i x h.1 k)
+
 -- a group that lies before a place lies before a later one
 lies_later : (at later : ℕ) (group : Option (ℕ × ℕ)) → at ≤ later → LiesBefore at group → LiesBefore later group
 lies_later at later None h k = tt
@@ -161,8 +169,8 @@ lie_none : (at n : ℕ) → AllByRecursion (LiesBefore at) (replicate n None)
 lie_none at zero = tt
 lie_none at (suc n) = (tt, lie_none at n)
 
-pub sound-begin : (text : List ℕ) (at groups : ℕ) → at ≤ length text → IsSound text (way [] (begin at groups))
-sound-begin text at groups h = record { within = h; begun = tt; ended = lie_none at (groups + 1) }
+pub sound-begin : (text : List ℕ) (at groups : ℕ) → at ≤ length text → IsSound text (groups + 1) (way [] (begin at groups))
+sound-begin text at groups h = record { within = h; begun = tt; ended = lie_none at (groups + 1); counted = length-replicate (groups + 1) None }
 
 module _ (text : List ℕ) where
   leads-few : (s : Spot) (w : Way) → length (leads text s w) ≤ 2
@@ -180,42 +188,44 @@ module _ (text : List ℕ) where
   leads-few spot.Fail w = omega arith
   leads-few spot.Match w = omega arith
 
-  sound-on : (w : Way) (at : ℕ) (seen : List ℕ) → w.run.at ≤ at → at ≤ length text → IsSound text w
-      → IsSound text (way w.starts (record { at = at; groups = w.run.groups; seen = seen }))
-  sound-on w at seen on within h = record {
+  sound-on : (count : ℕ) (w : Way) (at : ℕ) (seen : List ℕ) → w.run.at ≤ at → at ≤ length text → IsSound text count w
+      → IsSound text count (way w.starts (record { at = at; groups = w.run.groups; seen = seen }))
+  sound-on count w at seen on within h = record {
     within = within;
     begun = All-weaker (λ start. start ≤ w.run.at) (λ start. start ≤ at) w.starts h.begun (λ start k. omega arith);
     ended = All-weaker (LiesBefore w.run.at) (LiesBefore at) w.run.groups h.ended (λ group k. lies_later w.run.at at group on k);
+    counted = h.counted;
   }
 
-  past-sound : (size : ℕ → Option ℕ) → TakesWithin text size → (f : ℕ) (w : Way) → IsSound text w → AllSound text (past f w (size w.run.at))
-  past-sound size within f w h = cases (size w.run.at) refl
+  past-sound : (count : ℕ) (size : ℕ → Option ℕ) → TakesWithin text size → (f : ℕ) (w : Way) → IsSound text count w → AllSound text count (past f w (size w.run.at))
+  past-sound count size within f w h = cases (size w.run.at) refl
     where
-      cases : (o : Option ℕ) → size w.run.at ≡ o → AllSound text (past f w o)
+      cases : (o : Option ℕ) → size w.run.at ≡ o → AllSound text count (past f w o)
       cases None e = tt
-      cases (Some k) e = (sound-on w (w.run.at + k) [] (omega arith) ((within w.run.at k e).1) h, tt)
+      cases (Some k) e = (sound-on count w (w.run.at + k) [] (omega arith) ((within w.run.at k e).1) h, tt)
 
-  leads-sound : (s : Spot) (w : Way) → IsSound text w → AllSound text (leads text s w)
-  leads-sound (spot.Bytes set f) w h = past-sound (byte_size set.items text) (byte_size-within set.items text) f w h
-  leads-sound (spot.Chars set f) w h = past-sound (char_size set.items text) (char_size-within set.items text) f w h
-  leads-sound (spot.Look l f) w h = cases (holds l text w.run.at)
+  leads-sound : (count : ℕ) (s : Spot) (w : Way) → IsSound text count w → AllSound text count (leads text s w)
+  leads-sound count (spot.Bytes set f) w h = past-sound count (byte_size set.items text) (byte_size-within set.items text) f w h
+  leads-sound count (spot.Chars set f) w h = past-sound count (char_size set.items text) (char_size-within set.items text) f w h
+  leads-sound count (spot.Look l f) w h = cases (holds l text w.run.at)
     where
-      cases : (b : Bool) → AllSound text (if b then (f, w) ∷ [] else [])
+      cases : (b : Bool) → AllSound text count (if b then (f, w) ∷ [] else [])
       cases true = (h, tt)
       cases false = tt
-  leads-sound (spot.Jump f) w h = (h, tt)
-  leads-sound (spot.Split p q) w h = (h, (h, tt))
-  leads-sound (spot.Open f) w h = (record { within = h.within; begun = (omega arith, h.begun); ended = h.ended }, tt)
-  leads-sound (spot.Close i f) w h = (
+  leads-sound count (spot.Jump f) w h = (h, tt)
+  leads-sound count (spot.Split p q) w h = (h, (h, tt))
+  leads-sound count (spot.Open f) w h = (record { within = h.within; begun = (omega arith, h.begun); ended = h.ended; counted = h.counted }, tt)
+  leads-sound count (spot.Close i f) w h = (
     record {
       within = h.within;
       begun = begun_rest w.run.at w.starts h.begun;
       ended = All-set (LiesBefore w.run.at) w.run.groups i (Some (slice_index w.starts 0, w.run.at)) h.ended (begun_first w.run.at w.starts h.begun, omega arith);
+      counted = length-set w.run.groups i _ ∙ h.counted;
     },
     tt,
   )
-  leads-sound spot.Fail w h = tt
-  leads-sound spot.Match w h = tt
+  leads-sound count spot.Fail w h = tt
+  leads-sound count spot.Match w h = tt
 
   -- the room for the bytes that are taken
   pub room : (size : ℕ → Option ℕ) → TakesWithin text size → (at : ℕ) → length text < 2 ^ 64 → MatchOption (size at) Unit (λ k. at + k < 2 ^ 64)
@@ -297,12 +307,12 @@ module _ (text : List ℕ) (spots : List Spot) (falls : ClosesFall spots) where
   -- what comes of places to which a spot leads
   stands : (q : ℕ) (w v : Way) (s : Spot) (below new : List Place) → new ≡ below ++ reverse (leads text s v)
       → map forget (gives text spots q w) ≡ flat_map (gives_at text spots) (leads text s v)
-      → AllLower text spots (rank text spots q w) (leads text s v) → (IsSound text w → IsSound text v) → Advances text spots (q, w) below None new
+      → AllLower text spots (rank text spots q w) (leads text s v) → ((count : ℕ) → IsSound text count w → IsSound text count v) → Advances text spots (q, w) below None new
   stands q w v s below new pushed same lower sound =
       let few = leads-few text s v in (
         ap (λ xs. xs ++ pending text spots below) same ∙ sym (pending-append text spots below (leads text s v)) ∙ ap (pending text spots) (sym pushed),
         rw (pushed, weight-append text spots below (reverse (leads text s v))) (omega (arith, weight-lower text spots _ _ few lower)),
-        (λ here all. rw pushed (All-append _ below (reverse (leads text s v)) all (few-reverse _ _ few (leads-sound text s v (sound here))))),
+        (λ count here all. rw pushed (All-append _ below (reverse (leads text s v)) all (few-reverse _ _ few (leads-sound text count s v (sound count here))))),
       )
 
   -- a spot that is marked
@@ -314,7 +324,7 @@ module _ (text : List ℕ) (spots : List Spot) (falls : ClosesFall spots) where
       (ap (map forget) (gives-at text spots falls q s w e ∙ cond-false _ _ _ plain ∙ cond-false _ _ _ unseen)
       ∙ leads-give s (marked q w) xs same (λ match. absurd (true≢false (sym (ap is_unmarked match) ∙ plain))))
       (leads-lower q s w xs e plain unseen same)
-      (λ h. record { within = h.within; begun = h.begun; ended = h.ended })
+      (λ count h. record { within = h.within; begun = h.begun; ended = h.ended; counted = h.counted })
 
   -- the end of a group
   pub advance-close : (q i f : ℕ) (w : Way) (below new : List Place) → spot_at spots q ≡ spot.Close i f
@@ -322,13 +332,13 @@ module _ (text : List ℕ) (spots : List Spot) (falls : ClosesFall spots) where
   advance-close q i f w below new e pushed =
       stands q w w (spot.Close i f) below new pushed
       (ap (map forget) (gives-at text spots falls q (spot.Close i f) w e) ∙ leads-give (spot.Close i f) w w.run.seen (λ m. refl) (λ match. cc))
-      (rank-closed text spots falls q i f w (closed i w) e refl refl, tt) (λ h. h)
+      (rank-closed text spots falls q i f w (closed i w) e refl refl, tt) (λ count h. h)
 
   -- nothing comes of it
   nothing : (q : ℕ) (w : Way) (below : List Place) → gives text spots q w ≡ [] → Advances text spots (q, w) below None below
   nothing q w below e =
       let some = power_pos (rank text spots q w) in
-      (ap (λ xs. map forget xs ++ pending text spots below) e, omega arith, (λ here all. all))
+      (ap (λ xs. map forget xs ++ pending text spots below) e, omega arith, (λ count here all. all))
 
   both : (b : Bool) → cond b (let no : List Run = [] in no) [] ≡ []
   both true = refl
@@ -359,9 +369,9 @@ unmarked_unless spot.Match m k = absurd (m refl)
 places-popped : (stack below : List Alternative) (next : Alternative) → stack ≡ below ++ next ∷ [] → places_of stack ≡ places_of below ++ place_of next ∷ []
 places-popped stack below next e = ap places_of e ∙ map-append place_of below (next ∷ [])
 
-sound-last : (text : List ℕ) (below : List Place) (p : Place) → AllSound text (below ++ p ∷ []) → AllSound text below × IsSound text p.1
-sound-last text [] p h = (tt, h.0)
-sound-last text (q ∷ below) p h = let rest = sound-last text below p h.1 in ((h.0, rest.0), rest.1)
+sound-last : (text : List ℕ) (count : ℕ) (below : List Place) (p : Place) → AllSound text count (below ++ p ∷ []) → AllSound text count below × IsSound text count p.1
+sound-last text count [] p h = (tt, h.0)
+sound-last text count (q ∷ below) p h = let rest = sound-last text count below p h.1 in ((h.0, rest.0), rest.1)
 
 -- the alternative that was taken off a stack
 module _ (text : List ℕ) (spots : List Spot) (stack below : List Alternative) (next : Alternative) (e : stack ≡ below ++ next ∷ []) where
@@ -377,9 +387,39 @@ module _ (text : List ℕ) (spots : List Spot) (stack below : List Alternative) 
       let sum = weight-append text spots (places_of below) (place_of next ∷ []) in
       omega arith
 
-  pub popped-sound : AllSound text (places_of stack) → AllSound text (places_of below) × IsSound text (place_of next).1
-  popped-sound h = sound-last text (places_of below) (place_of next) (rw (places-popped stack below next e) at h)
+  pub popped-sound : (count : ℕ) → AllSound text count (places_of stack) → AllSound text count (places_of below) × IsSound text count (place_of next).1
+  popped-sound count h = sound-last text count (places_of below) (place_of next) (rw (places-popped stack below next e) at h)
 
 pub pending-one : (text : List ℕ) (spots : List Spot) (p : Place) → pending text spots (p ∷ []) ≡ gives_at text spots p
 unfolding pending
 pending-one text spots p = append-nil _
+
+-- where the whole of a core stands in the program, the first runs have the groups that are preferred
+pub first-preferred : (text : List ℕ) (spots : List Spot) → ClosesFall spots → (core : Core) → Placed spots 0 (numbers (group 0 core)) (group 0 core)
+    → spot_at spots (numbers (group 0 core)) ≡ spot.Match → (groups at : ℕ) → at ≤ length text
+    → option_map (λ r. r.groups) (first_at text spots groups at) ≡ preferred core groups text at
+unfolding preferred
+first-preferred text spots falls core placed end groups at h =
+    ap (λ rs. option_map (λ r. r.groups) (first (map forget rs))) (program-runs text spots falls (group 0 core) placed end (begin at groups) h)
+    ∙ forgotten (runs text (group 0 core) 0 (begin at groups))
+  where
+    forgotten : (rs : List Run) → option_map (λ r. r.groups) (first (map forget rs)) ≡ option_map (λ r. r.groups) (first rs)
+    forgotten [] = refl
+    forgotten (r ∷ rs) = refl
+
+-- what the least place has, of two that have the same
+module _ {A B : Type 0} (f : A → B) (each : ℕ → Option A) (other : ℕ → Option B) (from to : ℕ) (same : (at : ℕ) → at ≤ to → option_map f (each at) ≡ other at) where
+  none-same : (at : ℕ) → at ≤ to → each at ≡ None → other at ≡ None
+  none-same at h e = sym (same at h) ∙ ap (option_map f) e
+
+  pub least-none : IsOfLeast each from to None → IsOfLeast other from to None
+  least-none none at lo hi = none-same at hi (none at lo hi)
+
+  pub least-some : (a : A) → IsOfLeast each from to (Some a) → IsOfLeast other from to (Some (f a))
+  least-some a h = (
+    h.0,
+    h.1,
+    h.2,
+    sym (same h.0 h.2) ∙ ap (option_map f) h.3,
+    (λ at lo hi. let within : at ≤ to = omega (arith, h.2) in none-same at within (h.4 at lo hi)),
+  )

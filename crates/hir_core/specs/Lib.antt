@@ -1,6 +1,7 @@
 pub mod Core
 pub mod CoreTree
 pub mod Examples
+pub mod Found
 pub mod Laws
 pub mod Looks
 pub mod Program

@@ -51,26 +51,21 @@ leads text (spot.Close i q) w = (q, closed i w) ∷ []
 leads text spot.Fail w = []
 leads text spot.Match w = []
 
--- Of the places from the one to the other, each with something or nothing: what the least has that has something.
-abbrev pub IsOfLeast : {A : Type 0} → (ℕ → Option A) → ℕ → ℕ → Option A → Type 0
-IsOfLeast each from to None = (at : ℕ) → from ≤ at → at ≤ to → each at ≡ None
-IsOfLeast each from to (Some a) =
-    (least : ℕ) × (from ≤ least) × (least ≤ to) × (each least ≡ Some a) × ((at : ℕ) → from ≤ at → at < least → each at ≡ None)
-
 -- a group that is set lies before this place
 abbrev pub LiesBefore : ℕ → Option (ℕ × ℕ) → Type 0
 LiesBefore at None = ⊤
 LiesBefore at (Some span) = (span.0 ≤ span.1) × (span.1 ≤ at)
 
--- A way stands within the text. The groups that it is in began before it, and the others lie there.
-pub record IsSound (text : List ℕ) (w : Way) : Type 0 where
+-- A way stands within the text. The groups that it is in began before it, and what its so many groups hold lies there.
+pub record IsSound (text : List ℕ) (count : ℕ) (w : Way) : Type 0 where
   pub within : w.run.at ≤ length text
   pub begun : AllByRecursion (λ start. start ≤ w.run.at) w.starts
   pub ended : AllByRecursion (LiesBefore w.run.at) w.run.groups
+  pub counted : length w.run.groups ≡ count
 
 -- each way is sound
-abbrev pub AllSound : List ℕ → List Place → Type 0
-AllSound text places = AllByRecursion (λ (p : Place). IsSound text p.1) places
+abbrev pub AllSound : List ℕ → ℕ → List Place → Type 0
+AllSound text count places = AllByRecursion (λ (p : Place). IsSound text count p.1) places
 
 module _ (text : List ℕ) (spots : List Spot) where
   -- what a spot gives to a way, without what was seen
@@ -93,5 +88,5 @@ module _ (text : List ℕ) (spots : List Spot) where
   abbrev pub Advances : Place → List Place → Option Run → List Place → Type 0
   Advances p below None new =
       (gives_at p ++ pending below ≡ pending new) × (weight new < weight below + 3 ^ rank text spots p.0 p.1)
-      × (IsSound text p.1 → AllSound text below → AllSound text new)
+      × ((count : ℕ) → IsSound text count p.1 → AllSound text count below → AllSound text count new)
   Advances p below (Some found) new = (gives_at p ≡ found ∷ []) × (found ≡ forget p.1.run)

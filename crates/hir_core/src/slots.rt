@@ -1,7 +1,8 @@
 //! The groups of a match.
 
-ghost use Rattle.std.specs.Prelude.{◌≡◌, ◌+◌, length, replicate, IfOk, None};
+ghost use Rattle.std.specs.Prelude.{◌≡◌, ◌+◌, length, map, replicate, slice_index_or, EachIndex, IfOk, None};
 ghost use Rattle.grep_matcher.specs.Groups.{group_at};
+ghost use Rattle.hir_core.specs.Found.{IsInOrder, span_of};
 
 use grep_matcher::Match;
 use sd_edge::NoMemory;
@@ -46,6 +47,35 @@ impl Slots {
     {
         *self.spans.get(group)?
     }
+
+    /// Unsets all slots.
+    pub fn unset_all(&mut self)
+        ensures { self.new ≡ replicate (length self.old) None }
+    {
+        for span in self.spans.iter_mut() {
+            *span = None;
+        }
+    }
+
+    /// Sets the slots to the spans of as many groups.
+    pub fn set_all(&mut self, groups: &[Option<(usize, usize)>])
+        requires same { length groups.now ≡ length self.old }
+        requires in_order { EachIndex groups.now (λ i. IsInOrder (slice_index_or groups.now i None)) }
+        ensures { self.new ≡ map span_of groups.now }
+    {
+        for (i, group) in groups.iter().enumerate() {
+            self.spans[i] = span_of(*group);
+        }
+    }
+}
+
+/// The span of a group that is set.
+fn span_of(group: Option<(usize, usize)>) -> Option<Match>
+    requires { IsInOrder group }
+    ensures { result ≡ span_of group }
+{
+    let (start, end) = group?;
+    Some(Match::new(start, end))
 }
 
 #[cfg(test)]

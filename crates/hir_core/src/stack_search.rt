@@ -1,15 +1,17 @@
 //! A search by a stack of alternatives.
 
-ghost use Rattle.std.specs.Prelude.{◌≡◌, ◌+◌, ◌^◌, ◌<◌, ◌≤◌, [], ◌∷◌, ◌++◌, length, map, reverse, replicate, option_map, MatchOption, IfOk, IfSome};
+ghost use Rattle.std.specs.Prelude.{◌≡◌, ◌+◌, ◌-◌, ◌^◌, ◌<◌, ◌≤◌, [], ◌∷◌, ◌++◌, length, map, reverse, replicate, option_map, MatchOption, IfOk, IfErr, IfSome};
 ghost use Rattle.std.specs.List.{AllByRecursion};
-ghost use Rattle.hir_core.specs.Program.{ClosesFall, way, opened, closed, gives};
-ghost use Rattle.hir_core.specs.Runs.{begin, moved, as_list, first};
-ghost use Rattle.hir_core.specs.RunsLaws.{forget};
-ghost use Rattle.hir_core.specs.StackSearch.{place_of, run_of, places_of, leads, first_at, IsOfLeast, LiesBefore, Advances};
+ghost use Rattle.hir_core.specs.Core.{Core, group, numbers};
+ghost use Rattle.hir_core.specs.Found.{IsOfLeast, IsFound};
+ghost use Rattle.hir_core.specs.Program.{ClosesFall, Placed, spot_at, way, opened, closed};
+ghost use Rattle.hir_core.specs.Runs.{begin, moved, as_list, preferred};
+ghost use Rattle.hir_core.specs.StackSearch.{place_of, run_of, places_of, leads, first_at, LiesBefore, Advances};
 
 use crate::look::holds;
 use crate::seen::Seen;
 use crate::set_size::{byte_size, char_size};
+use crate::slots::Slots;
 use crate::spot::Spot;
 use sd_edge::NoMemory;
 use std::alloc::Global;
@@ -29,16 +31,18 @@ pub struct Alternative {
 }
 
 /// As many unset groups, and group 0. Refuses for want of memory alone.
-fn unset(alloc: Global, groups: u32) -> Result<Vec<Option<(usize, usize)>>, NoMemory>
+fn unset(alloc: Global, groups: usize) -> Result<Vec<Option<(usize, usize)>>, NoMemory>
+    requires { groups + 1 < 2 ^ 64 }
     ensures { IfOk result (λ unset. unset.items ≡ replicate (groups + 1) None) }
 {
     let mut unset = Vec::new(alloc);
-    unset.resize(groups as usize + 1, None)?;
+    unset.resize(groups + 1, None)?;
     Ok(unset)
 }
 
 /// An alternative at the first spot. Refuses for want of memory alone.
-fn begin_at(alloc: Global, at: usize, groups: u32) -> Result<Alternative, NoMemory>
+fn begin_at(alloc: Global, at: usize, groups: usize) -> Result<Alternative, NoMemory>
+    requires { groups + 1 < 2 ^ 64 }
     ensures { IfOk result (λ a. place_of a ≡ (0, way [] (begin at groups))) }
 {
     Ok(Alternative {
@@ -205,12 +209,14 @@ pub fn first_run(
     spots: &[Spot],
     text: &[u8],
     at: usize,
-    groups: u32,
+    groups: usize,
 ) -> Result<Option<Alternative>, NoMemory>
     requires falls { ClosesFall spots.now }
     requires within { at ≤ length text.now }
+    requires room { groups + 1 < 2 ^ 64 }
     ensures first { IfOk result (λ found. option_map run_of found ≡ first_at text.now spots.now groups at) }
     ensures lie { IfOk result (λ found. IfSome found (λ a. AllByRecursion (LiesBefore a.at) a.groups.items)) }
+    ensures counted { IfOk result (λ found. IfSome found (λ a. length a.groups.items ≡ groups + 1)) }
 {
     let mut stack = Vec::new(alloc);
     stack.push(begin_at(alloc, at, groups)?)?;
@@ -228,11 +234,13 @@ pub fn first_from(
     spots: &[Spot],
     text: &[u8],
     at: usize,
-    groups: u32,
+    groups: usize,
 ) -> Result<Option<Alternative>, NoMemory>
     requires falls { ClosesFall spots.now }
     requires within { at ≤ length text.now }
+    requires room { groups + 1 < 2 ^ 64 }
     ensures lie { IfOk result (λ found. IfSome found (λ a. AllByRecursion (LiesBefore a.at) a.groups.items)) }
+    ensures counted { IfOk result (λ found. IfSome found (λ a. length a.groups.items ≡ groups + 1)) }
     ensures least { IfOk result (λ found.
         IsOfLeast (first_at text.now spots.now groups) at (length text.now) (option_map run_of found)) }
 {
@@ -242,6 +250,33 @@ pub fn first_from(
         }
     }
     Ok(None)
+}
+
+/// Whether a place from `at` on has a match. The slots then hold the preferred match of the least such place, and else
+/// they are unset, also where the search refuses. It refuses for want of memory alone.
+pub fn search_at(
+    alloc: Global,
+    spots: &[Spot],
+    text: &[u8],
+    at: usize,
+    slots: &mut Slots,
+) -> Result<bool, NoMemory>
+    requires falls { ClosesFall spots.now }
+    requires within { at ≤ length text.now }
+    requires some { 0 < length slots.old }
+    // the match of the core that is placed in the program
+    ensures found { IfOk result (λ found. (core : Core) → Placed spots.now 0 (numbers (group 0 core)) (group 0 core)
+        → spot_at spots.now (numbers (group 0 core)) ≡ Spot.Match
+        → IsFound (preferred core (length slots.old - 1) text.now) at (length text.now) found slots.new) }
+    ensures kept { length slots.new ≡ length slots.old }
+    ensures refused { IfErr result (λ _. slots.new ≡ replicate (length slots.old) None) }
+{
+    slots.unset_all();
+    let Some(found) = first_from(alloc, spots, text, at, slots.len() - 1)? else {
+        return Ok(false);
+    };
+    slots.set_all(found.groups.as_slice());
+    Ok(true)
 }
 
 #[cfg(test)]

@@ -3,9 +3,10 @@
 ghost use Rattle.std.specs.Prelude.{◌≡◌, ◌≤◌, true};
 ghost use Rattle.hir_core.specs.Program.{spot_at, tie, ClosesFall};
 
-use super::first_run;
-use crate::Look;
+use super::{first_run, search_at};
 use crate::spot::Spot;
+use crate::{Look, Slots};
+use grep_matcher::Match;
 use sd_edge::NoMemory;
 use std::alloc::Global;
 use std::process::Abort;
@@ -182,5 +183,60 @@ fn groups(rt: HostRuntime) -> Result<(), Fail> {
     let found = first_run(rt.alloc(), &spots, b"ac", 0, 2)?.ok_or("none")?;
     let groups = [None, Some((0, 1)), None];
     assert_eq!(rt; found.groups.as_slice(), groups.as_slice());
+    Ok(())
+}
+
+/// `a*`, as group 0
+fn repetition(alloc: Global) -> Result<Vec<Spot>, NoMemory> {
+    Ok(vec![in alloc;
+        Spot::Open { next: 2 },
+        Spot::Close { index: 0, next: 7 },
+        Spot::Split {
+            first: 3,
+            second: 6
+        },
+        Spot::Jump { next: 5 },
+        Spot::Split {
+            first: 5,
+            second: 1
+        },
+        byte(alloc, b'a', 4)?,
+        Spot::Jump { next: 1 },
+        Spot::Match,
+    ]?)
+}
+
+#[test]
+fn matches_of_the_least_place(rt: HostRuntime) -> Result<(), Fail> {
+    let spots = repetition(rt.alloc())?;
+    assert!(rt; ends_fall(&spots));
+    let mut slots = Slots::new(rt.alloc(), 0)?;
+    let ends: [(usize, usize); 5] = [(0, 0), (1, 3), (2, 3), (3, 3), (4, 4)];
+    for (place, (start, end)) in ends.iter().enumerate() {
+        assert!(rt; place <= 4 && slots.len() > 0 && start <= end);
+        assert!(rt; search_at(rt.alloc(), &spots, b"baac", place, &mut slots)?);
+        assert_eq!(rt; slots.get(0), Some(Match::new(*start, *end)), "{place}");
+    }
+    Ok(())
+}
+
+/// `(b)`, with group 0
+#[test]
+fn slots_of_a_match_and_of_none(rt: HostRuntime) -> Result<(), Fail> {
+    let spots = vec![in rt.alloc();
+        Spot::Open { next: 2 },
+        Spot::Close { index: 0, next: 5 },
+        Spot::Open { next: 4 },
+        Spot::Close { index: 1, next: 1 },
+        byte(rt.alloc(), b'b', 3)?,
+        Spot::Match,
+    ]?;
+    assert!(rt; ends_fall(&spots));
+    let mut slots = Slots::new(rt.alloc(), 1)?;
+    assert!(rt; search_at(rt.alloc(), &spots, b"aba", 0, &mut slots)?);
+    assert_eq!(rt; slots.get(0), Some(Match::new(1, 2)));
+    assert_eq!(rt; slots.get(1), Some(Match::new(1, 2)));
+    assert!(rt; !search_at(rt.alloc(), &spots, b"aba", 2, &mut slots)?);
+    assert!(rt; slots.get(0).is_none() && slots.get(1).is_none());
     Ok(())
 }

@@ -1,4 +1,4 @@
-use Rattle.std.proofs.Common.{◌≡◌, [], ◌∷◌, ◌++◌, sym, ap, ◌∙◌, subst, arith}
+use Rattle.std.proofs.Common.{◌≡◌, [], ◌∷◌, ◌++◌, ◌+◌, length, sym, ap, ◌∙◌, subst, arith}
 use Rattle.std.proofs.lemmas.List.{nil_from_length}
 use Rattle.std.specs.List.{AllByRecursion}
 use Rattle.hir_core.specs.Runs.{Run, begin, first}
@@ -13,12 +13,12 @@ loop-next-init c = record {
   sound =
       let start = ap (λ (p : Place). p.1) c.in_ok-begin_at.ensures in
       rw (c.in_ok-push.ensures.items, c.new-stack.ensures.items)
-      (subst (IsSound c.args.text.now) (sym start) (sound-begin c.args.text.now c.args.at c.args.groups c.requires.within), tt);
+      (subst (IsSound c.args.text.now (c.args.groups + 1)) (sym start) (sound-begin c.args.text.now c.args.at c.args.groups c.requires.within), tt);
 }
 
 pub advance-requires-clause-within : goal.advance-requires-clause-within
 advance-requires-clause-within c =
-    (popped-sound c.args.text.now c.args.spots.now _ c.pop.new.self.items c.in-Some.next c.in-Some.ensures.items c.loop-next.invariant.sound).1.within
+    (popped-sound c.args.text.now c.args.spots.now _ c.pop.new.self.items c.in-Some.next c.in-Some.ensures.items (c.args.groups + 1) c.loop-next.invariant.sound).1.within
 
 pub returns-in-Some-2-clause-first : goal.returns-in-Some-2-clause-first
 returns-in-Some-2-clause-first c =
@@ -33,8 +33,14 @@ returns-in-Some-2-clause-first c =
 pub returns-in-Some-2-clause-lie : goal.returns-in-Some-2-clause-lie
 returns-in-Some-2-clause-lie c =
     let step = rw c.in-Some-2.is at c.in_ok-found.ensures in
-    let sound = popped-sound c.args.text.now c.args.spots.now _ c.pop.new.self.items c.in-Some.next c.in-Some.ensures.items c.loop-next.invariant.sound in
+    let sound = popped-sound c.args.text.now c.args.spots.now _ c.pop.new.self.items c.in-Some.next c.in-Some.ensures.items (c.args.groups + 1) c.loop-next.invariant.sound in
     subst (λ (r : Run). AllByRecursion (LiesBefore r.at) r.groups) (sym step.1) sound.1.ended
+
+pub returns-in-Some-2-clause-counted : goal.returns-in-Some-2-clause-counted
+returns-in-Some-2-clause-counted c =
+    let step = rw c.in-Some-2.is at c.in_ok-found.ensures in
+    let sound = popped-sound c.args.text.now c.args.spots.now _ c.pop.new.self.items c.in-Some.next c.in-Some.ensures.items (c.args.groups + 1) c.loop-next.invariant.sound in
+    ap (λ (r : Run). length r.groups) step.1 ∙ sound.1.counted
 
 pub loop-next-smaller : goal.loop-next-smaller
 loop-next-smaller c =
@@ -46,10 +52,10 @@ loop-next-preserved c =
     let text = c.args.text.now in
     let spots = c.args.spots.now in
     let step = rw c.in_default-2.is at c.in_ok-found.ensures in
-    let sound = popped-sound text spots _ c.pop.new.self.items c.in-Some.next c.in-Some.ensures.items c.loop-next.invariant.sound in
+    let sound = popped-sound text spots _ c.pop.new.self.items c.in-Some.next c.in-Some.ensures.items (c.args.groups + 1) c.loop-next.invariant.sound in
     record {
       gives = sym step.0 ∙ sym (popped-gives text spots _ c.pop.new.self.items c.in-Some.next c.in-Some.ensures.items) ∙ c.loop-next.invariant.gives;
-      sound = step.2 sound.1 sound.0;
+      sound = step.2 (c.args.groups + 1) sound.1 sound.0;
     }
 
 pub returns-clause-first : goal.returns-clause-first

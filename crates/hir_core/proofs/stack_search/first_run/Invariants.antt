@@ -1,4 +1,4 @@
-use Rattle.std.proofs.Common.{◌≡◌, [], map}
+use Rattle.std.proofs.Common.{◌≡◌, ◌+◌, []}
 use Rattle.hir_core.specs.Runs.{begin}
 use Rattle.hir_core.specs.Program.{way}
 use Rattle.hir_core.specs.StackSearch.{places_of, gives_at, pending, weight, AllSound}
@@ -8,7 +8,7 @@ use Rattle.hir_core.proofs.stack_search.first_run.Given as goal
 abbrev pub invariant-loop-next : goal.invariant-loop-next
 invariant-loop-next l = record {
   gives : pending l.text l.spots (places_of l.stack.items) ≡ gives_at l.text l.spots (0, way [] (begin l.at l.groups));
-  sound : AllSound l.text (places_of l.stack.items);
+  sound : AllSound l.text (l.groups + 1) (places_of l.stack.items);
 }
 
 abbrev pub decreases-loop-next : goal.decreases-loop-next

@@ -1,5 +1,4 @@
-use Rattle.std.proofs.Common.{◌≡◌, ℕ, ◌<◌, ◌^◌, length, Option, sym, ap, ◌∙◌, subst, arith}
-use Rattle.std.specs.Prelude.{MatchOption, ◌+◌}
+use Rattle.std.proofs.Common.{◌<◌, ◌^◌, length, arith}
 use Rattle.hir_core.specs.Runs.{byte_size, char_size}
 use Rattle.hir_core.proofs.RunsLemmas.{byte_size-within, char_size-within}
 use Rattle.hir_core.proofs.StackLemmas.{room}

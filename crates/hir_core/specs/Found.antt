@@ -1,0 +1,25 @@
+-- What a search finds, and how slots hold it.
+use Rattle.std.specs.Prelude.{◌≡◌, ⊤, ℕ, ◌<◌, ◌≤◌, Bool, true, false, List, length, map, replicate, Option, Some, None}
+use Rattle.grep_matcher.specs.Span.{Span}
+
+-- a group that is set ends where it starts, or later
+abbrev pub IsInOrder : Option (ℕ × ℕ) → Type 0
+IsInOrder None = ⊤
+IsInOrder (Some ends) = ends.0 ≤ ends.1
+
+-- the span of a group that is set
+abbrev pub span_of : Option (ℕ × ℕ) → Option Span
+span_of None = None
+span_of (Some ends) = Some (record { start = ends.0; end = ends.1 })
+
+-- Of the places from the one to the other, each with something or nothing: what the least has that has something.
+abbrev pub IsOfLeast : {A : Type 0} → (ℕ → Option A) → ℕ → ℕ → Option A → Type 0
+IsOfLeast each from to None = (at : ℕ) → from ≤ at → at ≤ to → each at ≡ None
+IsOfLeast each from to (Some a) =
+    (least : ℕ) × (from ≤ least) × (least ≤ to) × (each least ≡ Some a) × ((at : ℕ) → from ≤ at → at < least → each at ≡ None)
+
+-- a search of these places finds the groups of the least one that has any, as slots hold them
+abbrev pub IsFound : (ℕ → Option (List (Option (ℕ × ℕ)))) → ℕ → ℕ → Bool → List (Option Span) → Type 0
+IsFound each from to true slots =
+    (groups : List (Option (ℕ × ℕ))) × IsOfLeast each from to (Some groups) × (slots ≡ map span_of groups)
+IsFound each from to false slots = IsOfLeast each from to None × (slots ≡ replicate (length slots) None)
