@@ -4,6 +4,7 @@ mod CompileLemmas
 mod Computing
 mod ListLemmas
 mod NumbersLemmas
+mod PassLemmas
 mod PlacedLemmas
 mod PlacingLemmas
 mod ProgramLemmas
@@ -12,4 +13,5 @@ mod RunsComputing
 mod RunsLemmas
 mod StackLemmas
 mod TicksLemmas
+mod TurnLemmas
 mod WalkLemmas

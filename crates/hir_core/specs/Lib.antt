@@ -4,6 +4,7 @@ pub mod Examples
 pub mod Found
 pub mod Laws
 pub mod Looks
+pub mod Pass
 pub mod Program
 pub mod Runs
 pub mod RunsExamples

@@ -6,6 +6,7 @@
 //! groups of a match.
 #![tactic(auto)]
 
+mod closure;
 mod compile;
 mod core_tree;
 mod examples;

@@ -1,0 +1,136 @@
+-- The pass of a search over a text: what its threads give, and what it answers.
+use Rattle.std.specs.Prelude.{◌≡◌, ℕ, zero, suc, ◌+◌, ◌-◌, Bool, true, false, ◌⊎◌, List, [], ◌∷◌, ◌++◌, length, map, reverse, Option, Some, None, if◌then◌else◌, slice_index_or, slice_set}
+use Rattle.std.specs.Option.{option_or}
+use Rattle.std.specs.List.{flat_map}
+use Rattle.hir_core.specs.Looks.{holds}
+use Rattle.hir_core.specs.Runs.{Run, begin, moved, byte_size, char_size, first}
+use Rattle.hir_core.specs.RunsLaws.{forget}
+use Rattle.hir_core.specs.Program.{spot_at, is_unmarked, Way, way, opened, closed, gives}
+use Rattle.hir_core.specs.declared.spot.Spot.{Spot}
+use Rattle.hir_core.specs.declared.spot.Spot.TheVariants as spot
+use Rattle.hir_core.specs.declared.closure.Thread.{Thread}
+
+-- the way of a thread, which has seen nothing at its place
+abbrev pub way_of : Thread → Way
+way_of t = way t.starts.items (record { at = t.at; groups = t.groups.items; seen = [] })
+
+-- the way of one of which nothing is known but its place
+abbrev pub fresh : ℕ → Way
+fresh at = way [] (record { at = at; groups = []; seen = [] })
+
+-- the run of a thread
+abbrev pub run_of : Thread → Run
+run_of t = (way_of t).run
+
+-- the first run, without what it saw
+abbrev pub first_of : List Run → Option Run
+first_of runs = first (map forget runs)
+
+-- there is a run
+abbrev pub some_run : List Run → Bool
+some_run [] = false
+some_run (r ∷ runs) = true
+
+-- a spot that is still to be tried, and the way to it
+abbrev pub Stop : Type 0
+Stop = ℕ × Way
+
+-- where a thread stops
+abbrev pub stop_of : Thread → Stop
+stop_of t = (t.spot, way_of t)
+
+-- where the threads of a stack stop, the last one first
+abbrev pub stops_of : List Thread → List Stop
+stops_of stack = map stop_of (reverse stack)
+
+-- where a spot leads without a byte, the preferred first
+abbrev pub leads : List ℕ → Spot → Way → List Stop
+leads text (spot.Look l q) w = if holds l text w.run.at then (q, w) ∷ [] else []
+leads text (spot.Jump q) w = (q, w) ∷ []
+leads text (spot.Split p q) w = (p, w) ∷ (q, w) ∷ []
+leads text (spot.Open q) w = (q, opened w) ∷ []
+leads text _ w = []
+
+-- on by bytes to another spot, if any are taken
+abbrev pub taken : Option ℕ → ℕ → Way → List Stop
+taken None q w = []
+taken (Some bytes) q w = (q, way w.starts (moved bytes w.run)) ∷ []
+
+-- where a spot leads by bytes
+abbrev pub leads_on : List ℕ → Spot → Way → List Stop
+leads_on text (spot.Bytes set q) w = taken (byte_size set.items text w.run.at) q w
+leads_on text (spot.Chars set q) w = taken (char_size set.items text w.run.at) q w
+leads_on text _ w = []
+
+-- What a thread leads to at a place, where the spot was visited or not: what comes onto the stack, and what is kept for
+-- later places. The end of a group isn't marked.
+abbrev pub comes : List ℕ → Spot → Bool → Way → List Stop
+comes text (spot.Close i q) visited w = (q, closed i w) ∷ []
+comes text s visited w = if visited then [] else leads text s w
+
+abbrev pub keeps : List ℕ → Spot → Bool → Way → List Stop
+keeps text s visited w = if visited then [] else leads_on text s w
+
+-- the spot was visited
+abbrev pub was_visited : List Bool → ℕ → Bool
+was_visited visited q = slice_index_or visited q false
+
+-- with this spot visited, if it leaves a mark
+abbrev pub visiting : Spot → ℕ → List Bool → List Bool
+visiting s q visited = if is_unmarked s then visited else slice_set visited q true
+
+module _ (text : List ℕ) (spots : List Spot) where
+  -- what a spot gives to the way to it
+  abbrev pub stop_gives : Stop → List Run
+  stop_gives p = gives text spots p.0 p.1
+
+  -- what threads give, in order
+  abbrev pub threads_give : List Thread → List Run
+  threads_give threads = flat_map stop_gives (map stop_of threads)
+
+  -- what the program gives to a run that begins at a place, with groups up to this index
+  abbrev pub begins : ℕ → ℕ → List Run
+  begins groups at = gives text spots 0 (way [] (begin at groups))
+
+  -- the first run of the least of so many places, from this one on, that has a run
+  abbrev pub first_from : ℕ → ℕ → ℕ → Option Run
+  first_from groups zero at = None
+  first_from groups (suc places) at = option_or (first_of (begins groups at)) (first_from groups places (at + 1))
+
+  -- The answer of a search at a place: the first run of its threads, or else the best match so far, or else what begins later.
+  abbrev pub answer : ℕ → ℕ → List Run → Option Run → Option Run
+  answer groups at runs best = option_or (first_of runs) (option_or best (first_from groups (length text + 1 - at) at))
+
+  -- what begins at a place, as long as nothing was found
+  abbrev pub begins_unless : ℕ → ℕ → Option Run → List Run
+  begins_unless groups at None = begins groups at
+  begins_unless groups at (Some best) = []
+
+  -- where every spot that was visited gives nothing from this place, whatever the groups, unless something was found
+  abbrev pub Spent : ℕ → List Bool → Bool → Type 0
+  Spent at visited found =
+      (q : ℕ) → was_visited visited q ≡ true → (found ≡ true) ⊎ (gives text spots q (fresh at) ≡ [])
+
+  -- A thread has been followed at its place: the rest of the threads give what they and the thread gave before,
+  -- and where a match was found, it is the last of them.
+  abbrev pub Followed : Thread → Option Thread → List Bool → List Thread → List Thread → Type 0
+  Followed t None visited old new =
+      Spent t.at visited (some_run (threads_give new)) × (first_of (threads_give new) ≡ first_of (threads_give old ++ stop_gives (stop_of t)))
+  Followed t (Some m) visited old new =
+      option_or (first_of (threads_give new)) (Some (forget (run_of m))) ≡ first_of (threads_give old ++ stop_gives (stop_of t))
+
+  -- others come in the place of one, and some are kept
+  abbrev pub TurnedTo : Stop → List Bool → List Bool → List Stop → List Stop → List Stop → List Stop → Type 0
+  TurnedTo p visited visited' stack stack' kept kept' =
+      let s = spot_at spots p.0 in
+      let seen = was_visited visited p.0 in
+      (stack' ≡ comes text s seen p.1 ++ stack)
+      × (kept' ≡ kept ++ keeps text s seen p.1)
+      × (visited' ≡ visiting s p.0 visited)
+      × ((s ≡ spot.Match) → ⊥)
+
+  -- one turn of a thread: it is a match, or others come in its place
+  abbrev pub Turned : Thread → Option Thread → List Bool → List Bool → List Thread → List Thread → List Thread → List Thread → Type 0
+  Turned t None visited visited' stack stack' kept kept' =
+      TurnedTo (stop_of t) visited visited' (stops_of stack) (stops_of stack') (map stop_of kept) (map stop_of kept')
+  Turned t (Some m) visited visited' stack stack' kept kept' = (m ≡ t) × (spot_at spots t.spot ≡ spot.Match) × (kept' ≡ kept)

@@ -1,0 +1,223 @@
+//! The search of one place, which visits each spot once.
+
+ghost use Rattle.std.specs.Prelude.{◌≡◌, ℕ, ◌+◌, ◌^◌, ◌≤◌, ◌<◌, ◌++◌, length, map, IfOk, IfSome};
+ghost use Rattle.hir_core.specs.Runs as runs;
+ghost use Rattle.hir_core.specs.Program.{ClosesFall, closed};
+ghost use Rattle.hir_core.specs.Pass.{way_of, stop_of, stops_of, leads, taken, some_run, threads_give, Spent, Turned, Followed};
+
+use crate::look::holds;
+use crate::side::byte_after;
+use crate::spot::Spot;
+use bstr::decode_utf8;
+use sd_edge::NoMemory;
+use std::alloc::Global;
+
+/// A thread of a search: the spot that it is to try, and the way that led there.
+#[derive(Drop)]
+pub struct Thread {
+    /// The spot that it is to try.
+    pub spot: usize,
+    /// The place of the text where it goes on.
+    pub at: usize,
+    /// Where the groups began that it is in, the innermost first.
+    pub starts: Vec<usize>,
+    /// What the groups hold.
+    pub groups: Vec<Option<(usize, usize)>>,
+}
+
+/// Whether a byte is a member of a set.
+fn has_byte(set: &[(u8, u8)], byte: u8) -> bool
+    ensures { result ≡ runs.in_set set.now byte }
+{
+    set.iter().any(|range| range.0 <= byte && byte <= range.1)
+}
+
+/// Whether a character is a member of a set.
+fn has_char(set: &[(char, char)], character: char) -> bool
+    ensures { result ≡ runs.in_set set.now character }
+{
+    set.iter()
+        .any(|range| range.0 <= character && character <= range.1)
+}
+
+/// How many bytes a member of a set of bytes takes at a place: one, if it stands there.
+#[tactic(auto, unfolding(crate::specs::Runs::byte_size))]
+fn byte_size(set: &[(u8, u8)], text: &[u8], at: usize) -> Option<usize>
+    ensures { result ≡ runs.byte_size set.now text.now at }
+{
+    match byte_after(text, at) {
+        Some(byte) if has_byte(set, byte) => Some(1),
+        _ => None,
+    }
+}
+
+/// How many bytes the UTF-8 of a member of a set of characters takes at a place, if it stands there.
+#[tactic(auto, unfolding(crate::specs::Runs::char_size))]
+fn char_size(set: &[(char, char)], text: &[u8], at: usize) -> Option<usize>
+    requires { at ≤ length text.now }
+    ensures { result ≡ runs.char_size set.now text.now at }
+{
+    let (character, size) = decode_utf8(&text[at..]);
+    match character {
+        Some(c) if has_char(set, c) => Some(size),
+        _ => None,
+    }
+}
+
+/// The same thread at another spot. Refuses for want of memory alone.
+fn copy_at(alloc: Global, thread: &Thread, spot: usize) -> Result<Thread, NoMemory>
+    ensures way { IfOk result (λ copy. way_of copy ≡ way_of thread.now) }
+    ensures spot { IfOk result (λ copy. copy.spot ≡ spot) }
+{
+    Ok(Thread {
+        spot,
+        at: thread.at,
+        starts: Vec::from_slice(alloc, thread.starts.as_slice())?,
+        groups: Vec::from_slice(alloc, thread.groups.as_slice())?,
+    })
+}
+
+/// Ends the innermost group.
+fn close(thread: &mut Thread, index: usize)
+    ensures way { way_of thread.new ≡ closed index (way_of thread.old) }
+    ensures spot { thread.new.spot ≡ thread.old.spot }
+{
+    let start = if thread.starts.is_empty() {
+        0
+    } else {
+        thread.starts.remove(0)
+    };
+    if index < thread.groups.len() {
+        let group = &mut thread.groups[index];
+        *group = Some((start, thread.at));
+    }
+}
+
+/// Puts what a spot leads to without a byte onto the stack. Refuses for want of memory alone.
+fn lead(
+    alloc: Global,
+    spot: &Spot,
+    text: &[u8],
+    thread: Thread,
+    stack: &mut Vec<Thread>,
+) -> Result<(), NoMemory>
+    requires { thread.at ≤ length text.now }
+    ensures { IfOk result
+        (λ _. stops_of stack.new.items ≡ leads text.now spot.now (way_of thread) ++ stops_of stack.old.items) }
+{
+    let mut thread = thread;
+    match spot {
+        Spot::Look { look, next } => {
+            if !holds(*look, text, thread.at) {
+                return Ok(());
+            }
+            thread.spot = *next;
+        }
+        Spot::Jump { next } => thread.spot = *next,
+        Spot::Split { first, second } => {
+            let other = copy_at(alloc, &thread, *second)?;
+            stack.push(other)?;
+            thread.spot = *first;
+        }
+        Spot::Open { next } => {
+            thread.starts.insert(0, thread.at)?;
+            thread.spot = *next;
+        }
+        _ => return Ok(()),
+    }
+    stack.push(thread)?;
+    Ok(())
+}
+
+/// Keeps a thread that goes on by so many bytes to another spot, if there are any. Refuses for want of memory alone.
+fn keep(
+    size: Option<usize>,
+    next: usize,
+    thread: Thread,
+    kept: &mut Vec<Thread>,
+) -> Result<(), NoMemory>
+    requires { IfSome size (λ bytes. thread.at + bytes < 2 ^ 64) }
+    ensures { IfOk result
+        (λ _. map stop_of kept.new.items ≡ map stop_of kept.old.items ++ taken size next (way_of thread)) }
+{
+    let Some(bytes) = size else {
+        return Ok(());
+    };
+    let mut thread = thread;
+    thread.spot = next;
+    thread.at += bytes;
+    kept.push(thread)?;
+    Ok(())
+}
+
+/// Follows a thread to the spots that its own leads to at its place. Refuses for want of memory alone.
+fn turn(
+    alloc: Global,
+    spots: &[Spot],
+    text: &[u8],
+    thread: Thread,
+    visited: &mut [bool],
+    stack: &mut Vec<Thread>,
+    kept: &mut Vec<Thread>,
+) -> Result<Option<Thread>, NoMemory>
+    requires room { length visited.old ≡ length spots.now }
+    requires at { thread.at ≤ length text.now }
+    ensures { IfOk result (λ found. Turned text.now spots.now thread found visited.old visited.new
+        stack.old.items stack.new.items kept.old.items kept.new.items) }
+{
+    let Some(spot) = spots.get(thread.spot) else {
+        return Ok(None);
+    };
+    if let Spot::Match = spot {
+        return Ok(Some(thread));
+    }
+    let mut thread = thread;
+    if let Spot::Close { index, next } = spot {
+        close(&mut thread, *index);
+        thread.spot = *next;
+        stack.push(thread)?;
+        return Ok(None);
+    }
+    if visited[thread.spot] {
+        return Ok(None);
+    }
+    visited[thread.spot] = true;
+    match spot {
+        Spot::Bytes { set, next } => {
+            let size = byte_size(set, text, thread.at);
+            keep(size, *next, thread, kept)?;
+        }
+        Spot::Chars { set, next } => {
+            let size = char_size(set, text, thread.at);
+            keep(size, *next, thread, kept)?;
+        }
+        _ => lead(alloc, spot, text, thread, stack)?,
+    }
+    Ok(None)
+}
+
+/// Follows a thread until what it leads to takes bytes, or is a match, which is given. Refuses for want of memory alone.
+pub fn follow(
+    alloc: Global,
+    spots: &[Spot],
+    text: &[u8],
+    thread: Thread,
+    visited: &mut [bool],
+    stack: &mut Vec<Thread>,
+    kept: &mut Vec<Thread>,
+) -> Result<Option<Thread>, NoMemory>
+    requires falls { ClosesFall spots.now }
+    requires room { length visited.old ≡ length spots.now }
+    requires at { thread.at ≤ length text.now }
+    requires spent { Spent text.now spots.now thread.at visited.old (some_run (threads_give text.now spots.now kept.old.items)) }
+    ensures { IfOk result (λ found. Followed text.now spots.now thread found visited.new kept.old.items kept.new.items) }
+{
+    stack.clear();
+    stack.push(thread)?;
+    while let Some(next) = stack.pop() {
+        if let Some(found) = turn(alloc, spots, text, next, visited, stack, kept)? {
+            return Ok(Some(found));
+        }
+    }
+    Ok(None)
+}
