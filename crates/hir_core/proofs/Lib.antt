@@ -9,6 +9,7 @@ mod PlacedLemmas
 mod PlacingLemmas
 mod ProgramLemmas
 mod PruningLemmas
+mod RoundLemmas
 mod RunsComputing
 mod RunsLemmas
 mod StackLemmas

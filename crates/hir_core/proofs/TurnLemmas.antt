@@ -11,10 +11,12 @@ use Rattle.hir_core.specs.Looks.{holds}
 use Rattle.hir_core.specs.Runs.{Run, moved, mark, is_seen, byte_size, char_size, as_list}
 use Rattle.hir_core.specs.RunsLaws.{forget}
 use Rattle.hir_core.specs.Program.{spot_at, is_unmarked, tie, Way, way, marked, closed, follow, gives, ClosesFall}
-use Rattle.hir_core.specs.Pass.{run_of, first_of, some_run, Stop, stop_of, stops_of, taken, leads, leads_on, comes, keeps, was_visited, visiting, stop_gives, threads_give, Spent, TurnedTo}
+use Rattle.hir_core.specs.Pass.{AllLater, run_of, first_of, some_run, Stop, stop_of, stops_of, taken, leads, leads_on, comes, keeps, was_visited, visiting, stop_gives, threads_give, Spent, TurnedTo}
 use Rattle.hir_core.specs.declared.spot.Spot.{Spot}
 use Rattle.hir_core.specs.declared.spot.Spot.TheVariants as spot
 use Rattle.hir_core.specs.declared.closure.Thread.{Thread}
+use Rattle.hir_core.proofs.ListLemmas.{All-append}
+use Rattle.hir_core.proofs.RunsLemmas.{TakesWithin, byte_size-within, char_size-within}
 use Rattle.hir_core.proofs.ProgramLemmas.{not_fail}
 use Rattle.hir_core.proofs.ClosureLemmas.{Entry, nonempty, pend, Children}
 use Rattle.hir_core.proofs.WalkLemmas.{entry, led_to}
@@ -426,10 +428,41 @@ module _ (text : List ℕ) (spots : List Spot) where
 pub stops_of-push : (stack : List Thread) (t : Thread) → stops_of (stack ++ t ∷ []) ≡ stop_of t ∷ stops_of stack
 stops_of-push stack t = ap (map stop_of) (reverse-append stack (t ∷ []))
 
+-- what is kept at a turn goes on later
+module _ (text : List ℕ) where
+  taken_later : (size : ℕ → Option ℕ) → TakesWithin text size → (f : ℕ) (w : Way) → AllLater text w.run.at (taken (size w.run.at) f w)
+  taken_later size within f w = cases (size w.run.at) refl
+    where
+      cases : (o : Option ℕ) → size w.run.at ≡ o → AllLater text w.run.at (taken o f w)
+      cases None e = tt
+      cases (Some k) e = let h = within w.run.at k e in ((omega arith, h.1), tt)
+
+  leads_on_later : (s : Spot) (w : Way) → AllLater text w.run.at (leads_on text s w)
+  leads_on_later (spot.Bytes set f) w = taken_later (byte_size set.items text) (byte_size-within set.items text) f w
+  leads_on_later (spot.Chars set f) w = taken_later (char_size set.items text) (char_size-within set.items text) f w
+  leads_on_later (spot.Look l f) w = tt
+  leads_on_later (spot.Jump f) w = tt
+  leads_on_later (spot.Split a b) w = tt
+  leads_on_later (spot.Open f) w = tt
+  leads_on_later (spot.Close i f) w = tt
+  leads_on_later spot.Fail w = tt
+  leads_on_later spot.Match w = tt
+
+  keeps_later : (s : Spot) (seen : Bool) (w : Way) → AllLater text w.run.at (keeps text s seen w)
+  keeps_later s true w = tt
+  keeps_later s false w = leads_on_later s w
+
+  pub turn-later : (spots : List Spot) (bits bits' : List Bool) (kept kept' rest stack' : List Stop) (p : Stop)
+      → TurnedTo text spots p bits bits' rest stack' kept kept' → AllLater text p.1.run.at kept → AllLater text p.1.run.at kept'
+  turn-later spots bits bits' kept kept' rest stack' p turned later =
+      subst (AllLater text p.1.run.at) (sym turned.1)
+      (All-append (λ (x : Stop). (p.1.run.at < x.1.run.at) × (x.1.run.at ≤ length text)) kept (keeps text (spot_at spots p.0) (was_visited bits p.0) p.1) later
+      (keeps_later (spot_at spots p.0) (was_visited bits p.0) p.1))
+
 -- what the loop over the stack keeps true
 abbrev pub Follows : List ℕ → List Spot → ℕ → Option Run → List Bool → List Thread → List Thread → Type 0
 Follows text spots at goal bits kept stack =
-    (falls : ClosesFall spots) × Closing text spots falls at goal bits (map stop_of kept) (stops_of stack)
+    (falls : ClosesFall spots) × Closing text spots falls at goal bits (map stop_of kept) (stops_of stack) × AllLater text at (map stop_of kept)
 
 module _ (text : List ℕ) (spots : List Spot) (at : ℕ) (goal : Option Run) (bits : List Bool) (kept rest stack : List Thread) (t : Thread) where
   -- with the last thread of the stack apart
@@ -452,6 +485,9 @@ module _ (text : List ℕ) (spots : List Spot) (at : ℕ) (goal : Option Run) (b
   Follows-turn bits' kept' stack' room e h turned = (
     h.0,
     Closing-turn text spots h.0 at goal bits bits' (map stop_of kept) (map stop_of kept') (stops_of rest) (stops_of stack') (stop_of t) room (popped e h) turned,
+    subst (λ i. AllLater text i (map stop_of kept')) (Follows-at e h)
+        (turn-later text spots bits bits' (map stop_of kept) (map stop_of kept') (stops_of rest) (stops_of stack') (stop_of t) turned
+        (subst (λ i. AllLater text i (map stop_of kept)) (sym (Follows-at e h)) h.2)),
   )
 
   pub Follows-falls : (bits' : List Bool) (kept' stack' : List Thread) → length bits ≡ length spots → stack ≡ rest ++ t ∷ [] → ClosesFall spots
@@ -468,10 +504,11 @@ Follows-end text spots at goal bits kept stack e h =
     Closing-end text spots h.0 at goal bits (map stop_of kept) (subst (λ ps. Closing text spots h.0 at goal bits (map stop_of kept) ps) (ap stops_of e) h.1)
 
 pub Follows-begin : (text : List ℕ) (spots : List Spot) (t : Thread) (bits : List Bool) (kept stack : List Thread) → ClosesFall spots → stack ≡ t ∷ []
-    → Spent text spots t.at bits (some_run (threads_give text spots kept))
+    → AllLater text t.at (map stop_of kept) → Spent text spots t.at bits (some_run (threads_give text spots kept))
     → Follows text spots t.at (first_of (threads_give text spots kept ++ stop_gives text spots (stop_of t))) bits kept stack
-Follows-begin text spots t bits kept stack falls e spent = (
+Follows-begin text spots t bits kept stack falls e later spent = (
   falls,
   subst (λ ps. Closing text spots falls t.at (first_of (threads_give text spots kept ++ stop_gives text spots (stop_of t))) bits (map stop_of kept) ps) (sym (ap stops_of e))
       (Closing-begin text spots falls t.at bits (map stop_of kept) (stop_of t) refl refl spent),
+  later,
 )

@@ -1,7 +1,7 @@
 -- The pass of a search over a text: what its threads give, and what it answers.
-use Rattle.std.specs.Prelude.{◌≡◌, ℕ, zero, suc, ◌+◌, ◌-◌, Bool, true, false, ◌⊎◌, List, [], ◌∷◌, ◌++◌, length, map, reverse, Option, Some, None, if◌then◌else◌, slice_index_or, slice_set}
+use Rattle.std.specs.Prelude.{◌≡◌, ℕ, zero, suc, ◌+◌, ◌-◌, ◌<◌, ◌≤◌, Bool, true, false, ◌⊎◌, List, [], ◌∷◌, ◌++◌, length, map, reverse, Option, Some, None, if◌then◌else◌, slice_index_or, slice_set, option_map}
 use Rattle.std.specs.Option.{option_or}
-use Rattle.std.specs.List.{flat_map}
+use Rattle.std.specs.List.{flat_map, AllByRecursion}
 use Rattle.hir_core.specs.Looks.{holds}
 use Rattle.hir_core.specs.Runs.{Run, begin, moved, byte_size, char_size, first}
 use Rattle.hir_core.specs.RunsLaws.{forget}
@@ -79,6 +79,18 @@ was_visited visited q = slice_index_or visited q false
 abbrev pub visiting : Spot → ℕ → List Bool → List Bool
 visiting s q visited = if is_unmarked s then visited else slice_set visited q true
 
+-- each stops after a place
+abbrev pub AllLater : List ℕ → ℕ → List Stop → Type 0
+AllLater text at stops = AllByRecursion (λ (p : Stop). (at < p.1.run.at) × (p.1.run.at ≤ length text)) stops
+
+-- each stops at a place, or after it
+abbrev pub AllFrom : List ℕ → ℕ → List Stop → Type 0
+AllFrom text at stops = AllByRecursion (λ (p : Stop). (at ≤ p.1.run.at) × (p.1.run.at ≤ length text)) stops
+
+-- the run of the best match, if there is one
+abbrev pub best_of : Option Thread → Option Run
+best_of best = option_map (λ t. forget (run_of t)) best
+
 module _ (text : List ℕ) (spots : List Spot) where
   -- what a spot gives to the way to it
   abbrev pub stop_gives : Stop → List Run
@@ -87,6 +99,10 @@ module _ (text : List ℕ) (spots : List Spot) where
   -- what threads give, in order
   abbrev pub threads_give : List Thread → List Run
   threads_give threads = flat_map stop_gives (map stop_of threads)
+
+  -- what the threads of a stack give, the last one first
+  abbrev pub stack_gives : List Thread → List Run
+  stack_gives stack = flat_map stop_gives (stops_of stack)
 
   -- what the program gives to a run that begins at a place, with groups up to this index
   abbrev pub begins : ℕ → ℕ → List Run
@@ -111,13 +127,13 @@ module _ (text : List ℕ) (spots : List Spot) where
   Spent at visited found =
       (q : ℕ) → was_visited visited q ≡ true → (found ≡ true) ⊎ (gives text spots q (fresh at) ≡ [])
 
-  -- A thread has been followed at its place: the rest of the threads give what they and the thread gave before,
-  -- and where a match was found, it is the last of them.
-  abbrev pub Followed : Thread → Option Thread → List Bool → List Thread → List Thread → Type 0
-  Followed t None visited old new =
-      Spent t.at visited (some_run (threads_give new)) × (first_of (threads_give new) ≡ first_of (threads_give old ++ stop_gives (stop_of t)))
-  Followed t (Some m) visited old new =
-      option_or (first_of (threads_give new)) (Some (forget (run_of m))) ≡ first_of (threads_give old ++ stop_gives (stop_of t))
+  -- What was to be followed at a place has been: what is kept gives the first run of what was kept and what was to be
+  -- followed, or else it is the run of the match that was found.
+  abbrev pub Followed : ℕ → List Run → Option Thread → List Bool → List Thread → List Thread → Type 0
+  Followed at runs None visited old new =
+      Spent at visited (some_run (threads_give new)) × (first_of (threads_give new) ≡ first_of (threads_give old ++ runs))
+  Followed at runs (Some m) visited old new =
+      option_or (first_of (threads_give new)) (Some (forget (run_of m))) ≡ first_of (threads_give old ++ runs)
 
   -- others come in the place of one, and some are kept
   abbrev pub TurnedTo : Stop → List Bool → List Bool → List Stop → List Stop → List Stop → List Stop → Type 0

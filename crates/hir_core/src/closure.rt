@@ -3,7 +3,7 @@
 ghost use Rattle.std.specs.Prelude.{◌≡◌, ℕ, ◌+◌, ◌^◌, ◌≤◌, ◌<◌, ◌++◌, length, map, IfOk, IfSome};
 ghost use Rattle.hir_core.specs.Runs as runs;
 ghost use Rattle.hir_core.specs.Program.{ClosesFall, closed};
-ghost use Rattle.hir_core.specs.Pass.{way_of, stop_of, stops_of, leads, taken, some_run, threads_give, Spent, Turned, Followed};
+ghost use Rattle.hir_core.specs.Pass.{way_of, stop_of, stops_of, leads, taken, some_run, threads_give, Spent, Turned, Followed, AllLater, stop_gives};
 
 use crate::look::holds;
 use crate::side::byte_after;
@@ -209,8 +209,11 @@ pub fn follow(
     requires falls { ClosesFall spots.now }
     requires room { length visited.old ≡ length spots.now }
     requires at { thread.at ≤ length text.now }
+    requires later { AllLater text.now thread.at (map stop_of kept.old.items) }
     requires spent { Spent text.now spots.now thread.at visited.old (some_run (threads_give text.now spots.now kept.old.items)) }
-    ensures { IfOk result (λ found. Followed text.now spots.now thread found visited.new kept.old.items kept.new.items) }
+    ensures followed { IfOk result
+        (λ found. Followed text.now spots.now thread.at (stop_gives text.now spots.now (stop_of thread)) found visited.new kept.old.items kept.new.items) }
+    ensures later { IfOk result (λ _. AllLater text.now thread.at (map stop_of kept.new.items)) }
 {
     stack.clear();
     stack.push(thread)?;

@@ -12,6 +12,7 @@ mod core_tree;
 mod examples;
 mod laws;
 mod look;
+mod pass;
 mod runs_examples;
 mod runs_laws;
 mod seen;

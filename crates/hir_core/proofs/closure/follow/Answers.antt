@@ -6,7 +6,7 @@ use Rattle.hir_core.proofs.closure.follow.Goals as goal
 pub loop-next-init : goal.loop-next-init
 loop-next-init c =
     Follows-begin c.args.text.now c.args.spots.now c.args.thread c.args.visited.now c.args.kept.now.items _ c.requires.falls
-    (c.in_ok-push.ensures.items ∙ ap (λ xs. xs ++ c.args.thread ∷ []) c.clear.ensures.items) c.requires.spent
+    (c.in_ok-push.ensures.items ∙ ap (λ xs. xs ++ c.args.thread ∷ []) c.clear.ensures.items) c.requires.later c.requires.spent
 
 pub turn-requires-clause-at : goal.turn-requires-clause-at
 turn-requires-clause-at c =
@@ -16,7 +16,10 @@ turn-requires-clause-at c =
 pub returns-in-Some-2 : goal.returns-in-Some-2
 returns-in-Some-2 c =
     let step = rw c.in-Some-2.is at c.in_ok-found.ensures in
-    rw (step.0, step.2) (Follows-match _ _ _ _ _ _ _ _ c.in-Some.next c.in-Some.ensures.items c.loop-next.invariant step.1)
+    record {
+      followed = rw (step.0, step.2) (Follows-match _ _ _ _ _ _ _ _ c.in-Some.next c.in-Some.ensures.items c.loop-next.invariant step.1);
+      later = rw step.2 c.loop-next.invariant.2;
+    }
 
 pub loop-next-smaller : goal.loop-next-smaller
 loop-next-smaller c =
@@ -33,4 +36,4 @@ loop-next-preserved c =
 pub returns : goal.returns
 returns c =
     let empty : c.loop-next.stack.items ≡ [] = nil_from_length _ (omega (arith, c.in_default.ensures.cases.0)) in
-    Follows-end _ _ _ _ _ _ _ empty c.loop-next.invariant
+    record { followed = Follows-end _ _ _ _ _ _ _ empty c.loop-next.invariant; later = c.loop-next.invariant.2 }
