@@ -1,17 +1,18 @@
 -- The threads of a place, followed one after another.
 use Rattle.std.proofs.Common.{◌≡◌, ℕ, zero, suc, ◌+◌, ◌-◌, ◌<◌, ◌≤◌, Bool, true, false, ◌⊎◌, inl, inr, List, [], ◌∷◌, ◌++◌, length, map, reverse, Option, Some, None, refl, sym, ap, ap₂, ◌∙◌, subst, true≢false, append-nil, append_assoc, arith}
-use Rattle.std.specs.Prelude.{option_map}
+use Rattle.std.specs.Prelude.{option_map, replicate, take, drop, is_some}
 use Rattle.std.specs.Option.{option_or}
 use Rattle.std.specs.List.{flat_map, AllByRecursion}
-use Rattle.std.proofs.lemmas.Grind.{flat_map-append}
-use Rattle.std.proofs.lemmas.List.{map-append, reverse-reverse}
-use Rattle.hir_core.specs.Runs.{Run}
+use Rattle.std.proofs.lemmas.Grind.{flat_map-append, common_steps}
+use Rattle.std.proofs.lemmas.List.{map-append, reverse-reverse, get_or-replicate, get_or_past, length-replicate}
+use Rattle.std.proofs.lemmas.Bool.{cases_lt}
+use Rattle.hir_core.specs.Runs.{Run, begin}
 use Rattle.hir_core.specs.RunsLaws.{forget}
-use Rattle.hir_core.specs.Program.{gives}
-use Rattle.hir_core.specs.Pass.{run_of, first_of, some_run, Stop, stop_of, stops_of, was_visited, fresh, stop_gives, threads_give, stack_gives, begins, first_from, best_of, Spent, Followed, AllLater, AllFrom}
+use Rattle.hir_core.specs.Program.{way, gives}
+use Rattle.hir_core.specs.Pass.{run_of, first_of, some_run, Stop, stop_of, stops_of, was_visited, fresh, stop_gives, threads_give, stack_gives, begins, begins_unless, first_from, answer, best_of, Spent, Followed, AllLater, AllFrom}
 use Rattle.hir_core.specs.declared.spot.Spot.{Spot}
 use Rattle.hir_core.specs.declared.closure.Thread.{Thread}
-use Rattle.hir_core.proofs.ListLemmas.{All-append}
+use Rattle.hir_core.proofs.ListLemmas.{All-append, All-weaker}
 use Rattle.hir_core.proofs.PassLemmas.{first_of_two}
 use Rattle.hir_core.proofs.TurnLemmas.{stops_of-push}
 
@@ -22,6 +23,15 @@ first_then xs ys zs e = first_of_two xs zs ∙ ap (λ r. option_or r (first_of z
 or_else_some : (x y : Option Run) (r : Run) → option_or (option_or x (Some r)) y ≡ option_or x (Some r)
 or_else_some None y r = refl
 or_else_some (Some x) y r = refl
+
+or_assoc₂ : (x y z : Option Run) → option_or x (option_or y z) ≡ option_or (option_or x y) z
+or_assoc₂ None y z = refl
+or_assoc₂ (Some x) y z = refl
+
+or_assoc : (x y z w : Option Run) → option_or x (option_or (option_or y z) w) ≡ option_or (option_or x y) (option_or z w)
+or_assoc None None z w = refl
+or_assoc None (Some y) z w = refl
+or_assoc (Some x) y z w = refl
 
 some_run-append : (xs ys : List Run) → some_run xs ≡ true → some_run (xs ++ ys) ≡ true
 some_run-append [] ys e = absurd (true≢false (sym e))
@@ -96,3 +106,116 @@ pub Rounds-end : (text : List ℕ) (spots : List Spot) (at : ℕ) (goal : Option
     → Rounds text spots at goal bits kept threads → first_of (threads_give text spots kept) ≡ goal
 Rounds-end text spots at goal bits kept threads e h =
     ap first_of (sym (append-nil (threads_give text spots kept))) ∙ ap (λ ts. first_of (threads_give text spots kept ++ stack_gives text spots ts)) (sym e) ∙ h.finds
+
+module _ (text : List ℕ) (spots : List Spot) (at : ℕ) where
+  -- one after another
+  pub Followed-then : (runs more : List Run) (found : Option Thread) (bits bits' : List Bool) (old mid new : List Thread)
+      → Followed text spots at runs None bits old mid → Followed text spots at more found bits' mid new
+      → Followed text spots at (runs ++ more) found bits' old new
+  Followed-then runs more None bits bits' old mid new h k = (k.0, k.1 ∙ Followed_join (h.1))
+    where
+      Followed_join : first_of (threads_give text spots mid) ≡ first_of (threads_give text spots old ++ runs)
+          → first_of (threads_give text spots mid ++ more) ≡ first_of (threads_give text spots old ++ (runs ++ more))
+      Followed_join e =
+          first_then (threads_give text spots mid) (threads_give text spots old ++ runs) more e ∙ ap first_of (append_assoc (threads_give text spots old) runs more)
+  Followed-then runs more (Some m) bits bits' old mid new h k =
+      k ∙ first_then (threads_give text spots mid) (threads_give text spots old ++ runs) more h.1 ∙ ap first_of (append_assoc (threads_give text spots old) runs more)
+
+  -- after a match nothing more need be followed
+  pub Followed-found : (runs more : List Run) (m : Thread) (bits : List Bool) (old new : List Thread)
+      → Followed text spots at runs (Some m) bits old new → Followed text spots at (runs ++ more) (Some m) bits old new
+  Followed-found runs more m bits old new h =
+      sym (or_else_some (first_of (threads_give text spots new)) (first_of more) (forget (run_of m))) ∙ ap (λ r. option_or r (first_of more)) h
+      ∙ sym (first_of_two (threads_give text spots old ++ runs) more) ∙ ap first_of (append_assoc (threads_give text spots old) runs more)
+
+  -- where nothing was kept, every spot may be visited
+  pub Spent-unset : (n : ℕ) (found : Bool) → Spent text spots at (replicate n false) found
+  Spent-unset n found q v = absurd (true≢false (sym v ∙ unset))
+    where
+      unset : was_visited (replicate n false) q ≡ false
+      unset =
+          elim (cases_lt q n) [ inl less ↦ get_or-replicate n q false false less | inr more ↦ get_or_past (replicate n false) q false (omega (arith, length-replicate n false)) ]
+
+  -- The answer stays from place to place
+  pub answer-round : (groups : ℕ) → at ≤ length text → (runs kept : List Run) (best found : Option Thread)
+      → option_or (first_of kept) (best_of found) ≡ first_of (runs ++ begins_unless text spots groups at (best_of best))
+      → answer text spots groups (at + 1) kept (option_or (best_of found) (best_of best)) ≡ answer text spots groups at runs (best_of best)
+  answer-round groups within runs kept best found h =
+      parts kept (best_of found) (best_of best) h ∙ ap (λ n. option_or (first_of runs) (option_or (best_of best) (first_from text spots groups n at))) (sym places)
+    where
+      places : length text + 1 - at ≡ suc (length text + 1 - (at + 1))
+      places = omega arith
+
+      parts : (kept : List Run) (found best : Option Run) → option_or (first_of kept) found ≡ first_of (runs ++ begins_unless text spots groups at best)
+          → option_or (first_of kept) (option_or (option_or found best) (first_from text spots groups (length text + 1 - (at + 1)) (at + 1)))
+          ≡ option_or (first_of runs) (option_or best (first_from text spots groups (suc (length text + 1 - (at + 1))) at))
+      parts kept found None e =
+          or_assoc (first_of kept) found None (first_from text spots groups (length text + 1 - (at + 1)) (at + 1))
+          ∙ ap (λ r. option_or r (first_from text spots groups (length text + 1 - (at + 1)) (at + 1))) (e ∙ first_of_two runs (begins text spots groups at))
+          ∙ sym (or_assoc₂ (first_of runs) (first_of (begins text spots groups at)) (first_from text spots groups (length text + 1 - (at + 1)) (at + 1)))
+      parts kept found (Some b) e =
+          or_assoc (first_of kept) found (Some b) (first_from text spots groups (length text + 1 - (at + 1)) (at + 1))
+          ∙ ap (λ r. option_or r (option_or (Some b) (first_from text spots groups (length text + 1 - (at + 1)) (at + 1)))) (e ∙ ap first_of (append-nil runs))
+
+or_none : (x : Option Run) → option_or x None ≡ x
+or_none None = refl
+or_none (Some x) = refl
+
+-- a slice that was lent and given back
+pub lent_back : (n : ℕ) (xs ys : List Bool) → n ≡ length ys → length xs ≡ length ys → take n (xs ++ drop (length xs) ys) ≡ xs
+lent_back n xs ys e k = grind (arith, common_steps)
+
+module _ (text : List ℕ) (spots : List Spot) (at groups : ℕ) where
+  -- what is found at a place
+  abbrev pub Finds : List Run → Option Thread → List Thread → Type 0
+  Finds runs found kept = option_or (first_of (threads_give text spots kept)) (best_of found) ≡ first_of runs
+
+  finds_from : (runs : List Run) (found : Option Thread) (bits : List Bool) (old kept : List Thread) → old ≡ []
+      → Followed text spots at runs found bits old kept → Finds runs found kept
+  finds_from runs None bits old kept e h = or_none _ ∙ h.1 ∙ ap (λ ts. first_of (threads_give text spots ts ++ runs)) e
+  finds_from runs (Some m) bits old kept e h = h ∙ ap (λ ts. first_of (threads_give text spots ts ++ runs)) e
+
+  -- a match was found among the threads, or none may begin
+  pub finds-threads : (runs : List Run) (found best : Option Thread) (bits : List Bool) (old kept : List Thread) → old ≡ []
+      → (is_some found ≡ true) ⊎ (is_some best ≡ true)
+      → Followed text spots at runs found bits old kept → Finds (runs ++ begins_unless text spots groups at (best_of best)) found kept
+  finds-threads runs (Some m) best bits old kept e some h =
+      finds_from (runs ++ begins_unless text spots groups at (best_of best)) (Some m) bits old kept e
+      (Followed-found text spots at runs (begins_unless text spots groups at (best_of best)) m bits old kept h)
+  finds-threads runs None (Some b) bits old kept e some h = finds_from runs None bits old kept e h ∙ ap first_of (sym (append-nil runs))
+  finds-threads runs None None bits old kept e some h = elim some [ inl s ↦ absurd (true≢false (sym s)) | inr s ↦ absurd (true≢false (sym s)) ]
+
+  -- one begins here
+  pub finds-begins : (runs : List Run) (found0 found best : Option Thread) (bits bits' : List Bool) (old mid kept : List Thread) (start : Thread) → old ≡ []
+      → is_some found0 ≡ false → is_some best ≡ false → stop_of start ≡ (0, way [] (begin at groups))
+      → Followed text spots at runs found0 bits old mid → Followed text spots start.at (stop_gives text spots (stop_of start)) found bits' mid kept
+      → Finds (runs ++ begins_unless text spots groups at (best_of best)) found kept
+  finds-begins runs (Some m) found best bits bits' old mid kept start e none_found none_best starts h k = absurd (true≢false none_found)
+  finds-begins runs None found (Some b) bits bits' old mid kept start e none_found none_best starts h k = absurd (true≢false none_best)
+  finds-begins runs None found None bits bits' old mid kept start e none_found none_best starts h k =
+      let here : Followed text spots at (begins text spots groups at) found bits' mid kept =
+      subst (λ (p : Stop). Followed text spots p.1.run.at (stop_gives text spots p) found bits' mid kept) starts k in
+      finds_from (runs ++ begins text spots groups at) found bits' old kept e
+      (Followed-then text spots at runs (begins text spots groups at) found bits bits' old mid kept h here)
+
+  -- one that begins here may be followed
+  pub spent-begins : (runs : List Run) (found : Option Thread) (bits lent : List Bool) (old kept : List Thread) (start : Thread) → is_some found ≡ false
+      → stop_of start ≡ (0, way [] (begin at groups)) → lent ≡ bits → Followed text spots at runs found bits old kept
+      → Spent text spots start.at lent (some_run (threads_give text spots kept))
+  spent-begins runs (Some m) bits lent old kept start none_found starts same h = absurd (true≢false none_found)
+  spent-begins runs None bits lent old kept start none_found starts same h =
+      subst (λ bs. Spent text spots start.at bs (some_run (threads_give text spots kept))) (sym same)
+      (subst (λ i. Spent text spots i bits (some_run (threads_give text spots kept))) (ap (λ (p : Stop). p.1.run.at) (sym starts)) h.0)
+
+-- the threads that were kept, as a stack
+pub stops_of-reverse : (kept : List Thread) → stops_of (reverse kept) ≡ map stop_of kept
+stops_of-reverse kept = ap (map stop_of) (reverse-reverse kept)
+
+pub AllFrom-kept : (text : List ℕ) (at : ℕ) (kept : List Thread) → AllLater text at (map stop_of kept) → AllFrom text (at + 1) (stops_of (reverse kept))
+AllFrom-kept text at kept h =
+    subst (AllFrom text (at + 1)) (sym (stops_of-reverse kept))
+    (All-weaker (λ (p : Stop). (at < p.1.run.at) × (p.1.run.at ≤ length text)) (λ (p : Stop). (at + 1 ≤ p.1.run.at) × (p.1.run.at ≤ length text)) (map stop_of kept) h
+    (λ p k. (omega (arith, k.0), k.1)))
+
+pub stack_gives-reverse : (text : List ℕ) (spots : List Spot) (kept : List Thread) → stack_gives text spots (reverse kept) ≡ threads_give text spots kept
+stack_gives-reverse text spots kept = ap (flat_map (stop_gives text spots)) (stops_of-reverse kept)

@@ -1,14 +1,16 @@
 //! The pass of a search over a text, which keeps one run for each spot and byte.
 
-ghost use Rattle.std.specs.Prelude.{◌≡◌, ℕ, ◌+◌, ◌-◌, ◌<◌, ◌≤◌, length, map, false, replicate, IfOk, option_map, List, []};
+ghost use Rattle.std.specs.Prelude.{◌≡◌, ℕ, ◌+◌, ◌-◌, ◌<◌, ◌≤◌, length, map, false, replicate, IfOk, option_map, List, [], ◌++◌};
+ghost use Rattle.std.specs.Option.{option_or};
 ghost use Rattle.hir_core.specs.Runs as runs;
 ghost use Rattle.hir_core.specs.Program.{ClosesFall, way};
-ghost use Rattle.hir_core.specs.Pass.{stop_of, stops_of, some_run, threads_give, stack_gives, first_from, best_of, Spent, Followed, AllLater, AllFrom};
+ghost use Rattle.hir_core.specs.Pass.{stop_of, stops_of, some_run, threads_give, stack_gives, first_of, begins_unless, answer, first_from, best_of, Spent, Followed, AllLater, AllFrom};
 
 use crate::closure::{Thread, follow};
 use crate::spot::Spot;
 use sd_edge::NoMemory;
 use std::alloc::Global;
+use std::mem;
 
 /// A thread that begins at a place, with groups up to this index. Refuses for want of memory alone.
 fn begin(alloc: Global, at: usize, groups: u32) -> Result<Thread, NoMemory>
@@ -53,4 +55,94 @@ fn follow_all(
         }
     }
     Ok(None)
+}
+
+/// A search that is under way, and its lists, which it uses again at each place.
+#[derive(Drop)]
+pub struct Pass {
+    /// The threads that are to be followed, the last one first.
+    threads: Vec<Thread>,
+    /// The best match so far.
+    best: Option<Thread>,
+    /// For each spot, whether it was visited at this place.
+    visited: Vec<bool>,
+    /// The threads that are to be followed at this place, the last one first.
+    stack: Vec<Thread>,
+    /// The threads that go on later, in order.
+    kept: Vec<Thread>,
+}
+
+impl Pass {
+    /// Follows the threads at a place, and then one that begins there, as long as nothing was found. Refuses for want of
+    /// memory alone.
+    fn follow_place(
+        &mut self,
+        alloc: Global,
+        spots: &[Spot],
+        text: &[u8],
+        at: usize,
+        groups: u32,
+    ) -> Result<Option<Thread>, NoMemory>
+        requires falls { ClosesFall spots.now }
+        requires at { at ≤ length text.now }
+        requires from { AllFrom text.now at (stops_of self.old.threads.items) }
+        ensures finds { IfOk result (λ found. option_or (first_of (threads_give text.now spots.now self.new.kept.items)) (best_of found)
+            ≡ first_of (stack_gives text.now spots.now self.old.threads.items ++ begins_unless text.now spots.now groups at (best_of self.old.best))) }
+        ensures later { IfOk result (λ _. AllLater text.now at (map stop_of self.new.kept.items)) }
+        ensures best { self.new.best ≡ self.old.best }
+    {
+        self.visited.clear();
+        self.visited.resize(spots.len(), false)?;
+        self.kept.clear();
+        let found = follow_all(
+            alloc,
+            spots,
+            text,
+            at,
+            &mut self.threads,
+            &mut self.visited,
+            &mut self.stack,
+            &mut self.kept,
+        )?;
+        if found.is_some() || self.best.is_some() {
+            return Ok(found);
+        }
+        let start = begin(alloc, at, groups)?;
+        follow(
+            alloc,
+            spots,
+            text,
+            start,
+            &mut self.visited,
+            &mut self.stack,
+            &mut self.kept,
+        )
+    }
+
+    /// Goes on from a place to the next. Refuses for want of memory alone.
+    fn round(
+        &mut self,
+        alloc: Global,
+        spots: &[Spot],
+        text: &[u8],
+        at: usize,
+        groups: u32,
+    ) -> Result<(), NoMemory>
+        requires falls { ClosesFall spots.now }
+        requires at { at ≤ length text.now }
+        requires from { AllFrom text.now at (stops_of self.old.threads.items) }
+        ensures from { IfOk result (λ _. AllFrom text.now (at + 1) (stops_of self.new.threads.items)) }
+        ensures answer { IfOk result (λ _.
+            answer text.now spots.now groups (at + 1) (stack_gives text.now spots.now self.new.threads.items) (best_of self.new.best)
+            ≡ answer text.now spots.now groups at (stack_gives text.now spots.now self.old.threads.items) (best_of self.old.best)) }
+    {
+        let found = self.follow_place(alloc, spots, text, at, groups)?;
+        if found.is_some() {
+            self.best = found;
+        }
+        self.threads.clear();
+        mem::swap(&mut self.threads, &mut self.kept);
+        self.threads.reverse();
+        Ok(())
+    }
 }
