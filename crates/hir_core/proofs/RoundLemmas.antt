@@ -1,5 +1,5 @@
 -- The threads of a place, followed one after another.
-use Rattle.std.proofs.Common.{◌≡◌, ℕ, zero, suc, ◌+◌, ◌-◌, ◌<◌, ◌≤◌, Bool, true, false, ◌⊎◌, inl, inr, List, [], ◌∷◌, ◌++◌, length, map, reverse, Option, Some, None, refl, sym, ap, ap₂, ◌∙◌, subst, true≢false, append-nil, append_assoc, arith}
+use Rattle.std.proofs.Common.{◌≡◌, ℕ, zero, suc, ◌+◌, ◌-◌, ◌<◌, ◌≤◌, Bool, true, false, ◌⊎◌, inl, inr, List, [], ◌∷◌, ◌++◌, length, map, reverse, Option, Some, None, if◌then◌else◌, refl, sym, ap, ap₂, ◌∙◌, subst, true≢false, append-nil, append_assoc, arith}
 use Rattle.std.specs.Prelude.{option_map, replicate, take, drop, is_some}
 use Rattle.std.specs.Option.{option_or}
 use Rattle.std.specs.List.{flat_map, AllByRecursion}
@@ -219,3 +219,36 @@ AllFrom-kept text at kept h =
 
 pub stack_gives-reverse : (text : List ℕ) (spots : List Spot) (kept : List Thread) → stack_gives text spots (reverse kept) ≡ threads_give text spots kept
 stack_gives-reverse text spots kept = ap (flat_map (stop_gives text spots)) (stops_of-reverse kept)
+
+module _ (text : List ℕ) (spots : List Spot) (at groups : ℕ) where
+  -- the answer of a search that is over
+  pub answer-over : (threads : List Thread) (best : Option Thread) → threads ≡ [] → is_some best ≡ true
+      → answer text spots groups at (stack_gives text spots threads) (best_of best) ≡ best_of best
+  answer-over threads None e some = absurd (true≢false (sym some))
+  answer-over threads (Some b) e some = ap (λ ts. answer text spots groups at (stack_gives text spots ts) (best_of (Some b))) e
+
+  -- and after the end of the text
+  pub answer-end : (threads : List Thread) (best : Option Thread) → length text < at → AllFrom text at (stops_of threads)
+      → answer text spots groups at (stack_gives text spots threads) (best_of best) ≡ best_of best
+  answer-end threads best past from =
+      ap (λ ps. option_or (first_of (flat_map (stop_gives text spots) ps)) (option_or (best_of best) (first_from text spots groups (length text + 1 - at) at))) (gone (stops_of threads) from)
+      ∙ ap (λ n. option_or (best_of best) (first_from text spots groups n at)) places ∙ or_none (best_of best)
+    where
+      places : length text + 1 - at ≡ 0
+      places = omega arith
+
+      gone : (ps : List Stop) → AllFrom text at ps → ps ≡ []
+      gone [] h = refl
+      gone (p ∷ ps) h = absurd (omega (arith, h.0.0, h.0.1))
+
+  -- after a round
+  pub answer-next : at ≤ length text → (old kept new : List Thread) (best found best' : Option Thread) → new ≡ reverse kept
+      → best' ≡ (if is_some found then found else best) → Finds text spots at groups (stack_gives text spots old ++ begins_unless text spots groups at (best_of best)) found kept
+      → answer text spots groups (at + 1) (stack_gives text spots new) (best_of best') ≡ answer text spots groups at (stack_gives text spots old) (best_of best)
+  answer-next within old kept new best found best' e k h =
+      ap₂ (λ (rs : List Run) (b : Option Run). answer text spots groups (at + 1) rs b) (ap (stack_gives text spots) e ∙ stack_gives-reverse text spots kept) (ap best_of k ∙ chosen found)
+      ∙ answer-round text spots at groups within (stack_gives text spots old) (threads_give text spots kept) best found h
+    where
+      chosen : (found : Option Thread) → best_of (if is_some found then found else best) ≡ option_or (best_of found) (best_of best)
+      chosen None = refl
+      chosen (Some m) = refl

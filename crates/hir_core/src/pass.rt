@@ -73,6 +73,17 @@ pub struct Pass {
 }
 
 impl Pass {
+    /// A pass with empty lists.
+    pub fn new(alloc: Global) -> Pass {
+        Pass {
+            threads: Vec::new(alloc),
+            best: None,
+            visited: Vec::new(alloc),
+            stack: Vec::new(alloc),
+            kept: Vec::new(alloc),
+        }
+    }
+
     /// Follows the threads at a place, and then one that begins there, as long as nothing was found. Refuses for want of
     /// memory alone.
     fn follow_place(
@@ -144,5 +155,32 @@ impl Pass {
         mem::swap(&mut self.threads, &mut self.kept);
         self.threads.reverse();
         Ok(())
+    }
+
+    /// The first run of the least place, from one on, at which a program gives a run. Refuses for want of memory alone.
+    pub fn search(
+        &mut self,
+        alloc: Global,
+        spots: &[Spot],
+        text: &[u8],
+        at: usize,
+        groups: u32,
+    ) -> Result<Option<Thread>, NoMemory>
+        requires falls { ClosesFall spots.now }
+        requires at { at ≤ length text.now }
+        ensures { IfOk result
+            (λ found. best_of found ≡ first_from text.now spots.now groups (length text.now + 1 - at) at) }
+    {
+        self.threads.clear();
+        self.best = None;
+        let mut place = at;
+        while place <= text.len() {
+            self.round(alloc, spots, text, place, groups)?;
+            if self.threads.is_empty() && self.best.is_some() {
+                return Ok(self.best.take());
+            }
+            place += 1;
+        }
+        Ok(self.best.take())
     }
 }
