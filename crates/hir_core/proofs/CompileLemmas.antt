@@ -1,11 +1,10 @@
 -- A core that is appended to a program stands in it.
 use Rattle.std.proofs.Common.{◌≡◌, ℕ, ◌+◌, ◌<◌, ◌≤◌, Bool, List, [], ◌∷◌, ◌++◌, length, length-append, option_map, Vec, Global, if◌then◌else◌, refl, sym, ap, ◌∙◌, add_comm, arith}
 use Rattle.std.proofs.lemmas.Grind.{common_steps}
-use Rattle.hir_core.specs.Core.{Core, empty, byte_in, char_in, look, group, pair, choice, none, plus, numbers}
+use Rattle.hir_core.specs.Core.{Core, byte_in, char_in, group, pair, choice, plus, numbers}
 use Rattle.hir_core.specs.CoreTree.{Lays, IsProgram, GivesPreferred}
 use Rattle.hir_core.specs.Program.{spot_at, ClosesFall, Placed}
 use Rattle.hir_core.specs.Runs.{begin, first, preferred}
-use Rattle.hir_core.specs.declared.look.Look.{Look}
 use Rattle.hir_core.specs.declared.spot.Spot.{Spot}
 use Rattle.hir_core.specs.declared.spot.Spot.TheVariants as spot
 use Rattle.hir_core.proofs.PlacedLemmas.{program-runs}
@@ -23,9 +22,11 @@ pushed_below old s q lt = grind (arith, common_steps)
 pushed_first : (old : List Spot) (s t : Spot) → spot_at (old ++ s ∷ t ∷ []) (length old) ≡ s
 pushed_first old s t = grind (arith, common_steps)
 
+-- the second of them
 pushed_second : (old : List Spot) (s t : Spot) → spot_at (old ++ s ∷ t ∷ []) (length old + 1) ≡ t
 pushed_second old s t = grind (arith, common_steps)
 
+-- the places below them
 pushed_two_below : (old : List Spot) (s t : Spot) (q : ℕ) → q < length old → spot_at (old ++ s ∷ t ∷ []) q ≡ spot_at old q
 pushed_two_below old s t q lt = grind (arith, common_steps)
 
@@ -39,6 +40,7 @@ record Pushed (old new : List Spot) (s : Spot) : Type 0 where
   kept : SameBelow (length old) old new
   here : spot_at new (length old) ≡ s
 
+-- what is known after a push
 pushed : (old new : List Spot) (s : Spot) → new ≡ old ++ s ∷ [] → Pushed old new s
 pushed old new s e = record {
   size = omega (arith, ap length e, length-append old (s ∷ []));
@@ -53,6 +55,7 @@ record PushedTwo (old new : List Spot) (s t : Spot) : Type 0 where
   here : spot_at new (length old) ≡ s
   after : spot_at new (length old + 1) ≡ t
 
+-- what is known after two
 pushed_two : (old new : List Spot) (s t : Spot) → new ≡ old ++ s ∷ t ∷ [] → PushedTwo old new s t
 pushed_two old new s t e = record {
   size = omega (arith, ap length e, length-append old (s ∷ t ∷ []));
@@ -61,27 +64,17 @@ pushed_two old new s t e = record {
   after = ap (λ xs. spot_at xs (length old + 1)) e ∙ pushed_second old s t;
 }
 
-pub lays_empty : (old new : List Spot) (f : ℕ) → new ≡ old ++ spot.Jump f ∷ [] → Lays old new f empty
-lays_empty old new f e =
-    let one = pushed old new (spot.Jump f) e in record { size = one.size; kept = one.kept; placed = one.here }
-
+-- a spot of bytes was pushed
 pub lays_bytes : (old new : List Spot) (f : ℕ) (set : Vec (ℕ × ℕ) Global) (ranges : List (ℕ × ℕ))
     → new ≡ old ++ spot.Bytes set f ∷ [] → set.items ≡ ranges → Lays old new f (byte_in ranges)
 lays_bytes old new f set ranges e same =
     let one = pushed old new (spot.Bytes set f) e in record { size = one.size; kept = one.kept; placed = (set, one.here, same) }
 
+-- a spot of characters was pushed
 pub lays_chars : (old new : List Spot) (f : ℕ) (set : Vec (ℕ × ℕ) Global) (ranges : List (ℕ × ℕ))
     → new ≡ old ++ spot.Chars set f ∷ [] → set.items ≡ ranges → Lays old new f (char_in ranges)
 lays_chars old new f set ranges e same =
     let one = pushed old new (spot.Chars set f) e in record { size = one.size; kept = one.kept; placed = (set, one.here, same) }
-
-pub lays_look : (old new : List Spot) (f : ℕ) (l : Look) → new ≡ old ++ spot.Look l f ∷ [] → Lays old new f (look l)
-lays_look old new f l e =
-    let one = pushed old new (spot.Look l f) e in record { size = one.size; kept = one.kept; placed = one.here }
-
-pub lays_none : (old new : List Spot) (f : ℕ) → new ≡ old ++ spot.Fail ∷ [] → Lays old new f none
-lays_none old new f e =
-    let one = pushed old new spot.Fail e in record { size = one.size; kept = one.kept; placed = one.here }
 
 -- What was appended of a core: once this part of it is appended too, followed by f, the core stands.
 pub record Waits (old now : List Spot) (next : ℕ) (core : Core) (f : ℕ) (part : Core) : Type 0 where
@@ -89,17 +82,6 @@ pub record Waits (old now : List Spot) (next : ℕ) (core : Core) (f : ℕ) (par
   pub grown : length old ≤ length now
   pub kept : SameBelow (length old) old now
   pub whole : (final : List Spot) → SameBelow (length now) now final → Placed final (length now) f part → Placed final (length old) next core
-
-pub waits_begin : (old : List Spot) (next : ℕ) (core : Core) → Waits old old next core next core
-waits_begin old next core = record { size = refl; grown = omega arith; kept = λ q lt. refl; whole = λ final same p. p }
-
-pub waits_end : (old now new : List Spot) (next f : ℕ) (core part : Core) → Waits old now next core f part → Lays now new f part
-    → Lays old new next core
-waits_end old now new next f core part w l = record {
-  size = omega (arith, w.size, l.size);
-  kept = λ q lt. l.kept q (omega (arith, w.grown)) ∙ w.kept q lt;
-  placed = w.whole new l.kept l.placed;
-}
 
 -- more is appended, and a smaller part waits
 waits_step : (old now new : List Spot) (next f g : ℕ) (core part rest : Core) → Waits old now next core f part
@@ -113,17 +95,7 @@ waits_step old now new next f g core part rest w longer same sizes step = record
   whole = λ final keep p. w.whole final (λ q lt. keep q (omega arith) ∙ same q lt) (step final keep p);
 }
 
-pub waits_group : (old now new : List Spot) (next f n i : ℕ) (core a : Core) → Waits old now next core f (group i a) → length now ≡ n
-    → new ≡ now ++ spot.Open (n + 2) ∷ spot.Close i f ∷ [] → Waits old new next core (n + 1) a
-waits_group old now new next f n i core a w at e =
-    let two = pushed_two now new (spot.Open (n + 2)) (spot.Close i f) e in
-    waits_step old now new next f (n + 1) core (group i a) a w (omega (arith, two.size)) two.kept (omega (arith, two.size))
-    (λ final keep p. (
-      keep (length now) (omega (arith, two.size)) ∙ two.here ∙ ap (λ k. spot.Open (k + 2)) (sym at),
-      keep (length now + 1) (omega (arith, two.size)) ∙ two.after,
-      (rw (two.size, ← at) at p),
-    ))
-
+-- both spots of a plus were pushed, and its body waits
 pub waits_plus : (old now new : List Spot) (next f n : ℕ) (greedy : Bool) (core a : Core) → Waits old now next core f (plus greedy a) → length now ≡ n
     → new ≡ now ++ spot.Jump (n + 2) ∷ (if greedy then spot.Split (n + 2) f else spot.Split f (n + 2)) ∷ []
     → Waits old new next core (n + 1) a
@@ -137,6 +109,7 @@ waits_plus old now new next f n greedy core a w at e =
       (rw (two.size, ← at) at p),
     ))
 
+-- the first part of a pair was laid, and the second waits
 pub waits_pair : (old now one two : List Spot) (next f n m : ℕ) (core a b : Core) → Waits old now next core f (pair a b) → length now ≡ n
     → m ≡ n + 1 + numbers a → one ≡ now ++ spot.Jump (n + 1) ∷ [] → Lays one two m a → Waits old two next core f b
 waits_pair old now one two next f n m core a b w at to e l =
@@ -152,6 +125,7 @@ waits_pair old now one two next f n m core a b w at to e l =
       (rw ends at p),
     ))
 
+-- the first part of a choice was laid, and the second waits
 pub waits_choice : (old now one two : List Spot) (next f n m : ℕ) (core a b : Core) → Waits old now next core f (choice a b) → length now ≡ n
     → m ≡ n + 1 + numbers a → one ≡ now ++ spot.Split (n + 1) m ∷ [] → Lays one two f a → Waits old two next core f b
 waits_choice old now one two next f n m core a b w at to e l =
