@@ -1,4 +1,7 @@
 //! A search by a stack of alternatives.
+//!
+//! It computes what the definitions say, one alternative after the other. So its time may double with each byte of the
+//! text, and it is meant for small texts.
 
 ghost use Rattle.std.specs.Prelude.{◌≡◌, ◌+◌, ◌-◌, ◌^◌, ◌<◌, ◌≤◌, [], ◌∷◌, ◌++◌, length, map, reverse, replicate, option_map, MatchOption, IfOk, IfErr, IfSome};
 ghost use Rattle.std.specs.List.{AllByRecursion};
@@ -23,6 +26,7 @@ pub struct Alternative {
     spot: usize,
     /// The place in the text.
     at: usize,
+    /// What the groups hold, by their numbers.
     groups: Vec<Option<(usize, usize)>>,
     /// Where the groups began that it is in, the innermost last.
     starts: Vec<usize>,
@@ -40,89 +44,89 @@ fn unset(alloc: Global, groups: usize) -> Result<Vec<Option<(usize, usize)>>, No
     Ok(unset)
 }
 
-/// An alternative at the first spot. Refuses for want of memory alone.
-fn begin_at(alloc: Global, at: usize, groups: usize) -> Result<Alternative, NoMemory>
-    requires { groups + 1 < 2 ^ 64 }
-    ensures { IfOk result (λ a. place_of a ≡ (0, way [] (begin at groups))) }
-{
-    Ok(Alternative {
-        spot: 0,
-        at,
-        groups: unset(alloc, groups)?,
-        starts: Vec::new(alloc),
-        seen: Seen::new(alloc),
-    })
-}
-
-/// The same alternative at another spot. Refuses for want of memory alone.
-fn copy_at(alloc: Global, from: &Alternative, spot: usize) -> Result<Alternative, NoMemory>
-    ensures { IfOk result (λ a. place_of a ≡ (spot, (place_of from.now).1)) }
-{
-    Ok(Alternative {
-        spot,
-        at: from.at,
-        groups: Vec::from_slice(alloc, from.groups.as_slice())?,
-        starts: Vec::from_slice(alloc, from.starts.as_slice())?,
-        seen: from.seen.copy(alloc)?,
-    })
-}
-
-/// Takes so many bytes.
-fn take(from: &mut Alternative, size: usize)
-    requires { from.old.at + size < 2 ^ 64 }
-    ensures { let old = (place_of from.old).1 in
-        place_of from.new ≡ (from.old.spot, way old.starts (moved size old.run)) }
-{
-    from.at += size;
-    from.seen.clear();
-}
-
-/// Begins a group. Refuses for want of memory alone.
-fn open_group(from: &mut Alternative) -> Result<(), NoMemory>
-    ensures { IfOk result (λ _. place_of from.new ≡ (from.old.spot, opened (place_of from.old).1)) }
-{
-    from.starts.push(from.at)?;
-    Ok(())
-}
-
-/// Ends the innermost group.
-fn close_group(from: &mut Alternative, index: usize)
-    ensures { place_of from.new ≡ (from.old.spot, closed index (place_of from.old).1) }
-{
-    let start = from.starts.pop().unwrap_or(0);
-    if let Some(group) = from.groups.get_mut(index) {
-        *group = Some((start, from.at));
+impl Alternative {
+    /// An alternative at the first spot. Refuses for want of memory alone.
+    fn begin_at(alloc: Global, at: usize, groups: usize) -> Result<Alternative, NoMemory>
+        requires { groups + 1 < 2 ^ 64 }
+        ensures { IfOk result (λ a. place_of a ≡ (0, way [] (begin at groups))) }
+    {
+        Ok(Alternative {
+            spot: 0,
+            at,
+            groups: unset(alloc, groups)?,
+            starts: Vec::new(alloc),
+            seen: Seen::new(alloc),
+        })
     }
-}
 
-/// Puts an alternative on the stack, at another spot. Refuses for want of memory alone.
-fn go(from: Alternative, spot: usize, stack: &mut Vec<Alternative>) -> Result<(), NoMemory>
-    ensures { IfOk result (λ _.
-        places_of stack.new.items ≡ places_of stack.old.items ++ (spot, (place_of from).1) ∷ []) }
-{
-    let mut from = from;
-    from.spot = spot;
-    stack.push(from)?;
-    Ok(())
-}
+    /// The same alternative at another spot. Refuses for want of memory alone.
+    fn copy_at(&self, alloc: Global, spot: usize) -> Result<Alternative, NoMemory>
+        ensures { IfOk result (λ a. place_of a ≡ (spot, (place_of self.now).1)) }
+    {
+        Ok(Alternative {
+            spot,
+            at: self.at,
+            groups: Vec::from_slice(alloc, self.groups.as_slice())?,
+            starts: Vec::from_slice(alloc, self.starts.as_slice())?,
+            seen: self.seen.copy(alloc)?,
+        })
+    }
 
-/// Goes on, if so many bytes are taken. Refuses for want of memory alone.
-fn go_past(
-    from: Alternative,
-    size: Option<usize>,
-    spot: usize,
-    stack: &mut Vec<Alternative>,
-) -> Result<(), NoMemory>
-    requires { MatchOption size Unit (λ k. from.at + k < 2 ^ 64) }
-    ensures { let old = (place_of from).1 in IfOk result (λ _. places_of stack.new.items
-        ≡ places_of stack.old.items ++ map (λ r. (spot, way old.starts r)) (as_list (option_map (λ k. moved k old.run) size))) }
-{
-    let mut from = from;
-    let Some(size) = size else {
-        return Ok(());
-    };
-    take(&mut from, size);
-    go(from, spot, stack)
+    /// Takes so many bytes.
+    fn take(&mut self, size: usize)
+        requires { self.old.at + size < 2 ^ 64 }
+        ensures { let old = (place_of self.old).1 in
+            place_of self.new ≡ (self.old.spot, way old.starts (moved size old.run)) }
+    {
+        self.at += size;
+        self.seen.clear();
+    }
+
+    /// Begins a group. Refuses for want of memory alone.
+    fn open_group(&mut self) -> Result<(), NoMemory>
+        ensures { IfOk result (λ _. place_of self.new ≡ (self.old.spot, opened (place_of self.old).1)) }
+    {
+        self.starts.push(self.at)?;
+        Ok(())
+    }
+
+    /// Ends the innermost group.
+    fn close_group(&mut self, index: usize)
+        ensures { place_of self.new ≡ (self.old.spot, closed index (place_of self.old).1) }
+    {
+        let start = self.starts.pop().unwrap_or(0);
+        if let Some(group) = self.groups.get_mut(index) {
+            *group = Some((start, self.at));
+        }
+    }
+
+    /// Puts an alternative on the stack, at another spot. Refuses for want of memory alone.
+    fn go(mut self, spot: usize, stack: &mut Vec<Alternative>) -> Result<(), NoMemory>
+        ensures { IfOk result (λ _.
+            places_of stack.new.items ≡ places_of stack.old.items ++ (spot, (place_of self).1) ∷ []) }
+    {
+        self.spot = spot;
+        stack.push(self)?;
+        Ok(())
+    }
+
+    /// Goes on, if so many bytes are taken. Refuses for want of memory alone.
+    fn go_past(
+        mut self,
+        size: Option<usize>,
+        spot: usize,
+        stack: &mut Vec<Alternative>,
+    ) -> Result<(), NoMemory>
+        requires { MatchOption size Unit (λ k. self.at + k < 2 ^ 64) }
+        ensures { let old = (place_of self).1 in IfOk result (λ _. places_of stack.new.items
+            ≡ places_of stack.old.items ++ map (λ r. (spot, way old.starts r)) (as_list (option_map (λ k. moved k old.run) size))) }
+    {
+        let Some(size) = size else {
+            return Ok(());
+        };
+        self.take(size);
+        self.go(spot, stack)
+    }
 }
 
 /// Puts those on the stack to which a spot leads, the preferred last. Refuses for want of memory alone.
@@ -130,42 +134,41 @@ fn lead(
     alloc: Global,
     text: &[u8],
     spot: &Spot,
-    from: Alternative,
+    mut from: Alternative,
     stack: &mut Vec<Alternative>,
 ) -> Result<(), NoMemory>
     requires { from.at ≤ length text.now }
     ensures { IfOk result (λ _. places_of stack.new.items
         ≡ places_of stack.old.items ++ reverse (leads text.now spot.now (place_of from).1)) }
 {
-    let mut from = from;
     match spot {
         Spot::Bytes { set, next } => {
             let size = byte_size(set, text, from.at);
-            go_past(from, size, *next, stack)
+            from.go_past(size, *next, stack)
         }
         Spot::Chars { set, next } => {
             let size = char_size(set, text, from.at);
-            go_past(from, size, *next, stack)
+            from.go_past(size, *next, stack)
         }
         Spot::Look { look, next } => {
             if !holds(*look, text, from.at) {
                 return Ok(());
             }
-            go(from, *next, stack)
+            from.go(*next, stack)
         }
-        Spot::Jump { next } => go(from, *next, stack),
+        Spot::Jump { next } => from.go(*next, stack),
         Spot::Split { first, second } => {
-            let other = copy_at(alloc, &from, *second)?;
+            let other = from.copy_at(alloc, *second)?;
             stack.push(other)?;
-            go(from, *first, stack)
+            from.go(*first, stack)
         }
         Spot::Open { next } => {
-            open_group(&mut from)?;
-            go(from, *next, stack)
+            from.open_group()?;
+            from.go(*next, stack)
         }
         Spot::Close { index, next } => {
-            close_group(&mut from, *index);
-            go(from, *next, stack)
+            from.close_group(*index);
+            from.go(*next, stack)
         }
         Spot::Fail | Spot::Match => Ok(()),
     }
@@ -176,7 +179,7 @@ fn advance(
     alloc: Global,
     spots: &[Spot],
     text: &[u8],
-    from: Alternative,
+    mut from: Alternative,
     stack: &mut Vec<Alternative>,
 ) -> Result<Option<Alternative>, NoMemory>
     requires falls { ClosesFall spots.now }
@@ -184,7 +187,6 @@ fn advance(
     ensures { IfOk result (λ found. Advances text.now spots.now (place_of from) (places_of stack.old.items)
         (option_map run_of found) (places_of stack.new.items)) }
 {
-    let mut from = from;
     let Some(spot) = spots.get(from.spot) else {
         return Ok(None);
     };
@@ -219,7 +221,7 @@ pub fn first_run(
     ensures counted { IfOk result (λ found. IfSome found (λ a. length a.groups.items ≡ groups + 1)) }
 {
     let mut stack = Vec::new(alloc);
-    stack.push(begin_at(alloc, at, groups)?)?;
+    stack.push(Alternative::begin_at(alloc, at, groups)?)?;
     while let Some(next) = stack.pop() {
         if let Some(found) = advance(alloc, spots, text, next, &mut stack)? {
             return Ok(Some(found));

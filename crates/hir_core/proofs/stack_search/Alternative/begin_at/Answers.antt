@@ -1,6 +1,6 @@
 use Rattle.std.proofs.Common.{refl}
 use Rattle.hir_core.proofs.StackLemmas.{members-none}
-use Rattle.hir_core.proofs.stack_search.begin_at.Goals as goal
+use Rattle.hir_core.proofs.stack_search.Alternative.begin_at.Goals as goal
 
 pub returns : goal.returns
 returns c = rw (members-none c.new-2.result c.new-2.ensures, c.in_ok-unset.ensures, c.new.ensures.items) refl

@@ -1,6 +1,6 @@
 use Rattle.std.proofs.Common.{refl}
 use Rattle.hir_core.proofs.StackLemmas.{members-none}
-use Rattle.hir_core.proofs.stack_search.take.Goals as goal
+use Rattle.hir_core.proofs.stack_search.Alternative.take.Goals as goal
 
 pub returns : goal.returns
 returns c = rw (members-none c.clear.new.self c.clear.ensures) refl
