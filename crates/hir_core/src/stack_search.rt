@@ -141,17 +141,12 @@ fn lead(
     ensures { IfOk result (λ _. places_of stack.new.items
         ≡ places_of stack.old.items ++ reverse (leads text.now spot.now (place_of from).1)) }
 {
+    let at = from.at;
     match spot {
-        Spot::Bytes { set, next } => {
-            let size = byte_size(set, text, from.at);
-            from.go_past(size, *next, stack)
-        }
-        Spot::Chars { set, next } => {
-            let size = char_size(set, text, from.at);
-            from.go_past(size, *next, stack)
-        }
+        Spot::Bytes { set, next } => from.go_past(byte_size(set, text, at), *next, stack),
+        Spot::Chars { set, next } => from.go_past(char_size(set, text, at), *next, stack),
         Spot::Look { look, next } => {
-            if !holds(*look, text, from.at) {
+            if !holds(*look, text, at) {
                 return Ok(());
             }
             from.go(*next, stack)
