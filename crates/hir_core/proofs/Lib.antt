@@ -1,3 +1,4 @@
+mod CharRangesLemmas
 mod CharacterLemmas
 mod ClosureLemmas
 mod CompileLemmas
@@ -9,6 +10,10 @@ mod PlacedLemmas
 mod PlacingLemmas
 mod ProgramLemmas
 mod PruningLemmas
+mod RangesLemmas
+mod RunsComputing
+mod RunsLemmas
+mod SameRangesLemmas
 mod RoundLemmas
 mod RunsComputing
 mod RunsLemmas

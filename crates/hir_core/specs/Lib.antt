@@ -6,6 +6,7 @@ pub mod Laws
 pub mod Looks
 pub mod Pass
 pub mod Program
+pub mod Ranges
 pub mod Runs
 pub mod RunsExamples
 pub mod RunsLaws

@@ -6,12 +6,19 @@
 //! groups of a match.
 #![tactic(auto)]
 
+mod byte_ranges;
+mod char_ranges;
 mod closure;
 mod compile;
 mod core_tree;
 mod examples;
 mod laws;
+#[cfg(test)]
+mod list_tests;
+mod lists;
 mod look;
+mod range_laws;
+mod ranges;
 mod pass;
 mod runs_examples;
 mod runs_laws;
@@ -24,12 +31,16 @@ mod stack_search;
 #[cfg(test)]
 mod tests;
 
+pub use byte_ranges::ByteRanges;
+pub use char_ranges::CharRanges;
 pub use examples::{
     ascii_words_stand_as_in_the_examples, broken_sides_count_as_in_the_examples,
     lines_start_and_end_as_in_the_examples, words_stand_as_in_the_examples,
 };
 pub use laws::characters_stand_beside_a_place;
+pub use lists::Bytes;
 pub use look::{Look, holds};
+pub use range_laws::a_set_has_one_list_of_ranges;
 pub use runs_examples::{
     groups_match_as_in_the_examples, repetitions_match_as_in_the_examples,
     sets_and_looks_match_as_in_the_examples,
