@@ -14,6 +14,7 @@ mod RangesLemmas
 mod RunsComputing
 mod RunsLemmas
 mod SameRangesLemmas
+mod SpotsLemmas
 mod RoundLemmas
 mod RunsComputing
 mod RunsLemmas

@@ -1,6 +1,7 @@
 pub mod Core
 pub mod CoreTree
 pub mod Examples
+pub mod Hirs
 pub mod Found
 pub mod Laws
 pub mod Looks
@@ -11,4 +12,5 @@ pub mod Runs
 pub mod RunsExamples
 pub mod RunsLaws
 pub mod Sides
+pub mod Spots
 pub mod StackSearch

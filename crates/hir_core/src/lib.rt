@@ -1,6 +1,7 @@
 //! Patterns as trees, and what they match.
 //!
-//! What stands so far are the looks, and what a pattern matches. [`Look`] names what a pattern asks of a place between
+//! What stands so far are the tree of a pattern, the looks, and what a pattern matches. [`Hir`] is the tree, and [`spots`]
+//! tells how much it takes to search. [`Look`] names what a pattern asks of a place between
 //! two bytes of a text, and [`holds`] tells whether it holds there. `specs/Core.antt` says to what a pattern is written
 //! out, and `specs/Runs.antt` what that matches; its worked examples and laws are functions here. [`Slots`] hold the
 //! groups of a match.
@@ -8,10 +9,14 @@
 
 mod byte_ranges;
 mod char_ranges;
+mod count;
 mod closure;
 mod compile;
 mod core_tree;
 mod examples;
+mod hir;
+#[cfg(test)]
+mod hir_tests;
 mod laws;
 #[cfg(test)]
 mod list_tests;
@@ -33,10 +38,12 @@ mod tests;
 
 pub use byte_ranges::ByteRanges;
 pub use char_ranges::CharRanges;
+pub use count::{group_count, spots};
 pub use examples::{
     ascii_words_stand_as_in_the_examples, broken_sides_count_as_in_the_examples,
     lines_start_and_end_as_in_the_examples, words_stand_as_in_the_examples,
 };
+pub use hir::{Group, Hir, Hirs, Repeat};
 pub use laws::characters_stand_beside_a_place;
 pub use lists::Bytes;
 pub use look::{Look, holds};
