@@ -3,6 +3,9 @@ mod CharacterLemmas
 mod ClosureLemmas
 mod CompileLemmas
 mod Computing
+mod CoreNumbersLemmas
+mod CoreSpotsLemmas
+mod CoresLemmas
 mod ListLemmas
 mod NumbersLemmas
 mod PassLemmas

@@ -1,4 +1,5 @@
 pub mod Core
+pub mod Cores
 pub mod CoreTree
 pub mod Examples
 pub mod Hirs
@@ -12,5 +13,6 @@ pub mod Runs
 pub mod RunsExamples
 pub mod RunsLaws
 pub mod Sides
+pub mod Sound
 pub mod Spots
 pub mod StackSearch

@@ -1,14 +1,15 @@
 //! Patterns as trees, and what they match.
 //!
-//! What stands so far are the tree of a pattern, the looks, and what a pattern matches. [`Hir`] is the tree, and [`spots`]
-//! tells how much it takes to search. [`Look`] names what a pattern asks of a place between
-//! two bytes of a text, and [`holds`] tells whether it holds there. `specs/Core.antt` says to what a pattern is written
-//! out, and `specs/Runs.antt` what that matches; its worked examples and laws are functions here. [`Slots`] hold the
-//! groups of a match.
+//! What stands so far are the tree of a pattern, the looks, and what a pattern matches. [`Hir`] is the tree, and
+//! [`spots`] tells how much it takes to search. [`Look`] names what a pattern asks of a place between two bytes of a
+//! text, and [`holds`] tells whether it holds there. `specs/Core.antt` says to what a pattern is written out,
+//! `specs/Cores.antt` to what a tree is, and `specs/Runs.antt` what that matches; its worked examples and laws are
+//! functions here. [`Slots`] hold the groups of a match.
 #![tactic(auto)]
 
 mod byte_ranges;
 mod char_ranges;
+mod core_laws;
 mod count;
 mod closure;
 mod compile;
@@ -38,6 +39,10 @@ mod tests;
 
 pub use byte_ranges::ByteRanges;
 pub use char_ranges::CharRanges;
+pub use core_laws::{
+    a_core_has_fewer_numbers_than_twice_the_spots_of_its_tree,
+    a_core_is_made_of_the_cores_of_the_parts, a_core_takes_no_more_than_the_spots_of_its_tree,
+};
 pub use count::{group_count, spots};
 pub use examples::{
     ascii_words_stand_as_in_the_examples, broken_sides_count_as_in_the_examples,
