@@ -1,15 +1,15 @@
 -- The threads of a place, followed one after another.
-use Rattle.std.proofs.Common.{◌≡◌, ℕ, zero, suc, ◌+◌, ◌-◌, ◌<◌, ◌≤◌, Bool, true, false, ◌⊎◌, inl, inr, List, [], ◌∷◌, ◌++◌, length, map, reverse, Option, Some, None, if◌then◌else◌, refl, sym, ap, ap₂, ◌∙◌, subst, true≢false, append-nil, append_assoc, arith}
-use Rattle.std.specs.Prelude.{option_map, replicate, take, drop, is_some}
+use Rattle.std.proofs.Common.{◌≡◌, ℕ, suc, ◌+◌, ◌-◌, ◌<◌, ◌≤◌, Bool, true, false, ◌⊎◌, inl, inr, List, [], ◌∷◌, ◌++◌, length, map, reverse, Option, Some, None, if◌then◌else◌, refl, sym, ap, ap₂, ◌∙◌, subst, true≢false, append-nil, append_assoc, arith}
+use Rattle.std.specs.Prelude.{replicate, take, drop, is_some}
 use Rattle.std.specs.Option.{option_or}
-use Rattle.std.specs.List.{flat_map, AllByRecursion}
+use Rattle.std.specs.List.{flat_map}
 use Rattle.std.proofs.lemmas.Grind.{flat_map-append, common_steps}
 use Rattle.std.proofs.lemmas.List.{map-append, reverse-reverse, get_or-replicate, get_or_past, length-replicate}
 use Rattle.std.proofs.lemmas.Bool.{cases_lt}
 use Rattle.hir_core.specs.Runs.{Run, begin}
 use Rattle.hir_core.specs.RunsLaws.{forget}
-use Rattle.hir_core.specs.Program.{way, gives}
-use Rattle.hir_core.specs.Pass.{run_of, first_of, some_run, Stop, stop_of, stops_of, was_visited, fresh, stop_gives, threads_give, stack_gives, begins, begins_unless, first_from, answer, best_of, Spent, Followed, AllLater, AllFrom}
+use Rattle.hir_core.specs.Program.{way}
+use Rattle.hir_core.specs.Pass.{run_of, first_of, some_run, Stop, stop_of, stops_of, was_visited, stop_gives, threads_give, stack_gives, begins, begins_unless, first_from, answer, best_of, Spent, Followed, AllLater, AllFrom}
 use Rattle.hir_core.specs.declared.spot.Spot.{Spot}
 use Rattle.hir_core.specs.declared.closure.Thread.{Thread}
 use Rattle.hir_core.proofs.ListLemmas.{All-append, All-weaker}
@@ -62,13 +62,13 @@ module _ (text : List ℕ) (spots : List Spot) (at : ℕ) (goal : Option Run) (b
     from = popped_from.1;
     later = subst (AllLater text at) (sym stops) (All-append (λ (x : Stop). (at < x.1.run.at) × (x.1.run.at ≤ length text)) (map stop_of kept) (stop_of t ∷ []) h.later ((waits, popped_from.0.1), tt));
     spent =
-      (λ q v. elim (h.spent q v) [
-        | inl some ↦ inl (ap some_run gave ∙ some_run-append (threads_give text spots kept) (stop_gives text spots (stop_of t)) some)
-        | inr dead ↦ inr dead
-      ]);
+        (λ q v. elim (h.spent q v) [
+          | inl some ↦ inl (ap some_run gave ∙ some_run-append (threads_give text spots kept) (stop_gives text spots (stop_of t)) some)
+          | inr dead ↦ inr dead
+        ]);
     finds =
-      ap (λ xs. first_of (xs ++ stack_gives text spots rest)) gave
-      ∙ ap first_of (append_assoc (threads_give text spots kept) (stop_gives text spots (stop_of t)) (stack_gives text spots rest)) ∙ popped_finds;
+        ap (λ xs. first_of (xs ++ stack_gives text spots rest)) gave
+        ∙ ap first_of (append_assoc (threads_give text spots kept) (stop_gives text spots (stop_of t)) (stack_gives text spots rest)) ∙ popped_finds;
   }
     where
       stops : map stop_of kept' ≡ map stop_of kept ++ stop_of t ∷ []
@@ -87,8 +87,8 @@ module _ (text : List ℕ) (spots : List Spot) (at : ℕ) (goal : Option Run) (b
     later = later;
     spent = followed.0;
     finds =
-      first_then (threads_give text spots kept') (threads_give text spots kept ++ stop_gives text spots (stop_of t)) (stack_gives text spots rest) followed.1
-      ∙ ap first_of (append_assoc (threads_give text spots kept) (stop_gives text spots (stop_of t)) (stack_gives text spots rest)) ∙ popped_finds;
+        first_then (threads_give text spots kept') (threads_give text spots kept ++ stop_gives text spots (stop_of t)) (stack_gives text spots rest) followed.1
+        ∙ ap first_of (append_assoc (threads_give text spots kept) (stop_gives text spots (stop_of t)) (stack_gives text spots rest)) ∙ popped_finds;
   }
 
   -- a thread of this place comes to a match

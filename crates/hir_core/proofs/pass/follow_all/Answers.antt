@@ -1,4 +1,4 @@
-use Rattle.std.proofs.Common.{◌≡◌, ◌≤◌, [], ◌∷◌, ◌++◌, map, Some, None, refl, sym, subst, arith}
+use Rattle.std.proofs.Common.{◌≡◌, [], map, Some, None, refl, subst, arith}
 use Rattle.std.proofs.lemmas.List.{nil_from_length}
 use Rattle.hir_core.specs.Pass.{some_run, stop_of, stop_gives, threads_give, Spent, Followed, AllLater}
 use Rattle.hir_core.proofs.RoundLemmas.{Rounds-at, Rounds-waits, Rounds-followed, Rounds-found, Rounds-end}

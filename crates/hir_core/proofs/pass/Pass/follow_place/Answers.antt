@@ -1,4 +1,4 @@
-use Rattle.std.proofs.Common.{◌≡◌, List, length, sym, ◌∙◌, arith}
+use Rattle.std.proofs.Common.{sym, ◌∙◌, arith}
 use Rattle.std.proofs.lemmas.Result.{IfOk-weaker}
 use Rattle.hir_core.proofs.RoundLemmas.{lent_back, spent-begins, finds-begins}
 use Rattle.hir_core.proofs.pass.Pass.follow_place.Goals as goal

@@ -1,7 +1,7 @@
-use Rattle.std.proofs.Common.{◌≡◌, ◌+◌, Bool, true, false, Vec, Global, Option, List, if◌then◌else◌, map, reverse, refl, sym, ap, ◌∙◌, subst}
+use Rattle.std.proofs.Common.{◌≡◌, ◌+◌, Vec, Global, if◌then◌else◌, reverse, sym, ap, ◌∙◌, subst}
 use Rattle.std.specs.Prelude.{is_some}
 use Rattle.std.proofs.lemmas.Bool.{cond-true, cond-false}
-use Rattle.hir_core.specs.Pass.{stop_of, stops_of, AllLater, AllFrom}
+use Rattle.hir_core.specs.Pass.{stops_of, AllFrom}
 use Rattle.hir_core.specs.declared.closure.Thread.{Thread}
 use Rattle.hir_core.proofs.RoundLemmas.{AllFrom-kept, answer-next}
 use Rattle.hir_core.proofs.pass.Pass.round.Goals as goal
