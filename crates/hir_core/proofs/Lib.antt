@@ -24,4 +24,5 @@ mod RunsLemmas
 mod StackLemmas
 mod TicksLemmas
 mod TurnLemmas
+mod VisitLemmas
 mod WalkLemmas

@@ -1,7 +1,9 @@
 -- The pass of a search over a text: what its threads give, and what it answers.
-use Rattle.std.specs.Prelude.{◌≡◌, ℕ, zero, suc, ◌+◌, ◌-◌, ◌<◌, ◌≤◌, Bool, true, false, ◌⊎◌, List, [], ◌∷◌, ◌++◌, length, map, reverse, Option, Some, None, if◌then◌else◌, slice_index_or, slice_set, option_map}
+use Rattle.std.specs.Prelude.{◌≡◌, ℕ, zero, suc, ◌+◌, ◌-◌, ◌<◌, ◌≤◌, Bool, true, false, not, ◌&&◌, ◌⊎◌, List, [], ◌∷◌, ◌++◌, length, map, reverse, Option, Some, None, if◌then◌else◌, slice_index_or, slice_set, option_map}
 use Rattle.std.specs.Option.{option_or}
-use Rattle.std.specs.List.{flat_map, AllByRecursion}
+use Rattle.std.specs.List.{flat_map, sum_by, AllByRecursion}
+use Rattle.sd_edge.specs.Steps.{IsTicked}
+use Rattle.sd_edge.specs.declared.steps.Steps.{Steps}
 use Rattle.hir_core.specs.Looks.{holds}
 use Rattle.hir_core.specs.Runs.{Run, begin, moved, byte_size, char_size, first}
 use Rattle.hir_core.specs.RunsLaws.{forget}
@@ -79,6 +81,34 @@ was_visited visited q = slice_index_or visited q false
 abbrev pub visiting : Spot → ℕ → List Bool → List Bool
 visiting s q visited = if is_unmarked s then visited else slice_set visited q true
 
+-- a visit of the spot is counted
+abbrev pub is_counted : Spot → Bool
+is_counted (spot.Bytes set q) = true
+is_counted (spot.Chars set q) = true
+is_counted (spot.Look l q) = true
+is_counted (spot.Split p q) = true
+is_counted _ = false
+
+-- the ticks of a visit, where the spot was visited or not
+abbrev pub visit_ticks : Spot → Bool → ℕ
+visit_ticks s visited = if is_counted s && not visited then 1 else 0
+
+-- how many spots have counted visits
+abbrev pub counted : List Spot → ℕ
+counted spots = sum_by (λ s. if is_counted s then 1 else 0) spots
+
+-- how many of the spots that were visited have counted visits
+abbrev pub counted_visits : List Spot → List Bool → ℕ
+counted_visits [] visited = 0
+counted_visits (s ∷ spots) [] = 0
+counted_visits (s ∷ spots) (v ∷ visited) = (if is_counted s && v then 1 else 0) + counted_visits spots visited
+
+-- each visit that was counted is a tick
+pub record CountsVisits {L : Type 0} (noted : L → L) (spots : List Spot) (visited visited' : List Bool) (old new : Steps L) : Type 0 where
+  pub taken : ℕ
+  pub more : counted_visits spots visited + taken ≡ counted_visits spots visited'
+  pub ticked : IsTicked noted taken old new
+
 -- each stops after a place
 abbrev pub AllLater : List ℕ → ℕ → List Stop → Type 0
 AllLater text at stops = AllByRecursion (λ (p : Stop). (at < p.1.run.at) × (p.1.run.at ≤ length text)) stops
@@ -149,4 +179,4 @@ module _ (text : List ℕ) (spots : List Spot) where
   abbrev pub Turned : Thread → Option Thread → List Bool → List Bool → List Thread → List Thread → List Thread → List Thread → Type 0
   Turned t None visited visited' stack stack' kept kept' =
       TurnedTo (stop_of t) visited visited' (stops_of stack) (stops_of stack') (map stop_of kept) (map stop_of kept')
-  Turned t (Some m) visited visited' stack stack' kept kept' = (m ≡ t) × (spot_at spots t.spot ≡ spot.Match) × (kept' ≡ kept)
+  Turned t (Some m) visited visited' stack stack' kept kept' = (m ≡ t) × (spot_at spots t.spot ≡ spot.Match) × (kept' ≡ kept) × (visited' ≡ visited)

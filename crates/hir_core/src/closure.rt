@@ -1,15 +1,16 @@
 //! The search of one place, which visits each spot once.
 
-ghost use Rattle.std.specs.Prelude.{◌≡◌, ℕ, ◌+◌, ◌^◌, ◌≤◌, ◌<◌, ◌++◌, length, map, IfOk, IfSome};
+ghost use Rattle.std.specs.Prelude.{◌≡◌, ℕ, ◌+◌, ◌^◌, ◌≤◌, ◌<◌, ◌++◌, false, length, map, IfOk, IfSome};
 ghost use Rattle.hir_core.specs.Runs as runs;
-ghost use Rattle.hir_core.specs.Program.{ClosesFall, closed};
-ghost use Rattle.hir_core.specs.Pass.{way_of, stop_of, stops_of, leads, taken, some_run, threads_give, Spent, Turned, Followed, AllLater, stop_gives};
+ghost use Rattle.hir_core.specs.Program.{ClosesFall, closed, spot_at};
+ghost use Rattle.sd_edge.specs.Steps.{IsTicked};
+ghost use Rattle.hir_core.specs.Pass.{way_of, stop_of, stops_of, leads, taken, some_run, threads_give, Spent, Turned, Followed, AllLater, stop_gives, was_visited, is_counted, visit_ticks, CountsVisits};
 
 use crate::look::holds;
 use crate::side::byte_after;
 use crate::spot::Spot;
 use bstr::decode_utf8;
-use sd_edge::NoMemory;
+use sd_edge::{Ledger, NoMemory, Steps};
 use std::alloc::Global;
 
 /// A thread of a search: the spot that it is to try, and the way that led there.
@@ -150,8 +151,27 @@ fn keep(
     Ok(())
 }
 
+/// Whether a visit of a spot is counted.
+fn is_counted(spot: &Spot) -> bool
+    ensures { result ≡ is_counted spot.now }
+{
+    matches!(
+        spot,
+        Spot::Bytes { .. } | Spot::Chars { .. } | Spot::Look { .. } | Spot::Split { .. }
+    )
+}
+
+/// Counts a visit of a spot.
+fn count<L: Ledger>(spot: &Spot, steps: &mut Steps<L>)
+    ensures { IsTicked L.noted (visit_ticks spot.now false) steps.old steps.new }
+{
+    if is_counted(spot) {
+        steps.tick();
+    }
+}
+
 /// Follows a thread to the spots that its own leads to at its place. Refuses for want of memory alone.
-fn turn(
+fn turn<L: Ledger>(
     alloc: Global,
     spots: &[Spot],
     text: &[u8],
@@ -159,11 +179,14 @@ fn turn(
     visited: &mut [bool],
     stack: &mut Vec<Thread>,
     kept: &mut Vec<Thread>,
+    steps: &mut Steps<L>,
 ) -> Result<Option<Thread>, NoMemory>
     requires room { length visited.old ≡ length spots.now }
     requires at { thread.at ≤ length text.now }
-    ensures { IfOk result (λ found. Turned text.now spots.now thread found visited.old visited.new
+    ensures turned { IfOk result (λ found. Turned text.now spots.now thread found visited.old visited.new
         stack.old.items stack.new.items kept.old.items kept.new.items) }
+    ensures ticks { IfOk result
+        (λ _. IsTicked L.noted (visit_ticks (spot_at spots.now thread.spot) (was_visited visited.old thread.spot)) steps.old steps.new) }
 {
     let Some(spot) = spots.get(thread.spot) else {
         return Ok(None);
@@ -182,6 +205,7 @@ fn turn(
         return Ok(None);
     }
     visited[thread.spot] = true;
+    count(spot, steps);
     match spot {
         Spot::Bytes { set, next } => {
             let size = byte_size(set, text, thread.at);
@@ -197,7 +221,7 @@ fn turn(
 }
 
 /// Follows a thread until what it leads to takes bytes, or is a match, which is given. Refuses for want of memory alone.
-pub fn follow(
+pub fn follow<L: Ledger>(
     alloc: Global,
     spots: &[Spot],
     text: &[u8],
@@ -205,6 +229,7 @@ pub fn follow(
     visited: &mut [bool],
     stack: &mut Vec<Thread>,
     kept: &mut Vec<Thread>,
+    steps: &mut Steps<L>,
 ) -> Result<Option<Thread>, NoMemory>
     requires falls { ClosesFall spots.now }
     requires room { length visited.old ≡ length spots.now }
@@ -214,11 +239,12 @@ pub fn follow(
     ensures followed { IfOk result
         (λ found. Followed text.now spots.now thread.at (stop_gives text.now spots.now (stop_of thread)) found visited.new kept.old.items kept.new.items) }
     ensures later { IfOk result (λ _. AllLater text.now thread.at (map stop_of kept.new.items)) }
+    ensures ticks { IfOk result (λ _. CountsVisits L.noted spots.now visited.old visited.new steps.old steps.new) }
 {
     stack.clear();
     stack.push(thread)?;
     while let Some(next) = stack.pop() {
-        if let Some(found) = turn(alloc, spots, text, next, visited, stack, kept)? {
+        if let Some(found) = turn(alloc, spots, text, next, visited, stack, kept, steps)? {
             return Ok(Some(found));
         }
     }

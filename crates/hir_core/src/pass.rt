@@ -1,14 +1,15 @@
 //! The pass of a search over a text, which keeps one run for each spot and byte.
 
-ghost use Rattle.std.specs.Prelude.{◌≡◌, ℕ, ◌+◌, ◌-◌, ◌<◌, ◌≤◌, length, map, false, replicate, IfOk, option_map, List, [], ◌++◌};
+ghost use Rattle.std.specs.Prelude.{◌≡◌, ℕ, ◌+◌, ◌-◌, ◌*◌, ◌<◌, ◌≤◌, length, map, false, replicate, IfOk, option_map, List, [], ◌++◌};
 ghost use Rattle.std.specs.Option.{option_or};
 ghost use Rattle.hir_core.specs.Runs as runs;
 ghost use Rattle.hir_core.specs.Program.{ClosesFall, way};
-ghost use Rattle.hir_core.specs.Pass.{stop_of, stops_of, some_run, threads_give, stack_gives, first_of, begins_unless, answer, first_from, best_of, Spent, Followed, AllLater, AllFrom};
+ghost use Rattle.sd_edge.specs.Steps.{TicksAtMost};
+ghost use Rattle.hir_core.specs.Pass.{stop_of, stops_of, some_run, threads_give, stack_gives, first_of, begins_unless, answer, first_from, best_of, Spent, Followed, AllLater, AllFrom, counted, CountsVisits};
 
 use crate::closure::{Thread, follow};
 use crate::spot::Spot;
-use sd_edge::NoMemory;
+use sd_edge::{Ledger, NoMemory, Steps};
 use std::alloc::Global;
 use std::mem;
 
@@ -28,7 +29,7 @@ fn begin(alloc: Global, at: usize, groups: u32) -> Result<Thread, NoMemory>
 
 /// Follows the threads of a stack that are at a place, up to the first match, which is given, and keeps those that go on
 /// later. Refuses for want of memory alone.
-fn follow_all(
+fn follow_all<L: Ledger>(
     alloc: Global,
     spots: &[Spot],
     text: &[u8],
@@ -37,6 +38,7 @@ fn follow_all(
     visited: &mut [bool],
     stack: &mut Vec<Thread>,
     kept: &mut Vec<Thread>,
+    steps: &mut Steps<L>,
 ) -> Result<Option<Thread>, NoMemory>
     requires falls { ClosesFall spots.now }
     requires room { length visited.old ≡ length spots.now }
@@ -46,11 +48,14 @@ fn follow_all(
     ensures followed { IfOk result
         (λ found. Followed text.now spots.now at (stack_gives text.now spots.now threads.old.items) found visited.new kept.old.items kept.new.items) }
     ensures later { IfOk result (λ _. AllLater text.now at (map stop_of kept.new.items)) }
+    ensures ticks { IfOk result (λ _. CountsVisits L.noted spots.now visited.old visited.new steps.old steps.new) }
 {
     while let Some(thread) = threads.pop() {
         if thread.at > at {
             kept.push(thread)?;
-        } else if let Some(found) = follow(alloc, spots, text, thread, visited, stack, kept)? {
+        } else if let Some(found) = follow(
+            alloc, spots, text, thread, visited, stack, kept, steps,
+        )? {
             return Ok(Some(found));
         }
     }
@@ -86,13 +91,14 @@ impl Pass {
 
     /// Follows the threads at a place, and then one that begins there, as long as nothing was found. Refuses for want of
     /// memory alone.
-    fn follow_place(
+    fn follow_place<L: Ledger>(
         &mut self,
         alloc: Global,
         spots: &[Spot],
         text: &[u8],
         at: usize,
         groups: u32,
+        steps: &mut Steps<L>,
     ) -> Result<Option<Thread>, NoMemory>
         requires falls { ClosesFall spots.now }
         requires at { at ≤ length text.now }
@@ -101,6 +107,7 @@ impl Pass {
             ≡ first_of (stack_gives text.now spots.now self.old.threads.items ++ begins_unless text.now spots.now groups at (best_of self.old.best))) }
         ensures later { IfOk result (λ _. AllLater text.now at (map stop_of self.new.kept.items)) }
         ensures best { self.new.best ≡ self.old.best }
+        ensures ticks { IfOk result (λ _. TicksAtMost L.noted (counted spots.now) steps.old steps.new) }
     {
         self.visited.clear();
         self.visited.resize(spots.len(), false)?;
@@ -114,6 +121,7 @@ impl Pass {
             &mut self.visited,
             &mut self.stack,
             &mut self.kept,
+            steps,
         )?;
         if found.is_some() || self.best.is_some() {
             return Ok(found);
@@ -127,17 +135,19 @@ impl Pass {
             &mut self.visited,
             &mut self.stack,
             &mut self.kept,
+            steps,
         )
     }
 
     /// Goes on from a place to the next. Refuses for want of memory alone.
-    fn round(
+    fn round<L: Ledger>(
         &mut self,
         alloc: Global,
         spots: &[Spot],
         text: &[u8],
         at: usize,
         groups: u32,
+        steps: &mut Steps<L>,
     ) -> Result<(), NoMemory>
         requires falls { ClosesFall spots.now }
         requires at { at ≤ length text.now }
@@ -146,8 +156,9 @@ impl Pass {
         ensures answer { IfOk result (λ _.
             answer text.now spots.now groups (at + 1) (stack_gives text.now spots.now self.new.threads.items) (best_of self.new.best)
             ≡ answer text.now spots.now groups at (stack_gives text.now spots.now self.old.threads.items) (best_of self.old.best)) }
+        ensures ticks { IfOk result (λ _. TicksAtMost L.noted (counted spots.now) steps.old steps.new) }
     {
-        let found = self.follow_place(alloc, spots, text, at, groups)?;
+        let found = self.follow_place(alloc, spots, text, at, groups, steps)?;
         if found.is_some() {
             self.best = found;
         }
@@ -158,24 +169,27 @@ impl Pass {
     }
 
     /// The first run of the least place, from one on, at which a program gives a run. Refuses for want of memory alone.
-    pub fn search(
+    pub fn search<L: Ledger>(
         &mut self,
         alloc: Global,
         spots: &[Spot],
         text: &[u8],
         at: usize,
         groups: u32,
+        steps: &mut Steps<L>,
     ) -> Result<Option<Thread>, NoMemory>
         requires falls { ClosesFall spots.now }
         requires at { at ≤ length text.now }
-        ensures { IfOk result
+        ensures found { IfOk result
             (λ found. best_of found ≡ first_from text.now spots.now groups (length text.now + 1 - at) at) }
+        ensures ticks { IfOk result
+            (λ _. TicksAtMost L.noted ((length text.now + 1 - at) * counted spots.now) steps.old steps.new) }
     {
         self.threads.clear();
         self.best = None;
         let mut place = at;
         while place <= text.len() {
-            self.round(alloc, spots, text, place, groups)?;
+            self.round(alloc, spots, text, place, groups, steps)?;
             if self.threads.is_empty() && self.best.is_some() {
                 return Ok(self.best.take());
             }

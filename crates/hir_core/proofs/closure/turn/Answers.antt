@@ -9,9 +9,9 @@ fits text size within at short None e = search rules
 fits text size within at short (Some k) e = let h = (within at k (sym e)).1 in omega arith
 
 pub keep-requires : goal.keep-requires
-keep-requires c =
+keep-requires g c =
     fits c.args.text.now (byte_size c.deref.result.now c.args.text.now) (byte_size-within c.deref.result.now c.args.text.now) c.args.thread.at (omega arith) _ c.byte_size-size.ensures
 
 pub keep-requires-in-Chars : goal.keep-requires-in-Chars
-keep-requires-in-Chars c =
+keep-requires-in-Chars g c =
     fits c.args.text.now (char_size c.deref-in-Chars.result.now c.args.text.now) (char_size-within c.deref-in-Chars.result.now c.args.text.now) c.args.thread.at (omega arith) _ c.char_size-size.ensures

@@ -8,7 +8,7 @@ use Rattle.hir_core.proofs.pass.Pass.round.Goals as goal
 use Rattle.hir_core.proofs.pass.Pass.round.Goals.{then-is_some, else-is_some}
 
 pub returns-clause-from : goal.returns-clause-from
-returns-clause-from c =
+returns-clause-from g c =
     let kept : c.if-is_some.self.kept ≡ c.follow_place.new.self.kept =
     elim c.if-is_some.branch [ then-is_some w ↦ ap (λ s. s.kept) w.self-is | else-is_some w ↦ ap (λ s. s.kept) w.self-is ] in
     subst (λ ts. AllFrom c.args.text.now (c.args.at + 1) (stops_of ts))
@@ -16,7 +16,7 @@ returns-clause-from c =
     (AllFrom-kept c.args.text.now c.args.at c.follow_place.new.self.kept.items c.in_ok-found.ensures.later)
 
 pub returns-clause-answer : goal.returns-clause-answer
-returns-clause-answer c =
+returns-clause-answer g c =
     let kept : c.if-is_some.self.kept ≡ c.follow_place.new.self.kept =
     elim c.if-is_some.branch [ then-is_some w ↦ ap (λ s. s.kept) w.self-is | else-is_some w ↦ ap (λ s. s.kept) w.self-is ] in
     let best : c.if-is_some.self.best ≡ (if is_some c.in_ok-found.found then c.in_ok-found.found else c.args.self.now.best) =
