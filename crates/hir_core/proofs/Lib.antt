@@ -14,13 +14,11 @@ mod PlacingLemmas
 mod ProgramLemmas
 mod PruningLemmas
 mod RangesLemmas
+mod RoundLemmas
 mod RunsComputing
 mod RunsLemmas
 mod SameRangesLemmas
 mod SpotsLemmas
-mod RoundLemmas
-mod RunsComputing
-mod RunsLemmas
 mod StackLemmas
 mod TicksLemmas
 mod TurnLemmas

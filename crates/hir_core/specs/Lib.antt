@@ -1,9 +1,9 @@
 pub mod Core
-pub mod Cores
 pub mod CoreTree
+pub mod Cores
 pub mod Examples
-pub mod Hirs
 pub mod Found
+pub mod Hirs
 pub mod Laws
 pub mod Looks
 pub mod Pass

@@ -9,11 +9,11 @@
 
 mod byte_ranges;
 mod char_ranges;
-mod core_laws;
-mod count;
 mod closure;
 mod compile;
+mod core_laws;
 mod core_tree;
+mod count;
 mod examples;
 mod hir;
 #[cfg(test)]
@@ -23,9 +23,9 @@ mod laws;
 mod list_tests;
 mod lists;
 mod look;
+mod pass;
 mod range_laws;
 mod ranges;
-mod pass;
 mod runs_examples;
 mod runs_laws;
 mod seen;
