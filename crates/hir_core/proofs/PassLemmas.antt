@@ -2,7 +2,6 @@
 use Rattle.std.proofs.Common.{◌≡◌, ℕ, Bool, true, false, ◌⊎◌, inl, inr, List, [], ◌∷◌, ◌++◌, length, map, Option, Some, if◌then◌else◌, refl, sym, ap, ◌∙◌, subst, true≢false, append-nil, append_assoc, arith}
 use Rattle.std.specs.Prelude.{◌||◌}
 use Rattle.std.specs.Option.{option_or}
-use Rattle.std.specs.List.{AllByRecursion}
 use Rattle.std.proofs.Math.Bool.{or-false}
 use Rattle.std.proofs.lemmas.Bool.{or_left, or_right, cond-true, cond-false}
 use Rattle.std.proofs.lemmas.Grind.{flat_map-append}
@@ -41,17 +40,6 @@ module _ (text : List ℕ) (spots : List Spot) (falls : ClosesFall spots) (at : 
     (λ m k. elim (c.2 m k) [ inl h ↦ inl (up h) | inr r ↦ inr r ]),
     Covers-above visited es (done || nonempty (gives text spots e.spot e.way)) (more || nonempty (gives text spots e.spot e.way)) (seen_by e) (seen_by e)
         (or_up done more _ up) (λ m k. k) c.3,
-  )
-
-  -- entries of a place where nothing was visited
-  pub Covers-fresh : (es : List Entry) (done : Bool) (above : List ℕ)
-      → AllByRecursion (λ (e : Entry). (e.way.run.at ≡ at) × (e.way.run.seen ≡ [])) es → Covers text spots falls at [] done above es
-  Covers-fresh [] done above fresh = tt
-  Covers-fresh (e ∷ es) done above fresh = (
-    fresh.0.0,
-    (λ m k. absurd (true≢false (sym (ap (is_seen m) (sym fresh.0.1) ∙ k)))),
-    (λ m k. absurd (true≢false (sym k))),
-    Covers-fresh es (done || nonempty (gives text spots e.spot e.way)) (seen_by e) fresh.1,
   )
 
   -- What a search of a place keeps true: what was kept, and what is still to be tried, have the first run that is sought.

@@ -1,18 +1,17 @@
 -- The threads of a place, followed one after another.
-use Rattle.std.proofs.Common.{◌≡◌, ℕ, suc, ◌+◌, ◌-◌, ◌<◌, ◌≤◌, Bool, true, false, ◌⊎◌, inl, inr, List, [], ◌∷◌, ◌++◌, length, map, reverse, Option, Some, None, if◌then◌else◌, refl, sym, ap, ap₂, ◌∙◌, subst, true≢false, append-nil, append_assoc, arith}
-use Rattle.std.specs.Prelude.{replicate, take, drop, is_some}
+use Rattle.std.proofs.Common.{◌≡◌, ℕ, suc, ◌+◌, ◌-◌, ◌<◌, ◌≤◌, Bool, true, false, List, [], ◌∷◌, ◌++◌, length, map, reverse, Option, Some, None, if◌then◌else◌, refl, sym, ap, ap₂, ◌∙◌, subst, true≢false, append-nil, append_assoc, arith}
+use Rattle.std.specs.Prelude.{take, drop, is_some}
 use Rattle.std.specs.Option.{option_or}
 use Rattle.std.specs.List.{flat_map}
-use Rattle.std.proofs.lemmas.Grind.{flat_map-append, common_steps}
-use Rattle.std.proofs.lemmas.List.{map-append, reverse-reverse, get_or-replicate, get_or_past, length-replicate}
-use Rattle.std.proofs.lemmas.Bool.{cases_lt}
+use Rattle.std.proofs.lemmas.Grind.{common_steps}
+use Rattle.std.proofs.lemmas.List.{reverse-reverse}
 use Rattle.hir_core.specs.Runs.{Run, begin}
 use Rattle.hir_core.specs.RunsLaws.{forget}
 use Rattle.hir_core.specs.Program.{way}
-use Rattle.hir_core.specs.Pass.{run_of, first_of, some_run, Stop, stop_of, stops_of, was_visited, stop_gives, threads_give, stack_gives, begins, begins_unless, first_from, answer, best_of, Spent, Followed, AllLater, AllFrom}
+use Rattle.hir_core.specs.Pass.{run_of, first_of, some_run, Stop, stop_of, stops_of, stop_gives, threads_give, stack_gives, begins, begins_unless, first_from, answer, best_of, Spent, Followed, AllLater, AllFrom}
 use Rattle.hir_core.specs.declared.spot.Spot.{Spot}
 use Rattle.hir_core.specs.declared.closure.Thread.{Thread}
-use Rattle.hir_core.proofs.ListLemmas.{All-append, All-weaker}
+use Rattle.hir_core.proofs.ListLemmas.{All-weaker}
 use Rattle.hir_core.proofs.PassLemmas.{first_of_two}
 use Rattle.hir_core.proofs.TurnLemmas.{stops_of-push}
 
@@ -33,10 +32,6 @@ or_assoc None None z w = refl
 or_assoc None (Some y) z w = refl
 or_assoc (Some x) y z w = refl
 
-some_run-append : (xs ys : List Run) → some_run xs ≡ true → some_run (xs ++ ys) ≡ true
-some_run-append [] ys e = absurd (true≢false (sym e))
-some_run-append (x ∷ xs) ys e = refl
-
 -- What the loop over the threads of a place keeps true.
 pub record Rounds (text : List ℕ) (spots : List Spot) (at : ℕ) (goal : Option Run) (bits : List Bool) (kept threads : List Thread) : Type 0 where
   pub from : AllFrom text at (stops_of threads)
@@ -55,29 +50,6 @@ module _ (text : List ℕ) (spots : List Spot) (at : ℕ) (goal : Option Run) (b
 
   pub Rounds-at : (at ≤ t.at) × (t.at ≤ length text)
   Rounds-at = popped_from.0
-
-  -- a thread that goes on later is kept
-  pub Rounds-waits : (kept' : List Thread) → kept' ≡ kept ++ t ∷ [] → at < t.at → Rounds text spots at goal bits kept' rest
-  Rounds-waits kept' k waits = record {
-    from = popped_from.1;
-    later = subst (AllLater text at) (sym stops) (All-append (λ (x : Stop). (at < x.1.run.at) × (x.1.run.at ≤ length text)) (map stop_of kept) (stop_of t ∷ []) h.later ((waits, popped_from.0.1), tt));
-    spent =
-        (λ q v. elim (h.spent q v) [
-          | inl some ↦ inl (ap some_run gave ∙ some_run-append (threads_give text spots kept) (stop_gives text spots (stop_of t)) some)
-          | inr dead ↦ inr dead
-        ]);
-    finds =
-        ap (λ xs. first_of (xs ++ stack_gives text spots rest)) gave
-        ∙ ap first_of (append_assoc (threads_give text spots kept) (stop_gives text spots (stop_of t)) (stack_gives text spots rest)) ∙ popped_finds;
-  }
-    where
-      stops : map stop_of kept' ≡ map stop_of kept ++ stop_of t ∷ []
-      stops = ap (map stop_of) k ∙ map-append stop_of kept (t ∷ [])
-
-      gave : threads_give text spots kept' ≡ threads_give text spots kept ++ stop_gives text spots (stop_of t)
-      gave =
-          ap (flat_map (stop_gives text spots)) stops ∙ flat_map-append (stop_gives text spots) (map stop_of kept) (stop_of t ∷ [])
-          ∙ ap (λ xs. threads_give text spots kept ++ xs) (append-nil (stop_gives text spots (stop_of t)))
 
   -- a thread of this place is followed
   pub Rounds-followed : (bits' : List Bool) (kept' : List Thread) → AllLater text at (map stop_of kept')
@@ -121,21 +93,6 @@ module _ (text : List ℕ) (spots : List Spot) (at : ℕ) where
   Followed-then runs more (Some m) bits bits' old mid new h k =
       k ∙ first_then (threads_give text spots mid) (threads_give text spots old ++ runs) more h.1 ∙ ap first_of (append_assoc (threads_give text spots old) runs more)
 
-  -- after a match nothing more need be followed
-  pub Followed-found : (runs more : List Run) (m : Thread) (bits : List Bool) (old new : List Thread)
-      → Followed text spots at runs (Some m) bits old new → Followed text spots at (runs ++ more) (Some m) bits old new
-  Followed-found runs more m bits old new h =
-      sym (or_else_some (first_of (threads_give text spots new)) (first_of more) (forget (run_of m))) ∙ ap (λ r. option_or r (first_of more)) h
-      ∙ sym (first_of_two (threads_give text spots old ++ runs) more) ∙ ap first_of (append_assoc (threads_give text spots old) runs more)
-
-  -- where nothing was kept, every spot may be visited
-  pub Spent-unset : (n : ℕ) (found : Bool) → Spent text spots at (replicate n false) found
-  Spent-unset n found q v = absurd (true≢false (sym v ∙ unset))
-    where
-      unset : was_visited (replicate n false) q ≡ false
-      unset =
-          elim (cases_lt q n) [ inl less ↦ get_or-replicate n q false false less | inr more ↦ get_or_past (replicate n false) q false (omega (arith, length-replicate n false)) ]
-
   -- The answer stays from place to place
   pub answer-round : (groups : ℕ) → at ≤ length text → (runs kept : List Run) (best found : Option Thread)
       → option_or (first_of kept) (best_of found) ≡ first_of (runs ++ begins_unless text spots groups at (best_of best))
@@ -174,16 +131,6 @@ module _ (text : List ℕ) (spots : List Spot) (at groups : ℕ) where
       → Followed text spots at runs found bits old kept → Finds runs found kept
   finds_from runs None bits old kept e h = or_none _ ∙ h.1 ∙ ap (λ ts. first_of (threads_give text spots ts ++ runs)) e
   finds_from runs (Some m) bits old kept e h = h ∙ ap (λ ts. first_of (threads_give text spots ts ++ runs)) e
-
-  -- a match was found among the threads, or none may begin
-  pub finds-threads : (runs : List Run) (found best : Option Thread) (bits : List Bool) (old kept : List Thread) → old ≡ []
-      → (is_some found ≡ true) ⊎ (is_some best ≡ true)
-      → Followed text spots at runs found bits old kept → Finds (runs ++ begins_unless text spots groups at (best_of best)) found kept
-  finds-threads runs (Some m) best bits old kept e some h =
-      finds_from (runs ++ begins_unless text spots groups at (best_of best)) (Some m) bits old kept e
-      (Followed-found text spots at runs (begins_unless text spots groups at (best_of best)) m bits old kept h)
-  finds-threads runs None (Some b) bits old kept e some h = finds_from runs None bits old kept e h ∙ ap first_of (sym (append-nil runs))
-  finds-threads runs None None bits old kept e some h = elim some [ inl s ↦ absurd (true≢false (sym s)) | inr s ↦ absurd (true≢false (sym s)) ]
 
   -- one begins here
   pub finds-begins : (runs : List Run) (found0 found best : Option Thread) (bits bits' : List Bool) (old mid kept : List Thread) (start : Thread) → old ≡ []

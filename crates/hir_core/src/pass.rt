@@ -5,7 +5,7 @@ ghost use Rattle.std.specs.Option.{option_or};
 ghost use Rattle.hir_core.specs.Runs as runs;
 ghost use Rattle.hir_core.specs.Program.{ClosesFall, way};
 ghost use Rattle.sd_edge.specs.Steps.{TicksAtMost};
-ghost use Rattle.hir_core.specs.Pass.{stop_of, stops_of, some_run, threads_give, stack_gives, first_of, begins_unless, answer, first_from, best_of, Spent, Followed, AllLater, AllFrom, counted, CountsVisits};
+ghost use Rattle.hir_core.specs.Pass.{stop_gives, stop_of, stops_of, some_run, threads_give, stack_gives, first_of, begins_unless, answer, first_from, best_of, Spent, Followed, AllLater, AllFrom, counted, CountsVisits};
 
 use crate::closure::{Thread, follow};
 use crate::spot::Spot;
@@ -25,6 +25,36 @@ fn begin(alloc: Global, at: usize, groups: u32) -> Result<Thread, NoMemory>
         starts: Vec::new(alloc),
         groups: unset,
     })
+}
+
+/// Follows a thread that is at a place, or keeps it, if it goes on later. Refuses for want of memory alone.
+fn follow_or_keep<L: Ledger>(
+    alloc: Global,
+    spots: &[Spot],
+    text: &[u8],
+    at: usize,
+    thread: Thread,
+    visited: &mut [bool],
+    stack: &mut Vec<Thread>,
+    kept: &mut Vec<Thread>,
+    steps: &mut Steps<L>,
+) -> Result<Option<Thread>, NoMemory>
+    requires falls { ClosesFall spots.now }
+    requires room { length visited.old ≡ length spots.now }
+    requires at { at ≤ thread.at }
+    requires within { thread.at ≤ length text.now }
+    requires later { AllLater text.now at (map stop_of kept.old.items) }
+    requires spent { Spent text.now spots.now at visited.old (some_run (threads_give text.now spots.now kept.old.items)) }
+    ensures followed { IfOk result
+        (λ found. Followed text.now spots.now at (stop_gives text.now spots.now (stop_of thread)) found visited.new kept.old.items kept.new.items) }
+    ensures later { IfOk result (λ _. AllLater text.now at (map stop_of kept.new.items)) }
+    ensures ticks { IfOk result (λ _. CountsVisits L.noted spots.now visited.old visited.new steps.old steps.new) }
+{
+    if thread.at > at {
+        kept.push(thread)?;
+        return Ok(None);
+    }
+    follow(alloc, spots, text, thread, visited, stack, kept, steps)
 }
 
 /// Follows the threads of a stack that are at a place, up to the first match, which is given, and keeps those that go on
@@ -51,10 +81,8 @@ fn follow_all<L: Ledger>(
     ensures ticks { IfOk result (λ _. CountsVisits L.noted spots.now visited.old visited.new steps.old steps.new) }
 {
     while let Some(thread) = threads.pop() {
-        if thread.at > at {
-            kept.push(thread)?;
-        } else if let Some(found) = follow(
-            alloc, spots, text, thread, visited, stack, kept, steps,
+        if let Some(found) = follow_or_keep(
+            alloc, spots, text, at, thread, visited, stack, kept, steps,
         )? {
             return Ok(Some(found));
         }

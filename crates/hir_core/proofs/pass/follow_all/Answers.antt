@@ -1,7 +1,7 @@
-use Rattle.std.proofs.Common.{◌≡◌, [], map, Some, None, refl, subst, arith}
+use Rattle.std.proofs.Common.{◌≡◌, [], ◌++◌, refl, arith}
 use Rattle.std.proofs.lemmas.List.{nil_from_length}
-use Rattle.hir_core.specs.Pass.{some_run, stop_of, stop_gives, threads_give, Spent, Followed, AllLater}
-use Rattle.hir_core.proofs.RoundLemmas.{Rounds-at, Rounds-waits, Rounds-followed, Rounds-found, Rounds-end}
+use Rattle.hir_core.specs.Pass.{first_of, threads_give, stack_gives}
+use Rattle.hir_core.proofs.RoundLemmas.{Rounds-at, Rounds-followed, Rounds-found, Rounds-end}
 use Rattle.hir_core.proofs.VisitLemmas.{CountsVisits-none, CountsVisits-add}
 use Rattle.hir_core.proofs.pass.follow_all.Goals as goal
 
@@ -11,66 +11,39 @@ loop-thread-init g c = (
   CountsVisits-none g.L.Ledger.noted c.args.spots.now c.args.visited.now c.args.steps.now,
 )
 
-pub loop-thread-preserved-in-Continue-1 : goal.loop-thread-preserved-in-Continue-1
-loop-thread-preserved-in-Continue-1 g c = (
-  Rounds-waits _ _ _ _ _ c.loop-thread.kept.items c.pop.new.self.items c.loop-thread.threads.items c.in-Some.thread c.in-Some.ensures.items c.loop-thread.invariant.0
-      c.push.new.self.items c.in_ok-push.ensures.items c.if-thread-at.true,
-  c.loop-thread.invariant.1,
-)
+pub follow_or_keep-requires-clause-at : goal.follow_or_keep-requires-clause-at
+follow_or_keep-requires-clause-at g c =
+    (Rounds-at _ _ _ _ _ c.loop-thread.kept.items c.pop.new.self.items c.loop-thread.threads.items c.in-Some.thread c.in-Some.ensures.items c.loop-thread.invariant.0).0
 
-pub follow-requires-clause-at : goal.follow-requires-clause-at
-follow-requires-clause-at g c =
+pub follow_or_keep-requires-clause-within : goal.follow_or_keep-requires-clause-within
+follow_or_keep-requires-clause-within g c =
     (Rounds-at _ _ _ _ _ c.loop-thread.kept.items c.pop.new.self.items c.loop-thread.threads.items c.in-Some.thread c.in-Some.ensures.items c.loop-thread.invariant.0).1
-
-pub follow-requires-clause-later : goal.follow-requires-clause-later
-follow-requires-clause-later g c =
-    let within = Rounds-at _ _ _ _ _ c.loop-thread.kept.items c.pop.new.self.items c.loop-thread.threads.items c.in-Some.thread c.in-Some.ensures.items c.loop-thread.invariant.0 in
-    let here : c.args.at ≡ c.in-Some.thread.at = omega arith in
-    subst (λ i. AllLater c.args.text.now i (map stop_of c.loop-thread.kept.items)) here c.loop-thread.invariant.0.later
-
-pub follow-requires-clause-spent : goal.follow-requires-clause-spent
-follow-requires-clause-spent g c =
-    let within = Rounds-at _ _ _ _ _ c.loop-thread.kept.items c.pop.new.self.items c.loop-thread.threads.items c.in-Some.thread c.in-Some.ensures.items c.loop-thread.invariant.0 in
-    let here : c.args.at ≡ c.in-Some.thread.at = omega arith in
-    subst (λ i. Spent c.args.text.now c.args.spots.now i c.loop-thread.visited (some_run (threads_give c.args.text.now c.args.spots.now c.loop-thread.kept.items)))
-    here c.loop-thread.invariant.0.spent
 
 pub returns-in-Some-2-clause-followed : goal.returns-in-Some-2-clause-followed
 returns-in-Some-2-clause-followed g c =
-    let within = Rounds-at _ _ _ _ _ c.loop-thread.kept.items c.pop.new.self.items c.loop-thread.threads.items c.in-Some.thread c.in-Some.ensures.items c.loop-thread.invariant.0 in
-    let here : c.in-Some.thread.at ≡ c.args.at = omega arith in
-    let done = subst (λ i. Followed c.args.text.now c.args.spots.now i (stop_gives c.args.text.now c.args.spots.now (stop_of c.in-Some.thread)) (Some c.in-Some-2.found)
-    c.follow.new.visited c.loop-thread.kept.items c.follow.new.kept.items) here (rw c.in-Some-2.is at c.in_ok-found.ensures.followed) in
     Rounds-found _ _ _ _ _ c.loop-thread.kept.items c.pop.new.self.items c.loop-thread.threads.items c.in-Some.thread c.in-Some.ensures.items c.loop-thread.invariant.0
-    c.follow.new.visited c.follow.new.kept.items c.in-Some-2.found done
-
-pub returns-in-Some-2-clause-later : goal.returns-in-Some-2-clause-later
-returns-in-Some-2-clause-later g c =
-    let within = Rounds-at _ _ _ _ _ c.loop-thread.kept.items c.pop.new.self.items c.loop-thread.threads.items c.in-Some.thread c.in-Some.ensures.items c.loop-thread.invariant.0 in
-    let here : c.in-Some.thread.at ≡ c.args.at = omega arith in
-    subst (λ i. AllLater c.args.text.now i (map stop_of c.follow.new.kept.items)) here c.in_ok-found.ensures.later
+    c.follow_or_keep.new.visited c.follow_or_keep.new.kept.items c.in-Some-2.found (rw c.in-Some-2.is at c.in_ok-found.ensures.followed)
 
 pub returns-in-Some-2-clause-ticks : goal.returns-in-Some-2-clause-ticks
 returns-in-Some-2-clause-ticks g c =
-    CountsVisits-add g.L.Ledger.noted c.args.spots.now c.args.visited.now c.loop-thread.visited c.follow.new.visited c.args.steps.now c.loop-thread.steps c.follow.new.steps
-    c.loop-thread.invariant.1 c.in_ok-found.ensures.ticks
+    CountsVisits-add g.L.Ledger.noted c.args.spots.now c.args.visited.now c.loop-thread.visited c.follow_or_keep.new.visited c.args.steps.now c.loop-thread.steps
+    c.follow_or_keep.new.steps c.loop-thread.invariant.1 c.in_ok-found.ensures.ticks
 
 pub loop-thread-preserved : goal.loop-thread-preserved
-loop-thread-preserved g c =
-    let within = Rounds-at _ _ _ _ _ c.loop-thread.kept.items c.pop.new.self.items c.loop-thread.threads.items c.in-Some.thread c.in-Some.ensures.items c.loop-thread.invariant.0 in
-    let here : c.in-Some.thread.at ≡ c.args.at = omega arith in
-    let done = subst (λ i. Followed c.args.text.now c.args.spots.now i (stop_gives c.args.text.now c.args.spots.now (stop_of c.in-Some.thread)) None
-    c.follow.new.visited c.loop-thread.kept.items c.follow.new.kept.items) here (rw c.in_default-2.is at c.in_ok-found.ensures.followed) in (
-      Rounds-followed _ _ _ _ _ c.loop-thread.kept.items c.pop.new.self.items c.loop-thread.threads.items c.in-Some.thread c.in-Some.ensures.items c.loop-thread.invariant.0
-          c.follow.new.visited c.follow.new.kept.items (subst (λ i. AllLater c.args.text.now i (map stop_of c.follow.new.kept.items)) here c.in_ok-found.ensures.later) done,
-      CountsVisits-add g.L.Ledger.noted c.args.spots.now c.args.visited.now c.loop-thread.visited c.follow.new.visited c.args.steps.now c.loop-thread.steps c.follow.new.steps
-          c.loop-thread.invariant.1 c.in_ok-found.ensures.ticks,
-    )
+loop-thread-preserved g c = (
+  Rounds-followed _ _ _ _ _ c.loop-thread.kept.items c.pop.new.self.items c.loop-thread.threads.items c.in-Some.thread c.in-Some.ensures.items c.loop-thread.invariant.0
+      c.follow_or_keep.new.visited c.follow_or_keep.new.kept.items c.in_ok-found.ensures.later (rw c.in_default-2.is at c.in_ok-found.ensures.followed),
+  CountsVisits-add g.L.Ledger.noted c.args.spots.now c.args.visited.now c.loop-thread.visited c.follow_or_keep.new.visited c.args.steps.now c.loop-thread.steps
+      c.follow_or_keep.new.steps c.loop-thread.invariant.1 c.in_ok-found.ensures.ticks,
+)
 
 pub returns-clause-followed : goal.returns-clause-followed
 returns-clause-followed g c =
-    let empty : c.loop-thread.threads.items ≡ [] = nil_from_length _ (omega (arith, c.in_default.ensures.cases.0)) in
-    (c.loop-thread.invariant.0.spent, Rounds-end _ _ _ _ _ _ _ empty c.loop-thread.invariant.0)
+    let empty : c.loop-thread.threads.items ≡ [] = nil_from_length _ (omega (arith, c.in_default.ensures.cases.0)) in (
+      c.loop-thread.invariant.0.spent,
+      Rounds-end c.args.text.now c.args.spots.now c.args.at
+          (first_of (threads_give c.args.text.now c.args.spots.now c.args.kept.now.items ++ stack_gives c.args.text.now c.args.spots.now c.args.threads.now.items)) c.loop-thread.visited c.loop-thread.kept.items c.loop-thread.threads.items empty c.loop-thread.invariant.0,
+    )
 
 pub returns-clause-later : goal.returns-clause-later
 returns-clause-later g c = c.loop-thread.invariant.0.later
