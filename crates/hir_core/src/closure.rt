@@ -1,15 +1,13 @@
 //! The search of one place, which visits each spot once.
 
 ghost use Rattle.std.specs.Prelude.{◌≡◌, ℕ, ◌+◌, ◌^◌, ◌≤◌, ◌<◌, ◌++◌, false, length, map, IfOk, IfSome};
-ghost use Rattle.hir_core.specs.Runs as runs;
 ghost use Rattle.hir_core.specs.Program.{ClosesFall, closed, spot_at};
 ghost use Rattle.sd_edge.specs.Steps.{IsTicked};
 ghost use Rattle.hir_core.specs.Pass.{way_of, stop_of, stops_of, leads, taken, some_run, threads_give, Spent, Turned, Followed, AllLater, stop_gives, was_visited, is_counted, visit_ticks, CountsVisits};
 
 use crate::look::holds;
-use crate::side::byte_after;
+use crate::set_size::{byte_size, char_size};
 use crate::spot::Spot;
-use bstr::decode_utf8;
 use sd_edge::{Ledger, NoMemory, Steps};
 use std::alloc::Global;
 
@@ -24,45 +22,6 @@ pub struct Thread {
     pub starts: Vec<usize>,
     /// What the groups hold.
     pub groups: Vec<Option<(usize, usize)>>,
-}
-
-/// Whether a byte is a member of a set.
-fn has_byte(set: &[(u8, u8)], byte: u8) -> bool
-    ensures { result ≡ runs.in_set set.now byte }
-{
-    set.iter().any(|range| range.0 <= byte && byte <= range.1)
-}
-
-/// Whether a character is a member of a set.
-fn has_char(set: &[(char, char)], character: char) -> bool
-    ensures { result ≡ runs.in_set set.now character }
-{
-    set.iter()
-        .any(|range| range.0 <= character && character <= range.1)
-}
-
-/// How many bytes a member of a set of bytes takes at a place: one, if it stands there.
-#[tactic(auto, unfolding(crate::specs::Runs::byte_size))]
-fn byte_size(set: &[(u8, u8)], text: &[u8], at: usize) -> Option<usize>
-    ensures { result ≡ runs.byte_size set.now text.now at }
-{
-    match byte_after(text, at) {
-        Some(byte) if has_byte(set, byte) => Some(1),
-        _ => None,
-    }
-}
-
-/// How many bytes the UTF-8 of a member of a set of characters takes at a place, if it stands there.
-#[tactic(auto, unfolding(crate::specs::Runs::char_size))]
-fn char_size(set: &[(char, char)], text: &[u8], at: usize) -> Option<usize>
-    requires { at ≤ length text.now }
-    ensures { result ≡ runs.char_size set.now text.now at }
-{
-    let (character, size) = decode_utf8(&text[at..]);
-    match character {
-        Some(c) if has_char(set, c) => Some(size),
-        _ => None,
-    }
 }
 
 /// The same thread at another spot. Refuses for want of memory alone.
