@@ -1,3 +1,4 @@
+mod BuildLemmas
 mod CharRangesLemmas
 mod CharacterLemmas
 mod ClosureLemmas

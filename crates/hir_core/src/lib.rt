@@ -7,6 +7,7 @@
 //! functions here. [`Slots`] hold the groups of a match.
 #![tactic(auto)]
 
+mod build;
 mod byte_ranges;
 mod char_ranges;
 mod closure;
