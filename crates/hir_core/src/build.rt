@@ -1,7 +1,7 @@
 //! Building the core of a pattern's tree.
 
-ghost use Rattle.std.specs.Prelude.{◌≡◌, ◌∷◌, ◌-◌, Bool, IfOk, map};
-ghost use Rattle.hir_core.specs.Core.{at_least, byte_in, char_in, choice, choice_all, copies, literal, one_byte, optional, pair, pair_all, plus, repeat, up_to, with_more};
+ghost use Rattle.std.specs.Prelude.{◌≡◌, IfOk, map};
+ghost use Rattle.hir_core.specs.Core.{at_least, byte_in, char_in, choice, choice_all, copies, literal, one_byte, optional, pair, pair_all, plus, up_to, with_more};
 ghost use Rattle.hir_core.specs.CoreTree.{core_of_tree};
 ghost use Rattle.hir_core.specs.Cores.{core_of};
 
