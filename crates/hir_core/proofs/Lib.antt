@@ -16,12 +16,15 @@ mod ProgramLemmas
 mod PruningLemmas
 mod RangesLemmas
 mod RoundLemmas
+mod RowsLemmas
 mod RunsComputing
 mod RunsLemmas
 mod SameRangesLemmas
 mod SpotsLemmas
 mod StackLemmas
+mod StampsLemmas
 mod TicksLemmas
+mod TrailLemmas
 mod TurnLemmas
 mod VisitLemmas
 mod WalkLemmas

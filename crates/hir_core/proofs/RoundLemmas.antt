@@ -1,19 +1,17 @@
 -- The threads of a place, followed one after another.
-use Rattle.std.proofs.Common.{◌≡◌, ℕ, suc, ◌+◌, ◌-◌, ◌<◌, ◌≤◌, Bool, true, false, List, [], ◌∷◌, ◌++◌, length, map, reverse, Option, Some, None, if◌then◌else◌, refl, sym, ap, ap₂, ◌∙◌, subst, true≢false, append-nil, append_assoc, arith}
-use Rattle.std.specs.Prelude.{take, drop, is_some}
+use Rattle.std.proofs.Common.{◌≡◌, ℕ, zero, suc, ◌+◌, ◌-◌, ◌<◌, ◌≤◌, Bool, true, false, inl, inr, List, [], ◌∷◌, ◌++◌, length, map, Option, Some, None, refl, sym, ap, ◌∙◌, subst, true≢false, append-nil, append_assoc, add-one, arith}
+use Rattle.std.specs.Prelude.{drop, slice_get, is_some}
 use Rattle.std.specs.Option.{option_or}
 use Rattle.std.specs.List.{flat_map}
-use Rattle.std.proofs.lemmas.Grind.{common_steps}
-use Rattle.std.proofs.lemmas.List.{reverse-reverse}
+use Rattle.std.proofs.lemmas.Grind.{flat_map-append}
 use Rattle.hir_core.specs.Runs.{Run, begin}
 use Rattle.hir_core.specs.RunsLaws.{forget}
 use Rattle.hir_core.specs.Program.{way}
-use Rattle.hir_core.specs.Pass.{run_of, first_of, some_run, Stop, stop_of, stops_of, stop_gives, threads_give, stack_gives, begins, begins_unless, first_from, answer, best_of, Spent, Followed, AllLater, AllFrom}
+use Rattle.hir_core.specs.Trails.{Stop}
+use Rattle.hir_core.specs.Pass.{first_of, some_run, stop_gives, stops_give, begins, begins_unless, first_from, answer, Spent, Followed, AllLater, AllFrom}
 use Rattle.hir_core.specs.declared.spot.Spot.{Spot}
-use Rattle.hir_core.specs.declared.closure.Thread.{Thread}
 use Rattle.hir_core.proofs.ListLemmas.{All-weaker}
 use Rattle.hir_core.proofs.PassLemmas.{first_of_two}
-use Rattle.hir_core.proofs.TurnLemmas.{stops_of-push}
 
 -- what comes after doesn't matter to two lists of which the first runs are the same
 first_then : (xs ys zs : List Run) → first_of xs ≡ first_of ys → first_of (xs ++ zs) ≡ first_of (ys ++ zs)
@@ -33,72 +31,100 @@ or_assoc None (Some y) z w = refl
 or_assoc (Some x) y z w = refl
 
 -- What the loop over the threads of a place keeps true.
-pub record Rounds (text : List ℕ) (spots : List Spot) (at : ℕ) (goal : Option Run) (bits : List Bool) (kept threads : List Thread) : Type 0 where
-  pub from : AllFrom text at (stops_of threads)
-  pub later : AllLater text at (map stop_of kept)
-  pub spent : Spent text spots at bits (some_run (threads_give text spots kept))
-  pub finds : first_of (threads_give text spots kept ++ stack_gives text spots threads) ≡ goal
+pub record Rounds (text : List ℕ) (spots : List Spot) (at : ℕ) (goal : Option Run) (bits : List Bool) (kept threads : List Stop) : Type 0 where
+  pub from : AllFrom text at threads
+  pub later : AllLater text at kept
+  pub spent : Spent text spots at bits (some_run (stops_give text spots kept))
+  pub finds : first_of (stops_give text spots kept ++ stops_give text spots threads) ≡ goal
 
-module _ (text : List ℕ) (spots : List Spot) (at : ℕ) (goal : Option Run) (bits : List Bool) (kept rest threads : List Thread) (t : Thread)
-    (e : threads ≡ rest ++ t ∷ []) (h : Rounds text spots at goal bits kept threads) where
-  popped_from : AllFrom text at (stop_of t ∷ stops_of rest)
-  popped_from = subst (AllFrom text at) (ap stops_of e ∙ stops_of-push rest t) h.from
+module _ (text : List ℕ) (spots : List Spot) (at : ℕ) (goal : Option Run) (bits : List Bool) (kept rest threads : List Stop) (p : Stop)
+    (e : threads ≡ p ∷ rest) (h : Rounds text spots at goal bits kept threads) where
+  apart_from : AllFrom text at (p ∷ rest)
+  apart_from = subst (AllFrom text at) e h.from
 
-  popped_finds : first_of (threads_give text spots kept ++ (stop_gives text spots (stop_of t) ++ stack_gives text spots rest)) ≡ goal
-  popped_finds =
-      ap (λ ps. first_of (threads_give text spots kept ++ flat_map (stop_gives text spots) ps)) (sym (ap stops_of e ∙ stops_of-push rest t)) ∙ h.finds
+  apart_finds : first_of (stops_give text spots kept ++ (stop_gives text spots p ++ stops_give text spots rest)) ≡ goal
+  apart_finds = ap (λ ps. first_of (stops_give text spots kept ++ stops_give text spots ps)) (sym e) ∙ h.finds
 
-  pub Rounds-at : (at ≤ t.at) × (t.at ≤ length text)
-  Rounds-at = popped_from.0
+  pub Rounds-at : (at ≤ p.1.run.at) × (p.1.run.at ≤ length text)
+  Rounds-at = apart_from.0
 
   -- a thread of this place is followed
-  pub Rounds-followed : (bits' : List Bool) (kept' : List Thread) → AllLater text at (map stop_of kept')
-      → Followed text spots at (stop_gives text spots (stop_of t)) None bits' kept kept' → Rounds text spots at goal bits' kept' rest
+  pub Rounds-followed : (bits' : List Bool) (kept' : List Stop) → AllLater text at kept'
+      → Followed text spots at (stop_gives text spots p) None bits' kept kept' → Rounds text spots at goal bits' kept' rest
   Rounds-followed bits' kept' later followed = record {
-    from = popped_from.1;
+    from = apart_from.1;
     later = later;
     spent = followed.0;
     finds =
-        first_then (threads_give text spots kept') (threads_give text spots kept ++ stop_gives text spots (stop_of t)) (stack_gives text spots rest) followed.1
-        ∙ ap first_of (append_assoc (threads_give text spots kept) (stop_gives text spots (stop_of t)) (stack_gives text spots rest)) ∙ popped_finds;
+        first_then (stops_give text spots kept') (stops_give text spots kept ++ stop_gives text spots p) (stops_give text spots rest) followed.1
+        ∙ ap first_of (append_assoc (stops_give text spots kept) (stop_gives text spots p) (stops_give text spots rest)) ∙ apart_finds;
   }
 
   -- a thread of this place comes to a match
-  pub Rounds-found : (bits' : List Bool) (kept' : List Thread) (m : Thread)
-      → Followed text spots at (stop_gives text spots (stop_of t)) (Some m) bits' kept kept'
-      → option_or (first_of (threads_give text spots kept')) (Some (forget (run_of m))) ≡ goal
+  pub Rounds-found : (bits' : List Bool) (kept' : List Stop) (m : Run)
+      → Followed text spots at (stop_gives text spots p) (Some m) bits' kept kept'
+      → option_or (first_of (stops_give text spots kept')) (Some m) ≡ goal
   Rounds-found bits' kept' m followed =
-      sym (or_else_some (first_of (threads_give text spots kept')) (first_of (stack_gives text spots rest)) (forget (run_of m)))
-      ∙ ap (λ r. option_or r (first_of (stack_gives text spots rest))) followed
-      ∙ sym (first_of_two (threads_give text spots kept ++ stop_gives text spots (stop_of t)) (stack_gives text spots rest))
-      ∙ ap first_of (append_assoc (threads_give text spots kept) (stop_gives text spots (stop_of t)) (stack_gives text spots rest)) ∙ popped_finds
+      sym (or_else_some (first_of (stops_give text spots kept')) (first_of (stops_give text spots rest)) m)
+      ∙ ap (λ r. option_or r (first_of (stops_give text spots rest))) followed
+      ∙ sym (first_of_two (stops_give text spots kept ++ stop_gives text spots p) (stops_give text spots rest))
+      ∙ ap first_of (append_assoc (stops_give text spots kept) (stop_gives text spots p) (stops_give text spots rest)) ∙ apart_finds
 
 -- when no thread is left
-pub Rounds-end : (text : List ℕ) (spots : List Spot) (at : ℕ) (goal : Option Run) (bits : List Bool) (kept threads : List Thread) → threads ≡ []
-    → Rounds text spots at goal bits kept threads → first_of (threads_give text spots kept) ≡ goal
+pub Rounds-end : (text : List ℕ) (spots : List Spot) (at : ℕ) (goal : Option Run) (bits : List Bool) (kept threads : List Stop) → threads ≡ []
+    → Rounds text spots at goal bits kept threads → first_of (stops_give text spots kept) ≡ goal
 Rounds-end text spots at goal bits kept threads e h =
-    ap first_of (sym (append-nil (threads_give text spots kept))) ∙ ap (λ ts. first_of (threads_give text spots kept ++ stack_gives text spots ts)) (sym e) ∙ h.finds
+    ap first_of (sym (append-nil (stops_give text spots kept))) ∙ ap (λ ts. first_of (stops_give text spots kept ++ stops_give text spots ts)) (sym e) ∙ h.finds
+
+threads_at : {A : Type 0} (xs : List A) (i : ℕ) (x : A) → slice_get xs i ≡ Some x → drop i xs ≡ x ∷ drop (suc i) xs
+threads_at [] i x e = absurd (none_is x e)
+  where
+    none_is : {A : Type 0} (a : A) → None ≡ Some a → ⊥
+    none_is a e = cc
+threads_at (y ∷ ys) zero x e = ap (λ z. z ∷ ys) (some_is e)
+  where
+    some_is : {A : Type 0} {a b : A} → Some a ≡ Some b → a ≡ b
+    some_is e = cc
+threads_at (y ∷ ys) (suc i) x e = threads_at ys i x e
+
+-- the threads from one on
+pub threads_from : {A : Type 0} (xs : List A) (i : ℕ) (x : A) → slice_get xs i ≡ Some x → drop i xs ≡ x ∷ drop (i + 1) xs
+threads_from xs i x e = rw add-one (threads_at xs i x e)
 
 module _ (text : List ℕ) (spots : List Spot) (at : ℕ) where
+  -- a thread that goes on later is kept
+  pub Followed-kept : (bits : List Bool) (old : List Stop) (p : Stop) → Spent text spots at bits (some_run (stops_give text spots old))
+      → Followed text spots at (stop_gives text spots p) None bits old (old ++ p ∷ [])
+  Followed-kept bits old p spent =
+      let joined : stops_give text spots (old ++ p ∷ []) ≡ stops_give text spots old ++ stop_gives text spots p =
+      flat_map-append (stop_gives text spots) old (p ∷ []) ∙ ap (λ xs. stops_give text spots old ++ xs) (append-nil _) in (
+        (λ q k. elim (spent q k) [ inl some ↦ inl (ap some_run joined ∙ some_before (stops_give text spots old) _ some) | inr dead ↦ inr dead ]),
+        ap first_of joined,
+      )
+    where
+      some_before : (xs ys : List Run) → some_run xs ≡ true → some_run (xs ++ ys) ≡ true
+      some_before [] ys k = absurd (true≢false (sym k))
+      some_before (x ∷ xs) ys k = refl
+
   -- one after another
-  pub Followed-then : (runs more : List Run) (found : Option Thread) (bits bits' : List Bool) (old mid new : List Thread)
+  pub Followed-then : (runs more : List Run) (found : Option Run) (bits bits' : List Bool) (old mid new : List Stop)
       → Followed text spots at runs None bits old mid → Followed text spots at more found bits' mid new
       → Followed text spots at (runs ++ more) found bits' old new
   Followed-then runs more None bits bits' old mid new h k = (k.0, k.1 ∙ Followed_join (h.1))
     where
-      Followed_join : first_of (threads_give text spots mid) ≡ first_of (threads_give text spots old ++ runs)
-          → first_of (threads_give text spots mid ++ more) ≡ first_of (threads_give text spots old ++ (runs ++ more))
+      Followed_join : first_of (stops_give text spots mid) ≡ first_of (stops_give text spots old ++ runs)
+          → first_of (stops_give text spots mid ++ more) ≡ first_of (stops_give text spots old ++ (runs ++ more))
       Followed_join e =
-          first_then (threads_give text spots mid) (threads_give text spots old ++ runs) more e ∙ ap first_of (append_assoc (threads_give text spots old) runs more)
+          first_then (stops_give text spots mid) (stops_give text spots old ++ runs) more e ∙ ap first_of (append_assoc (stops_give text spots old) runs more)
   Followed-then runs more (Some m) bits bits' old mid new h k =
-      k ∙ first_then (threads_give text spots mid) (threads_give text spots old ++ runs) more h.1 ∙ ap first_of (append_assoc (threads_give text spots old) runs more)
+      k ∙ first_then (stops_give text spots mid) (stops_give text spots old ++ runs) more h.1 ∙ ap first_of (append_assoc (stops_give text spots old) runs more)
 
   -- The answer stays from place to place
-  pub answer-round : (groups : ℕ) → at ≤ length text → (runs kept : List Run) (best found : Option Thread)
-      → option_or (first_of kept) (best_of found) ≡ first_of (runs ++ begins_unless text spots groups at (best_of best))
-      → answer text spots groups (at + 1) kept (option_or (best_of found) (best_of best)) ≡ answer text spots groups at runs (best_of best)
+  pub answer-round : (groups : ℕ) → at ≤ length text → (runs kept : List Run) (best found : Option Run)
+      → option_or (first_of kept) found ≡ first_of (runs ++ begins_unless text spots groups at best)
+      → answer text spots groups (at + 1) kept (option_or found best) ≡ answer text spots groups at runs best
   answer-round groups within runs kept best found h =
-      parts kept (best_of found) (best_of best) h ∙ ap (λ n. option_or (first_of runs) (option_or (best_of best) (first_from text spots groups n at))) (sym places)
+      parts kept found best h ∙ ap (λ n. option_or (first_of runs) (option_or best (first_from text spots groups n at))) (sym places)
     where
       places : length text + 1 - at ≡ suc (length text + 1 - (at + 1))
       places = omega arith
@@ -118,68 +144,61 @@ or_none : (x : Option Run) → option_or x None ≡ x
 or_none None = refl
 or_none (Some x) = refl
 
--- a slice that was lent and given back
-pub lent_back : (n : ℕ) (xs ys : List Bool) → n ≡ length ys → length xs ≡ length ys → take n (xs ++ drop (length xs) ys) ≡ xs
-lent_back n xs ys e k = grind (arith, common_steps)
-
 module _ (text : List ℕ) (spots : List Spot) (at groups : ℕ) where
   -- what is found at a place
-  abbrev pub Finds : List Run → Option Thread → List Thread → Type 0
-  Finds runs found kept = option_or (first_of (threads_give text spots kept)) (best_of found) ≡ first_of runs
+  abbrev pub Finds : List Run → Option Run → List Stop → Type 0
+  Finds runs found kept = option_or (first_of (stops_give text spots kept)) found ≡ first_of runs
 
-  finds_from : (runs : List Run) (found : Option Thread) (bits : List Bool) (old kept : List Thread) → old ≡ []
+  finds_from : (runs : List Run) (found : Option Run) (bits : List Bool) (old kept : List Stop) → old ≡ []
       → Followed text spots at runs found bits old kept → Finds runs found kept
-  finds_from runs None bits old kept e h = or_none _ ∙ h.1 ∙ ap (λ ts. first_of (threads_give text spots ts ++ runs)) e
-  finds_from runs (Some m) bits old kept e h = h ∙ ap (λ ts. first_of (threads_give text spots ts ++ runs)) e
+  finds_from runs None bits old kept e h = or_none _ ∙ h.1 ∙ ap (λ ts. first_of (stops_give text spots ts ++ runs)) e
+  finds_from runs (Some m) bits old kept e h = h ∙ ap (λ ts. first_of (stops_give text spots ts ++ runs)) e
+
+  -- none begins here, since something was found
+  pub finds-found : (runs : List Run) (m : Run) (best : Option Run) (bits : List Bool) (old kept : List Stop) → old ≡ []
+      → Followed text spots at runs (Some m) bits old kept → Finds (runs ++ begins_unless text spots groups at best) (Some m) kept
+  finds-found runs m best bits old kept e h =
+      sym (or_else_some (first_of (stops_give text spots kept)) (first_of (begins_unless text spots groups at best)) m)
+      ∙ ap (λ r. option_or r (first_of (begins_unless text spots groups at best))) (finds_from runs (Some m) bits old kept e h)
+      ∙ sym (first_of_two runs (begins_unless text spots groups at best))
+
+  -- none begins here, since something was found before
+  pub finds-before : (runs : List Run) (best : Option Run) (bits : List Bool) (old kept : List Stop) → old ≡ [] → is_some best ≡ true
+      → Followed text spots at runs None bits old kept → Finds (runs ++ begins_unless text spots groups at best) None kept
+  finds-before runs None bits old kept e some h = absurd (true≢false (sym some))
+  finds-before runs (Some b) bits old kept e some h = finds_from runs None bits old kept e h ∙ ap first_of (sym (append-nil runs))
 
   -- one begins here
-  pub finds-begins : (runs : List Run) (found0 found best : Option Thread) (bits bits' : List Bool) (old mid kept : List Thread) (start : Thread) → old ≡ []
-      → is_some found0 ≡ false → is_some best ≡ false → stop_of start ≡ (0, way [] (begin at groups))
-      → Followed text spots at runs found0 bits old mid → Followed text spots start.at (stop_gives text spots (stop_of start)) found bits' mid kept
-      → Finds (runs ++ begins_unless text spots groups at (best_of best)) found kept
-  finds-begins runs (Some m) found best bits bits' old mid kept start e none_found none_best starts h k = absurd (true≢false none_found)
-  finds-begins runs None found (Some b) bits bits' old mid kept start e none_found none_best starts h k = absurd (true≢false none_best)
-  finds-begins runs None found None bits bits' old mid kept start e none_found none_best starts h k =
+  pub finds-begins : (runs : List Run) (found best : Option Run) (bits bits' : List Bool) (old mid kept : List Stop) (start : Stop) → old ≡ []
+      → is_some best ≡ false → start ≡ (0, way [] (begin at groups))
+      → Followed text spots at runs None bits old mid → Followed text spots start.1.run.at (stop_gives text spots start) found bits' mid kept
+      → Finds (runs ++ begins_unless text spots groups at best) found kept
+  finds-begins runs found (Some b) bits bits' old mid kept start e none_best starts h k = absurd (true≢false none_best)
+  finds-begins runs found None bits bits' old mid kept start e none_best starts h k =
       let here : Followed text spots at (begins text spots groups at) found bits' mid kept =
       subst (λ (p : Stop). Followed text spots p.1.run.at (stop_gives text spots p) found bits' mid kept) starts k in
       finds_from (runs ++ begins text spots groups at) found bits' old kept e
       (Followed-then text spots at runs (begins text spots groups at) found bits bits' old mid kept h here)
 
-  -- one that begins here may be followed
-  pub spent-begins : (runs : List Run) (found : Option Thread) (bits lent : List Bool) (old kept : List Thread) (start : Thread) → is_some found ≡ false
-      → stop_of start ≡ (0, way [] (begin at groups)) → lent ≡ bits → Followed text spots at runs found bits old kept
-      → Spent text spots start.at lent (some_run (threads_give text spots kept))
-  spent-begins runs (Some m) bits lent old kept start none_found starts same h = absurd (true≢false none_found)
-  spent-begins runs None bits lent old kept start none_found starts same h =
-      subst (λ bs. Spent text spots start.at bs (some_run (threads_give text spots kept))) (sym same)
-      (subst (λ i. Spent text spots i bits (some_run (threads_give text spots kept))) (ap (λ (p : Stop). p.1.run.at) (sym starts)) h.0)
-
--- the threads that were kept, as a stack
-pub stops_of-reverse : (kept : List Thread) → stops_of (reverse kept) ≡ map stop_of kept
-stops_of-reverse kept = ap (map stop_of) (reverse-reverse kept)
-
-pub AllFrom-kept : (text : List ℕ) (at : ℕ) (kept : List Thread) → AllLater text at (map stop_of kept) → AllFrom text (at + 1) (stops_of (reverse kept))
-AllFrom-kept text at kept h =
-    subst (AllFrom text (at + 1)) (sym (stops_of-reverse kept))
-    (All-weaker (λ (p : Stop). (at < p.1.run.at) × (p.1.run.at ≤ length text)) (λ (p : Stop). (at + 1 ≤ p.1.run.at) × (p.1.run.at ≤ length text)) (map stop_of kept) h
-    (λ p k. (omega (arith, k.0), k.1)))
-
-pub stack_gives-reverse : (text : List ℕ) (spots : List Spot) (kept : List Thread) → stack_gives text spots (reverse kept) ≡ threads_give text spots kept
-stack_gives-reverse text spots kept = ap (flat_map (stop_gives text spots)) (stops_of-reverse kept)
+-- what goes on after a place goes on from the next
+pub AllFrom-later : (text : List ℕ) (at : ℕ) (kept : List Stop) → AllLater text at kept → AllFrom text (at + 1) kept
+AllFrom-later text at kept h =
+    All-weaker (λ (p : Stop). (at < p.1.run.at) × (p.1.run.at ≤ length text)) (λ (p : Stop). (at + 1 ≤ p.1.run.at) × (p.1.run.at ≤ length text)) kept h
+    (λ p k. (omega (arith, k.0), k.1))
 
 module _ (text : List ℕ) (spots : List Spot) (at groups : ℕ) where
   -- the answer of a search that is over
-  pub answer-over : (threads : List Thread) (best : Option Thread) → threads ≡ [] → is_some best ≡ true
-      → answer text spots groups at (stack_gives text spots threads) (best_of best) ≡ best_of best
+  pub answer-over : (threads : List Stop) (best : Option Run) → threads ≡ [] → is_some best ≡ true
+      → answer text spots groups at (stops_give text spots threads) best ≡ best
   answer-over threads None e some = absurd (true≢false (sym some))
-  answer-over threads (Some b) e some = ap (λ ts. answer text spots groups at (stack_gives text spots ts) (best_of (Some b))) e
+  answer-over threads (Some b) e some = ap (λ ts. answer text spots groups at (stops_give text spots ts) (Some b)) e
 
   -- and after the end of the text
-  pub answer-end : (threads : List Thread) (best : Option Thread) → length text < at → AllFrom text at (stops_of threads)
-      → answer text spots groups at (stack_gives text spots threads) (best_of best) ≡ best_of best
+  pub answer-end : (threads : List Stop) (best : Option Run) → length text < at → AllFrom text at threads
+      → answer text spots groups at (stops_give text spots threads) best ≡ best
   answer-end threads best past from =
-      ap (λ ps. option_or (first_of (flat_map (stop_gives text spots) ps)) (option_or (best_of best) (first_from text spots groups (length text + 1 - at) at))) (gone (stops_of threads) from)
-      ∙ ap (λ n. option_or (best_of best) (first_from text spots groups n at)) places ∙ or_none (best_of best)
+      ap (λ ps. option_or (first_of (stops_give text spots ps)) (option_or best (first_from text spots groups (length text + 1 - at) at))) (gone threads from)
+      ∙ ap (λ n. option_or best (first_from text spots groups n at)) places ∙ or_none best
     where
       places : length text + 1 - at ≡ 0
       places = omega arith
@@ -187,15 +206,3 @@ module _ (text : List ℕ) (spots : List Spot) (at groups : ℕ) where
       gone : (ps : List Stop) → AllFrom text at ps → ps ≡ []
       gone [] h = refl
       gone (p ∷ ps) h = absurd (omega (arith, h.0.0, h.0.1))
-
-  -- after a round
-  pub answer-next : at ≤ length text → (old kept new : List Thread) (best found best' : Option Thread) → new ≡ reverse kept
-      → best' ≡ (if is_some found then found else best) → Finds text spots at groups (stack_gives text spots old ++ begins_unless text spots groups at (best_of best)) found kept
-      → answer text spots groups (at + 1) (stack_gives text spots new) (best_of best') ≡ answer text spots groups at (stack_gives text spots old) (best_of best)
-  answer-next within old kept new best found best' e k h =
-      ap₂ (λ (rs : List Run) (b : Option Run). answer text spots groups (at + 1) rs b) (ap (stack_gives text spots) e ∙ stack_gives-reverse text spots kept) (ap best_of k ∙ chosen found)
-      ∙ answer-round text spots at groups within (stack_gives text spots old) (threads_give text spots kept) best found h
-    where
-      chosen : (found : Option Thread) → best_of (if is_some found then found else best) ≡ option_or (best_of found) (best_of best)
-      chosen None = refl
-      chosen (Some m) = refl

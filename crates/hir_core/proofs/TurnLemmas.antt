@@ -5,16 +5,16 @@ use Rattle.std.specs.Option.{option_or}
 use Rattle.std.specs.List.{flat_map, sum_by, AllByRecursion}
 use Rattle.std.proofs.lemmas.Bool.{cases_lt, cases_eq, or_left, ne_eqb}
 use Rattle.std.proofs.lemmas.Grind.{flat_map-append}
-use Rattle.std.proofs.lemmas.List.{map-append, get_or_past, get_or-set_same, get_or-set_other, set-get_or, set_past, reverse-append}
+use Rattle.std.proofs.lemmas.List.{map-append, get_or_past, get_or-set_same, get_or-set_other, set-get_or, set_past, length-set}
 use Rattle.std.proofs.lemmas.List.Sums.{sum_by-set}
 use Rattle.hir_core.specs.Looks.{holds}
 use Rattle.hir_core.specs.Runs.{Run, moved, mark, is_seen, byte_size, char_size, as_list}
 use Rattle.hir_core.specs.RunsLaws.{forget}
 use Rattle.hir_core.specs.Program.{spot_at, is_unmarked, tie, Way, way, marked, closed, follow, gives, ClosesFall}
-use Rattle.hir_core.specs.Pass.{AllLater, run_of, first_of, some_run, Stop, stop_of, stops_of, taken, leads, leads_on, comes, keeps, was_visited, visiting, stop_gives, threads_give, Spent, TurnedTo}
+use Rattle.hir_core.specs.Trails.{Stop}
+use Rattle.hir_core.specs.Pass.{AllLater, first_of, some_run, taken, leads, leads_on, comes, keeps, was_visited, visiting, stop_gives, stops_give, Spent, TurnedTo}
 use Rattle.hir_core.specs.declared.spot.Spot.{Spot}
 use Rattle.hir_core.specs.declared.spot.Spot.TheVariants as spot
-use Rattle.hir_core.specs.declared.closure.Thread.{Thread}
 use Rattle.hir_core.proofs.ListLemmas.{All-append}
 use Rattle.hir_core.proofs.RunsLemmas.{TakesWithin, byte_size-within, char_size-within}
 use Rattle.hir_core.proofs.ProgramLemmas.{not_fail}
@@ -424,10 +424,6 @@ module _ (text : List ℕ) (spots : List Spot) where
   turn-falls falls bits bits' kept kept' rest stack' p room turned =
       rw (turned.2, turned.0) (turn_falls falls bits rest p.0 p.1 room (spot_at spots p.0) refl turned.3 (was_visited bits p.0) refl)
 
--- the stack with one more
-pub stops_of-push : (stack : List Thread) (t : Thread) → stops_of (stack ++ t ∷ []) ≡ stop_of t ∷ stops_of stack
-stops_of-push stack t = ap (map stop_of) (reverse-append stack (t ∷ []))
-
 -- what is kept at a turn goes on later
 module _ (text : List ℕ) where
   taken_later : (size : ℕ → Option ℕ) → TakesWithin text size → (f : ℕ) (w : Way) → AllLater text w.run.at (taken (size w.run.at) f w)
@@ -460,55 +456,62 @@ module _ (text : List ℕ) where
       (keeps_later (spot_at spots p.0) (was_visited bits p.0) p.1))
 
 -- what the loop over the stack keeps true
-abbrev pub Follows : List ℕ → List Spot → ℕ → Option Run → List Bool → List Thread → List Thread → Type 0
+abbrev pub Follows : List ℕ → List Spot → ℕ → Option Run → List Bool → List Stop → List Stop → Type 0
 Follows text spots at goal bits kept stack =
-    (falls : ClosesFall spots) × Closing text spots falls at goal bits (map stop_of kept) (stops_of stack) × AllLater text at (map stop_of kept)
+    (falls : ClosesFall spots) × Closing text spots falls at goal bits kept stack × AllLater text at kept
 
-module _ (text : List ℕ) (spots : List Spot) (at : ℕ) (goal : Option Run) (bits : List Bool) (kept rest stack : List Thread) (t : Thread) where
-  -- with the last thread of the stack apart
-  popped : stack ≡ rest ++ t ∷ [] → (h : Follows text spots at goal bits kept stack)
-      → Closing text spots h.0 at goal bits (map stop_of kept) (stop_of t ∷ stops_of rest)
-  popped e h =
-      subst (λ ps. Closing text spots h.0 at goal bits (map stop_of kept) ps) (ap stops_of e ∙ stops_of-push rest t) h.1
+module _ (text : List ℕ) (spots : List Spot) (at : ℕ) (goal : Option Run) (bits : List Bool) (kept rest stack : List Stop) (p : Stop)
+    (e : stack ≡ p ∷ rest) where
+  -- with the first of the stack apart
+  apart : (h : Follows text spots at goal bits kept stack) → Closing text spots h.0 at goal bits kept (p ∷ rest)
+  apart h = subst (λ ps. Closing text spots h.0 at goal bits kept ps) e h.1
 
-  pub Follows-at : stack ≡ rest ++ t ∷ [] → Follows text spots at goal bits kept stack → t.at ≡ at
-  Follows-at e h = Closing-at text spots h.0 at goal bits (map stop_of kept) (stops_of rest) (stop_of t) (popped e h)
+  pub Follows-at : Follows text spots at goal bits kept stack → p.1.run.at ≡ at
+  Follows-at h = Closing-at text spots h.0 at goal bits kept rest p (apart h)
 
-  pub Follows-match : stack ≡ rest ++ t ∷ [] → Follows text spots at goal bits kept stack → spot_at spots t.spot ≡ spot.Match
-      → option_or (first_of (threads_give text spots kept)) (Some (forget (run_of t))) ≡ goal
-  Follows-match e h k = Closing-match text spots h.0 at goal bits (map stop_of kept) (stops_of rest) (stop_of t) k (popped e h)
+  pub Follows-match : Follows text spots at goal bits kept stack → spot_at spots p.0 ≡ spot.Match
+      → option_or (first_of (stops_give text spots kept)) (Some (forget p.1.run)) ≡ goal
+  Follows-match h k = Closing-match text spots h.0 at goal bits kept rest p k (apart h)
 
-  pub Follows-turn : (bits' : List Bool) (kept' stack' : List Thread) → length bits ≡ length spots → stack ≡ rest ++ t ∷ []
-      → Follows text spots at goal bits kept stack
-      → TurnedTo text spots (stop_of t) bits bits' (stops_of rest) (stops_of stack') (map stop_of kept) (map stop_of kept')
-      → Follows text spots at goal bits' kept' stack'
-  Follows-turn bits' kept' stack' room e h turned = (
+  pub Follows-turn : (bits' : List Bool) (kept' stack' : List Stop) → length bits ≡ length spots → Follows text spots at goal bits kept stack
+      → TurnedTo text spots p bits bits' rest stack' kept kept' → Follows text spots at goal bits' kept' stack'
+  Follows-turn bits' kept' stack' room h turned = (
     h.0,
-    Closing-turn text spots h.0 at goal bits bits' (map stop_of kept) (map stop_of kept') (stops_of rest) (stops_of stack') (stop_of t) room (popped e h) turned,
-    subst (λ i. AllLater text i (map stop_of kept')) (Follows-at e h)
-        (turn-later text spots bits bits' (map stop_of kept) (map stop_of kept') (stops_of rest) (stops_of stack') (stop_of t) turned
-        (subst (λ i. AllLater text i (map stop_of kept)) (sym (Follows-at e h)) h.2)),
+    Closing-turn text spots h.0 at goal bits bits' kept kept' rest stack' p room (apart h) turned,
+    subst (λ i. AllLater text i kept') (Follows-at h)
+        (turn-later text spots bits bits' kept kept' rest stack' p turned (subst (λ i. AllLater text i kept) (sym (Follows-at h)) h.2)),
   )
 
-  pub Follows-falls : (bits' : List Bool) (kept' stack' : List Thread) → length bits ≡ length spots → stack ≡ rest ++ t ∷ [] → ClosesFall spots
-      → TurnedTo text spots (stop_of t) bits bits' (stops_of rest) (stops_of stack') (map stop_of kept) (map stop_of kept')
-      → turn_weight text spots bits' (stops_of stack') < turn_weight text spots bits (stops_of stack)
-  Follows-falls bits' kept' stack' room e falls turned =
-      let less = turn-falls text spots falls bits bits' (map stop_of kept) (map stop_of kept') (stops_of rest) (stops_of stack') (stop_of t) room turned in
-      subst (λ ps. turn_weight text spots bits' (stops_of stack') < turn_weight text spots bits ps) (sym (ap stops_of e ∙ stops_of-push rest t)) less
+  pub Follows-falls : (bits' : List Bool) (kept' stack' : List Stop) → length bits ≡ length spots → ClosesFall spots
+      → TurnedTo text spots p bits bits' rest stack' kept kept' → turn_weight text spots bits' stack' < turn_weight text spots bits stack
+  Follows-falls bits' kept' stack' room falls turned =
+      let less = turn-falls text spots falls bits bits' kept kept' rest stack' p room turned in
+      subst (λ ps. turn_weight text spots bits' stack' < turn_weight text spots bits ps) (sym e) less
 
-pub Follows-end : (text : List ℕ) (spots : List Spot) (at : ℕ) (goal : Option Run) (bits : List Bool) (kept stack : List Thread) → stack ≡ []
+pub Follows-end : (text : List ℕ) (spots : List Spot) (at : ℕ) (goal : Option Run) (bits : List Bool) (kept stack : List Stop) → stack ≡ []
     → Follows text spots at goal bits kept stack
-    → Spent text spots at bits (some_run (threads_give text spots kept)) × (first_of (threads_give text spots kept) ≡ goal)
+    → Spent text spots at bits (some_run (stops_give text spots kept)) × (first_of (stops_give text spots kept) ≡ goal)
 Follows-end text spots at goal bits kept stack e h =
-    Closing-end text spots h.0 at goal bits (map stop_of kept) (subst (λ ps. Closing text spots h.0 at goal bits (map stop_of kept) ps) (ap stops_of e) h.1)
+    Closing-end text spots h.0 at goal bits kept (subst (λ ps. Closing text spots h.0 at goal bits kept ps) e h.1)
 
-pub Follows-begin : (text : List ℕ) (spots : List Spot) (t : Thread) (bits : List Bool) (kept stack : List Thread) → ClosesFall spots → stack ≡ t ∷ []
-    → AllLater text t.at (map stop_of kept) → Spent text spots t.at bits (some_run (threads_give text spots kept))
-    → Follows text spots t.at (first_of (threads_give text spots kept ++ stop_gives text spots (stop_of t))) bits kept stack
-Follows-begin text spots t bits kept stack falls e later spent = (
+pub Follows-begin : (text : List ℕ) (spots : List Spot) (p : Stop) (bits : List Bool) (kept stack : List Stop) → ClosesFall spots → stack ≡ p ∷ []
+    → p.1.run.seen ≡ [] → AllLater text p.1.run.at kept → Spent text spots p.1.run.at bits (some_run (stops_give text spots kept))
+    → Follows text spots p.1.run.at (first_of (stops_give text spots kept ++ stop_gives text spots p)) bits kept stack
+Follows-begin text spots p bits kept stack falls e new later spent = (
   falls,
-  subst (λ ps. Closing text spots falls t.at (first_of (threads_give text spots kept ++ stop_gives text spots (stop_of t))) bits (map stop_of kept) ps) (sym (ap stops_of e))
-      (Closing-begin text spots falls t.at bits (map stop_of kept) (stop_of t) refl refl spent),
+  subst (λ ps. Closing text spots falls p.1.run.at (first_of (stops_give text spots kept ++ stop_gives text spots p)) bits kept ps) (sym e)
+      (Closing-begin text spots falls p.1.run.at bits kept p refl new spent),
   later,
 )
+
+-- a turn keeps how many bits there are
+pub length-visiting : (s : Spot) (q : ℕ) (bits : List Bool) → length (visiting s q bits) ≡ length bits
+length-visiting (spot.Close i f) q bits = refl
+length-visiting spot.Match q bits = refl
+length-visiting spot.Fail q bits = length-set bits q true
+length-visiting (spot.Bytes set f) q bits = length-set bits q true
+length-visiting (spot.Chars set f) q bits = length-set bits q true
+length-visiting (spot.Look l f) q bits = length-set bits q true
+length-visiting (spot.Jump f) q bits = length-set bits q true
+length-visiting (spot.Split a b) q bits = length-set bits q true
+length-visiting (spot.Open f) q bits = length-set bits q true

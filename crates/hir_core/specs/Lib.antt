@@ -9,10 +9,13 @@ pub mod Looks
 pub mod Pass
 pub mod Program
 pub mod Ranges
+pub mod Rows
 pub mod Runs
 pub mod RunsExamples
 pub mod RunsLaws
 pub mod Sides
 pub mod Sound
 pub mod Spots
+pub mod Stamps
 pub mod StackSearch
+pub mod Trails

@@ -1,5 +1,5 @@
 -- The pass of a search over a text: what its threads give, and what it answers.
-use Rattle.std.specs.Prelude.{◌≡◌, ℕ, zero, suc, ◌+◌, ◌-◌, ◌<◌, ◌≤◌, Bool, true, false, not, ◌&&◌, ◌⊎◌, List, [], ◌∷◌, ◌++◌, length, map, reverse, Option, Some, None, if◌then◌else◌, slice_index_or, slice_set, option_map}
+use Rattle.std.specs.Prelude.{◌≡◌, ℕ, zero, suc, ◌+◌, ◌-◌, ◌<◌, ◌≤◌, Bool, true, false, not, ◌&&◌, ◌⊎◌, List, [], ◌∷◌, ◌++◌, length, map, Option, Some, None, if◌then◌else◌, slice_index_or, slice_set, option_map}
 use Rattle.std.specs.Option.{option_or}
 use Rattle.std.specs.List.{flat_map, sum_by, AllByRecursion}
 use Rattle.sd_edge.specs.Steps.{IsTicked}
@@ -10,19 +10,14 @@ use Rattle.hir_core.specs.RunsLaws.{forget}
 use Rattle.hir_core.specs.Program.{spot_at, is_unmarked, Way, way, opened, closed, gives}
 use Rattle.hir_core.specs.declared.spot.Spot.{Spot}
 use Rattle.hir_core.specs.declared.spot.Spot.TheVariants as spot
-use Rattle.hir_core.specs.declared.closure.Thread.{Thread}
-
--- the way of a thread, which has seen nothing at its place
-abbrev pub way_of : Thread → Way
-way_of t = way t.starts.items (record { at = t.at; groups = t.groups.items; seen = [] })
+use Rattle.hir_core.specs.Trails.{Stop, way_of}
+use Rattle.hir_core.specs.declared.trail.Trail.{Trail}
+use Rattle.hir_core.specs.declared.pass.Found.{Found}
+use Rattle.hir_core.specs.declared.pass.Best.{Best}
 
 -- the way of one of which nothing is known but its place
 abbrev pub fresh : ℕ → Way
 fresh at = way [] (record { at = at; groups = []; seen = [] })
-
--- the run of a thread
-abbrev pub run_of : Thread → Run
-run_of t = (way_of t).run
 
 -- the first run, without what it saw
 abbrev pub first_of : List Run → Option Run
@@ -32,18 +27,6 @@ first_of runs = first (map forget runs)
 abbrev pub some_run : List Run → Bool
 some_run [] = false
 some_run (r ∷ runs) = true
-
--- a spot that is still to be tried, and the way to it
-abbrev pub Stop : Type 0
-Stop = ℕ × Way
-
--- where a thread stops
-abbrev pub stop_of : Thread → Stop
-stop_of t = (t.spot, way_of t)
-
--- where the threads of a stack stop, the last one first
-abbrev pub stops_of : List Thread → List Stop
-stops_of stack = map stop_of (reverse stack)
 
 -- where a spot leads without a byte, the preferred first
 abbrev pub leads : List ℕ → Spot → Way → List Stop
@@ -117,22 +100,27 @@ AllLater text at stops = AllByRecursion (λ (p : Stop). (at < p.1.run.at) × (p.
 abbrev pub AllFrom : List ℕ → ℕ → List Stop → Type 0
 AllFrom text at stops = AllByRecursion (λ (p : Stop). (at ≤ p.1.run.at) × (p.1.run.at ≤ length text)) stops
 
--- the run of the best match, if there is one
-abbrev pub best_of : Option Thread → Option Run
-best_of best = option_map (λ t. forget (run_of t)) best
+-- the run of a match that was found
+abbrev pub best_of : Option Found → Option Run
+best_of found = option_map (λ m. record { at = m.at; groups = m.groups.items; seen = [] }) found
+
+-- the run of the best match so far, if there is one
+abbrev pub best_in : Best → Option Run
+best_in best = option_map (λ at. record { at = at; groups = best.groups.items; seen = [] }) best.end
+
+-- the run of a trail, if it is a match
+abbrev pub match_of : Bool → Trail → Option Run
+match_of false trail = None
+match_of true trail = Some (way_of trail).run
 
 module _ (text : List ℕ) (spots : List Spot) where
   -- what a spot gives to the way to it
   abbrev pub stop_gives : Stop → List Run
   stop_gives p = gives text spots p.0 p.1
 
-  -- what threads give, in order
-  abbrev pub threads_give : List Thread → List Run
-  threads_give threads = flat_map stop_gives (map stop_of threads)
-
-  -- what the threads of a stack give, the last one first
-  abbrev pub stack_gives : List Thread → List Run
-  stack_gives stack = flat_map stop_gives (stops_of stack)
+  -- what stops give, in order
+  abbrev pub stops_give : List Stop → List Run
+  stops_give stops = flat_map stop_gives stops
 
   -- what the program gives to a run that begins at a place, with groups up to this index
   abbrev pub begins : ℕ → ℕ → List Run
@@ -159,11 +147,10 @@ module _ (text : List ℕ) (spots : List Spot) where
 
   -- What was to be followed at a place has been: what is kept gives the first run of what was kept and what was to be
   -- followed, or else it is the run of the match that was found.
-  abbrev pub Followed : ℕ → List Run → Option Thread → List Bool → List Thread → List Thread → Type 0
+  abbrev pub Followed : ℕ → List Run → Option Run → List Bool → List Stop → List Stop → Type 0
   Followed at runs None visited old new =
-      Spent at visited (some_run (threads_give new)) × (first_of (threads_give new) ≡ first_of (threads_give old ++ runs))
-  Followed at runs (Some m) visited old new =
-      option_or (first_of (threads_give new)) (Some (forget (run_of m))) ≡ first_of (threads_give old ++ runs)
+      Spent at visited (some_run (stops_give new)) × (first_of (stops_give new) ≡ first_of (stops_give old ++ runs))
+  Followed at runs (Some m) visited old new = option_or (first_of (stops_give new)) (Some m) ≡ first_of (stops_give old ++ runs)
 
   -- others come in the place of one, and some are kept
   abbrev pub TurnedTo : Stop → List Bool → List Bool → List Stop → List Stop → List Stop → List Stop → Type 0
@@ -175,8 +162,8 @@ module _ (text : List ℕ) (spots : List Spot) where
       × (visited' ≡ visiting s p.0 visited)
       × ((s ≡ spot.Match) → ⊥)
 
-  -- one turn of a thread: it is a match, or others come in its place
-  abbrev pub Turned : Thread → Option Thread → List Bool → List Bool → List Thread → List Thread → List Thread → List Thread → Type 0
-  Turned t None visited visited' stack stack' kept kept' =
-      TurnedTo (stop_of t) visited visited' (stops_of stack) (stops_of stack') (map stop_of kept) (map stop_of kept')
-  Turned t (Some m) visited visited' stack stack' kept kept' = (m ≡ t) × (spot_at spots t.spot ≡ spot.Match) × (kept' ≡ kept) × (visited' ≡ visited)
+  -- one turn of a thread, after which it has this way: it is a match, or others come in its place
+  abbrev pub Turned : Bool → Stop → Way → List Bool → List Bool → List Stop → List Stop → List Stop → List Stop → Type 0
+  Turned false p w visited visited' stack stack' kept kept' = TurnedTo p visited visited' stack stack' kept kept'
+  Turned true p w visited visited' stack stack' kept kept' =
+      (w ≡ p.1) × (spot_at spots p.0 ≡ spot.Match) × (kept' ≡ kept) × (visited' ≡ visited)

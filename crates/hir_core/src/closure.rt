@@ -1,113 +1,56 @@
 //! The search of one place, which visits each spot once.
 
-ghost use Rattle.std.specs.Prelude.{◌≡◌, ℕ, ◌+◌, ◌^◌, ◌≤◌, ◌<◌, ◌++◌, false, length, map, IfOk, IfSome};
-ghost use Rattle.hir_core.specs.Program.{ClosesFall, closed, spot_at};
+ghost use Rattle.std.specs.Prelude.{◌≡◌, ◌+◌, ◌^◌, ◌≤◌, ◌<◌, ◌++◌, false, length, IfOk, IfSome};
+ghost use Rattle.hir_core.specs.Program.{ClosesFall, spot_at};
+ghost use Rattle.hir_core.specs.Trails.{way_of, stops_of};
 ghost use Rattle.sd_edge.specs.Steps.{IsTicked};
-ghost use Rattle.hir_core.specs.Pass.{way_of, stop_of, stops_of, leads, taken, some_run, threads_give, Spent, Turned, Followed, AllLater, stop_gives, was_visited, is_counted, visit_ticks, CountsVisits};
+ghost use Rattle.hir_core.specs.Pass.{leads, taken, some_run, match_of, stops_give, Spent, Turned, Followed, AllLater, AllFrom, stop_gives, was_visited, visiting, is_counted, visit_ticks, CountsVisits};
 
+use crate::later::Later;
 use crate::look::holds;
 use crate::set_size::{byte_size, char_size};
 use crate::spot::Spot;
+use crate::trail::Trail;
+use crate::visited::Visited;
 use sd_edge::{Ledger, NoMemory, Steps};
 use std::alloc::Global;
 
-/// A thread of a search: the spot that it is to try, and the way that led there.
-#[derive(Drop)]
-pub struct Thread {
-    /// The spot that it is to try.
-    pub spot: usize,
-    /// The place of the text where it goes on.
-    pub at: usize,
-    /// Where the groups began that it is in, the innermost first.
-    pub starts: Vec<usize>,
-    /// What the groups hold.
-    pub groups: Vec<Option<(usize, usize)>>,
-}
-
-/// The same thread at another spot. Refuses for want of memory alone.
-fn copy_at(alloc: Global, thread: &Thread, spot: usize) -> Result<Thread, NoMemory>
-    ensures way { IfOk result (λ copy. way_of copy ≡ way_of thread.now) }
-    ensures spot { IfOk result (λ copy. copy.spot ≡ spot) }
-{
-    Ok(Thread {
-        spot,
-        at: thread.at,
-        starts: Vec::from_slice(alloc, thread.starts.as_slice())?,
-        groups: Vec::from_slice(alloc, thread.groups.as_slice())?,
-    })
-}
-
-/// Ends the innermost group.
-fn close(thread: &mut Thread, index: usize)
-    ensures way { way_of thread.new ≡ closed index (way_of thread.old) }
-    ensures spot { thread.new.spot ≡ thread.old.spot }
-{
-    let start = if thread.starts.is_empty() {
-        0
-    } else {
-        thread.starts.remove(0)
-    };
-    if index < thread.groups.len() {
-        let group = &mut thread.groups[index];
-        *group = Some((start, thread.at));
-    }
-}
-
-/// Puts what a spot leads to without a byte onto the stack. Refuses for want of memory alone.
-fn lead(
-    alloc: Global,
-    spot: &Spot,
-    text: &[u8],
-    thread: Thread,
-    stack: &mut Vec<Thread>,
-) -> Result<(), NoMemory>
-    requires { thread.at ≤ length text.now }
+/// Puts what a spot leads to without a byte before the alternatives. Refuses for want of memory alone.
+fn lead(spot: &Spot, text: &[u8], trail: &mut Trail) -> Result<(), NoMemory>
+    requires { trail.old.at ≤ length text.now }
     ensures { IfOk result
-        (λ _. stops_of stack.new.items ≡ leads text.now spot.now (way_of thread) ++ stops_of stack.old.items) }
+        (λ _. stops_of trail.new ≡ leads text.now spot.now (way_of trail.old) ++ stops_of trail.old) }
 {
-    let mut thread = thread;
     match spot {
         Spot::Look { look, next } => {
-            if !holds(*look, text, thread.at) {
-                return Ok(());
+            if holds(*look, text, trail.at) {
+                trail.push(*next)?;
             }
-            thread.spot = *next;
         }
-        Spot::Jump { next } => thread.spot = *next,
+        Spot::Jump { next } => trail.push(*next)?,
         Spot::Split { first, second } => {
-            let other = copy_at(alloc, &thread, *second)?;
-            stack.push(other)?;
-            thread.spot = *first;
+            trail.push(*second)?;
+            trail.push(*first)?;
         }
         Spot::Open { next } => {
-            thread.starts.insert(0, thread.at)?;
-            thread.spot = *next;
+            trail.open()?;
+            trail.push(*next)?;
         }
-        _ => return Ok(()),
+        _ => {}
     }
-    stack.push(thread)?;
     Ok(())
 }
 
-/// Keeps a thread that goes on by so many bytes to another spot, if there are any. Refuses for want of memory alone.
-fn keep(
-    size: Option<usize>,
-    next: usize,
-    thread: Thread,
-    kept: &mut Vec<Thread>,
-) -> Result<(), NoMemory>
-    requires { IfSome size (λ bytes. thread.at + bytes < 2 ^ 64) }
-    ensures { IfOk result
-        (λ _. map stop_of kept.new.items ≡ map stop_of kept.old.items ++ taken size next (way_of thread)) }
+/// Keeps the thread of a trail, which goes on by so many bytes to another spot, if there are any. Refuses for want of memory
+/// alone.
+fn keep(size: Option<usize>, next: usize, trail: &Trail, later: &mut Later) -> Result<(), NoMemory>
+    requires { IfSome size (λ bytes. trail.now.at + bytes < 2 ^ 64) }
+    ensures { IfOk result (λ _. later.new ≡ later.old ++ taken size next (way_of trail.now)) }
 {
     let Some(bytes) = size else {
         return Ok(());
     };
-    let mut thread = thread;
-    thread.spot = next;
-    thread.at += bytes;
-    kept.push(thread)?;
-    Ok(())
+    later.push(next, trail.at + bytes, trail)
 }
 
 /// Whether a visit of a spot is counted.
@@ -129,83 +72,159 @@ fn count<L: Ledger>(spot: &Spot, steps: &mut Steps<L>)
     }
 }
 
-/// Follows a thread to the spots that its own leads to at its place. Refuses for want of memory alone.
-fn turn<L: Ledger>(
-    alloc: Global,
-    spots: &[Spot],
-    text: &[u8],
-    thread: Thread,
-    visited: &mut [bool],
-    stack: &mut Vec<Thread>,
-    kept: &mut Vec<Thread>,
-    steps: &mut Steps<L>,
-) -> Result<Option<Thread>, NoMemory>
-    requires room { length visited.old ≡ length spots.now }
-    requires at { thread.at ≤ length text.now }
-    ensures turned { IfOk result (λ found. Turned text.now spots.now thread found visited.old visited.new
-        stack.old.items stack.new.items kept.old.items kept.new.items) }
-    ensures ticks { IfOk result
-        (λ _. IsTicked L.noted (visit_ticks (spot_at spots.now thread.spot) (was_visited visited.old thread.spot)) steps.old steps.new) }
-{
-    let Some(spot) = spots.get(thread.spot) else {
-        return Ok(None);
-    };
-    if let Spot::Match = spot {
-        return Ok(Some(thread));
-    }
-    let mut thread = thread;
-    if let Spot::Close { index, next } = spot {
-        close(&mut thread, *index);
-        thread.spot = *next;
-        stack.push(thread)?;
-        return Ok(None);
-    }
-    if visited[thread.spot] {
-        return Ok(None);
-    }
-    visited[thread.spot] = true;
-    count(spot, steps);
-    match spot {
-        Spot::Bytes { set, next } => {
-            let size = byte_size(set, text, thread.at);
-            keep(size, *next, thread, kept)?;
-        }
-        Spot::Chars { set, next } => {
-            let size = char_size(set, text, thread.at);
-            keep(size, *next, thread, kept)?;
-        }
-        _ => lead(alloc, spot, text, thread, stack)?,
-    }
-    Ok(None)
+/// The search of a place: the thread that is followed, the spots that were visited, and the threads that go on later.
+#[derive(Drop)]
+pub struct Closure {
+    /// The thread that is followed, and the alternatives at its place.
+    pub trail: Trail,
+    /// Which spots were visited at this place.
+    pub visited: Visited,
+    /// The threads that go on later, in order.
+    pub later: Later,
 }
 
-/// Follows a thread until what it leads to takes bytes, or is a match, which is given. Refuses for want of memory alone.
-pub fn follow<L: Ledger>(
-    alloc: Global,
-    spots: &[Spot],
-    text: &[u8],
-    thread: Thread,
-    visited: &mut [bool],
-    stack: &mut Vec<Thread>,
-    kept: &mut Vec<Thread>,
-    steps: &mut Steps<L>,
-) -> Result<Option<Thread>, NoMemory>
-    requires falls { ClosesFall spots.now }
-    requires room { length visited.old ≡ length spots.now }
-    requires at { thread.at ≤ length text.now }
-    requires later { AllLater text.now thread.at (map stop_of kept.old.items) }
-    requires spent { Spent text.now spots.now thread.at visited.old (some_run (threads_give text.now spots.now kept.old.items)) }
-    ensures followed { IfOk result
-        (λ found. Followed text.now spots.now thread.at (stop_gives text.now spots.now (stop_of thread)) found visited.new kept.old.items kept.new.items) }
-    ensures later { IfOk result (λ _. AllLater text.now thread.at (map stop_of kept.new.items)) }
-    ensures ticks { IfOk result (λ _. CountsVisits L.noted spots.now visited.old visited.new steps.old steps.new) }
-{
-    stack.clear();
-    stack.push(thread)?;
-    while let Some(next) = stack.pop() {
-        if let Some(found) = turn(alloc, spots, text, next, visited, stack, kept, steps)? {
-            return Ok(Some(found));
+impl Closure {
+    /// A search with empty lists.
+    pub fn new(alloc: Global) -> Closure {
+        Closure {
+            trail: Trail::new(alloc),
+            visited: Visited::new(alloc),
+            later: Later::new(alloc),
         }
     }
-    Ok(None)
+
+    /// Follows the thread to the spots that this one leads to at its place, and says whether it is a match. Refuses for want
+    /// of memory alone.
+    fn turn<L: Ledger>(
+        &mut self,
+        spots: &[Spot],
+        text: &[u8],
+        spot: usize,
+        steps: &mut Steps<L>,
+    ) -> Result<bool, NoMemory>
+        requires room { length self.old.visited ≡ length spots.now }
+        requires at { self.old.trail.at ≤ length text.now }
+        ensures turned { IfOk result (λ found. Turned text.now spots.now found (spot, way_of self.old.trail) (way_of self.new.trail)
+            self.old.visited self.new.visited (stops_of self.old.trail) (stops_of self.new.trail) self.old.later self.new.later) }
+        ensures visited { self.new.visited ≡ visiting (spot_at spots.now spot) spot self.old.visited }
+        ensures ticks { IsTicked L.noted (visit_ticks (spot_at spots.now spot) (was_visited self.old.visited spot)) steps.old steps.new }
+    {
+        let Some(here) = spots.get(spot) else {
+            return Ok(false);
+        };
+        if let Spot::Match = here {
+            return Ok(true);
+        }
+        if let Spot::Close { index, next } = here {
+            self.trail.close(*index)?;
+            self.trail.push(*next)?;
+            return Ok(false);
+        }
+        if self.visited.has(spot) {
+            return Ok(false);
+        }
+        self.visited.add(spot);
+        count(here, steps);
+        let at = self.trail.at;
+        match here {
+            Spot::Bytes { set, next } => {
+                let size = byte_size(set, text, at);
+                keep(size, *next, &self.trail, &mut self.later)?;
+            }
+            Spot::Chars { set, next } => {
+                let size = char_size(set, text, at);
+                keep(size, *next, &self.trail, &mut self.later)?;
+            }
+            _ => lead(here, text, &mut self.trail)?,
+        }
+        Ok(false)
+    }
+
+    /// Follows the thread from a spot until what it leads to takes bytes, or is a match, and says whether it is one: the
+    /// trail then holds it. Refuses for want of memory alone.
+    pub fn follow<L: Ledger>(
+        &mut self,
+        spots: &[Spot],
+        text: &[u8],
+        spot: usize,
+        steps: &mut Steps<L>,
+    ) -> Result<bool, NoMemory>
+        requires falls { ClosesFall spots.now }
+        requires room { length self.old.visited ≡ length spots.now }
+        requires at { self.old.trail.at ≤ length text.now }
+        requires later { AllLater text.now self.old.trail.at self.old.later }
+        requires spent { Spent text.now spots.now self.old.trail.at self.old.visited (some_run (stops_give text.now spots.now self.old.later)) }
+        ensures followed { IfOk result (λ found. Followed text.now spots.now self.old.trail.at (stop_gives text.now spots.now (spot, way_of self.old.trail))
+            (match_of found self.new.trail) self.new.visited self.old.later self.new.later) }
+        ensures later { IfOk result (λ _. AllLater text.now self.old.trail.at self.new.later) }
+        ensures room { length self.new.visited ≡ length self.old.visited }
+        ensures ticks { CountsVisits L.noted spots.now self.old.visited self.new.visited steps.old steps.new }
+    {
+        self.trail.start(spot)?;
+        while let Some(next) = self.trail.next()? {
+            if self.turn(spots, text, next, steps)? {
+                return Ok(true);
+            }
+        }
+        Ok(false)
+    }
+
+    /// Follows the thread that was taken up, if it is at a place, or keeps it, if it goes on later, and says whether it comes
+    /// to a match. Refuses for want of memory alone.
+    fn follow_or_keep<L: Ledger>(
+        &mut self,
+        spots: &[Spot],
+        text: &[u8],
+        at: usize,
+        spot: usize,
+        steps: &mut Steps<L>,
+    ) -> Result<bool, NoMemory>
+        requires falls { ClosesFall spots.now }
+        requires room { length self.old.visited ≡ length spots.now }
+        requires at { at ≤ self.old.trail.at }
+        requires within { self.old.trail.at ≤ length text.now }
+        requires later { AllLater text.now at self.old.later }
+        requires spent { Spent text.now spots.now at self.old.visited (some_run (stops_give text.now spots.now self.old.later)) }
+        ensures followed { IfOk result (λ found. Followed text.now spots.now at (stop_gives text.now spots.now (spot, way_of self.old.trail))
+            (match_of found self.new.trail) self.new.visited self.old.later self.new.later) }
+        ensures later { IfOk result (λ _. AllLater text.now at self.new.later) }
+        ensures room { length self.new.visited ≡ length self.old.visited }
+        ensures ticks { CountsVisits L.noted spots.now self.old.visited self.new.visited steps.old steps.new }
+    {
+        if self.trail.at > at {
+            self.later.push(spot, self.trail.at, &self.trail)?;
+            return Ok(false);
+        }
+        self.follow(spots, text, spot, steps)
+    }
+
+    /// Follows the threads that are at a place, up to the first match, and keeps those that go on later. Says whether there
+    /// is a match: the trail then holds it. Refuses for want of memory alone.
+    pub fn follow_all<L: Ledger>(
+        &mut self,
+        spots: &[Spot],
+        text: &[u8],
+        at: usize,
+        threads: &Later,
+        steps: &mut Steps<L>,
+    ) -> Result<bool, NoMemory>
+        requires falls { ClosesFall spots.now }
+        requires room { length self.old.visited ≡ length spots.now }
+        requires from { AllFrom text.now at threads.now }
+        requires later { AllLater text.now at self.old.later }
+        requires spent { Spent text.now spots.now at self.old.visited (some_run (stops_give text.now spots.now self.old.later)) }
+        ensures followed { IfOk result (λ found. Followed text.now spots.now at (stops_give text.now spots.now threads.now)
+            (match_of found self.new.trail) self.new.visited self.old.later self.new.later) }
+        ensures later { IfOk result (λ _. AllLater text.now at self.new.later) }
+        ensures room { length self.new.visited ≡ length self.old.visited }
+        ensures ticks { CountsVisits L.noted spots.now self.old.visited self.new.visited steps.old steps.new }
+    {
+        for i in 0..threads.len() {
+            let spot = threads.load(i, &mut self.trail)?;
+            if self.follow_or_keep(spots, text, at, spot, steps)? {
+                return Ok(true);
+            }
+        }
+        Ok(false)
+    }
 }

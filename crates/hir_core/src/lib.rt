@@ -19,6 +19,7 @@ mod examples;
 mod hir;
 #[cfg(test)]
 mod hir_tests;
+mod later;
 mod laws;
 #[cfg(test)]
 mod list_tests;
@@ -37,6 +38,8 @@ mod spot;
 mod stack_search;
 #[cfg(test)]
 mod tests;
+mod trail;
+mod visited;
 
 pub use byte_ranges::ByteRanges;
 pub use char_ranges::CharRanges;

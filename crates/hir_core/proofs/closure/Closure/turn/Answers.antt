@@ -1,7 +1,7 @@
 use Rattle.std.proofs.Common.{◌≡◌, ℕ, ◌+◌, ◌^◌, ◌<◌, List, length, Option, Some, None, IfSome, sym, arith, rules}
 use Rattle.hir_core.specs.Runs.{byte_size, char_size}
 use Rattle.hir_core.proofs.RunsLemmas.{TakesWithin, byte_size-within, char_size-within}
-use Rattle.hir_core.proofs.closure.turn.Goals as goal
+use Rattle.hir_core.proofs.closure.Closure.turn.Goals as goal
 
 fits : (text : List ℕ) (size : ℕ → Option ℕ) → TakesWithin text size → (at : ℕ) → length text < 2 ^ 63 → (o : Option ℕ) → o ≡ size at
     → IfSome o (λ bytes. at + bytes < 2 ^ 64)
@@ -10,8 +10,10 @@ fits text size within at short (Some k) e = let h = (within at k (sym e)).1 in o
 
 pub keep-requires : goal.keep-requires
 keep-requires g c =
-    fits c.args.text.now (byte_size c.deref.result.now c.args.text.now) (byte_size-within c.deref.result.now c.args.text.now) c.args.thread.at (omega arith) _ c.byte_size-size.ensures
+    fits c.args.text.now (byte_size c.deref.result.now c.args.text.now) (byte_size-within c.deref.result.now c.args.text.now) c.args.self.now.trail.at (omega arith) _
+    c.byte_size-size.ensures
 
 pub keep-requires-in-Chars : goal.keep-requires-in-Chars
 keep-requires-in-Chars g c =
-    fits c.args.text.now (char_size c.deref-in-Chars.result.now c.args.text.now) (char_size-within c.deref-in-Chars.result.now c.args.text.now) c.args.thread.at (omega arith) _ c.char_size-size.ensures
+    fits c.args.text.now (char_size c.deref-in-Chars.result.now c.args.text.now) (char_size-within c.deref-in-Chars.result.now c.args.text.now) c.args.self.now.trail.at
+    (omega arith) _ c.char_size-size.ensures

@@ -1,0 +1,158 @@
+//! The thread of a search that is followed, and what else is to be tried at its place.
+
+ghost use Rattle.std.specs.Prelude.{◌≡◌, ℕ, ◌∷◌, [], IfOk, None, slice_index_or, slice_set};
+ghost use Rattle.hir_core.specs.Program.{opened, closed, way};
+ghost use Rattle.hir_core.specs.Runs as runs;
+ghost use Rattle.hir_core.specs.Trails.{way_of, stops_of, undone, ComesBack};
+
+use sd_edge::NoMemory;
+use std::alloc::Global;
+
+/// What is done when a search comes back to an alternative.
+#[derive(Drop)]
+pub enum Frame {
+    /// This spot is tried.
+    Try(usize),
+    /// The start of the innermost group is taken off again.
+    Begun,
+    /// What a group held is put back, and its start, if it had one.
+    Ended {
+        index: usize,
+        start: Option<usize>,
+        before: Option<(usize, usize)>,
+    },
+}
+
+/// The captures of the thread that is followed, and the alternatives at its place, which share them.
+#[derive(Drop)]
+pub struct Trail {
+    /// The place of the text.
+    pub at: usize,
+    /// Where the groups began that the thread is in, the innermost last.
+    pub starts: Vec<usize>,
+    /// What the groups hold.
+    pub groups: Vec<Option<(usize, usize)>>,
+    /// The alternatives, the first to be tried last, and between them what is undone on the way back to them.
+    pub frames: Vec<Frame>,
+}
+
+/// What a group holds, unset where there is none of this index.
+fn group(groups: &[Option<(usize, usize)>], index: usize) -> Option<(usize, usize)>
+    ensures { result ≡ slice_index_or groups.now index None }
+{
+    *groups.get(index)?
+}
+
+/// Sets a group, if there is one of this index.
+fn set_group(groups: &mut Vec<Option<(usize, usize)>>, index: usize, group: Option<(usize, usize)>)
+    ensures { groups.new.items ≡ slice_set groups.old.items index group }
+{
+    if let Some(slot) = groups.get_mut(index) {
+        *slot = group;
+    }
+}
+
+impl Trail {
+    /// A trail with empty lists.
+    pub fn new(alloc: Global) -> Trail {
+        Trail {
+            at: 0,
+            starts: Vec::new(alloc),
+            groups: Vec::new(alloc),
+            frames: Vec::new(alloc),
+        }
+    }
+
+    /// A thread begins at a place, with groups up to this index. Refuses for want of memory alone.
+    pub fn begin(&mut self, at: usize, groups: u32) -> Result<(), NoMemory>
+        ensures { IfOk result (λ _. way_of self.new ≡ way [] (runs.begin at groups)) }
+    {
+        self.at = at;
+        self.starts.clear();
+        self.groups.clear();
+        self.groups.resize(groups as usize + 1, None)?;
+        Ok(())
+    }
+
+    /// Drops the alternatives, so that this spot alone is to be tried. Refuses for want of memory alone.
+    pub fn start(&mut self, spot: usize) -> Result<(), NoMemory>
+        ensures way { way_of self.new ≡ way_of self.old }
+        ensures stops { IfOk result (λ _. stops_of self.new ≡ (spot, way_of self.old) ∷ []) }
+    {
+        self.frames.clear();
+        self.frames.push(Frame::Try(spot))?;
+        Ok(())
+    }
+
+    /// A spot is to be tried before the alternatives. Refuses for want of memory alone.
+    pub fn push(&mut self, spot: usize) -> Result<(), NoMemory>
+        ensures way { way_of self.new ≡ way_of self.old }
+        ensures stops { IfOk result (λ _. stops_of self.new ≡ (spot, way_of self.old) ∷ stops_of self.old) }
+    {
+        self.frames.push(Frame::Try(spot))?;
+        Ok(())
+    }
+
+    /// Begins a group. Refuses for want of memory alone.
+    pub fn open(&mut self) -> Result<(), NoMemory>
+        ensures way { IfOk result (λ _. way_of self.new ≡ opened (way_of self.old)) }
+        ensures stops { IfOk result (λ _. stops_of self.new ≡ stops_of self.old) }
+    {
+        self.starts.push(self.at)?;
+        self.frames.push(Frame::Begun)?;
+        Ok(())
+    }
+
+    /// Ends the innermost group. Refuses for want of memory alone.
+    pub fn close(&mut self, index: usize) -> Result<(), NoMemory>
+        ensures way { IfOk result (λ _. way_of self.new ≡ closed index (way_of self.old)) }
+        ensures stops { IfOk result (λ _. stops_of self.new ≡ stops_of self.old) }
+    {
+        let start = self.starts.pop();
+        let before = group(self.groups.as_slice(), index);
+        set_group(&mut self.groups, index, Some((start.unwrap_or(0), self.at)));
+        self.frames.push(Frame::Ended {
+            index,
+            start,
+            before,
+        })?;
+        Ok(())
+    }
+
+    /// Undoes what a frame says. Refuses for want of memory alone.
+    fn undo(&mut self, frame: Frame) -> Result<(), NoMemory>
+        ensures way { IfOk result (λ _. way_of self.new ≡ undone frame (way_of self.old)) }
+        ensures frames { IfOk result (λ _. self.new.frames ≡ self.old.frames) }
+    {
+        match frame {
+            Frame::Try(_) => {}
+            Frame::Begun => {
+                self.starts.pop();
+            }
+            Frame::Ended {
+                index,
+                start,
+                before,
+            } => {
+                if let Some(start) = start {
+                    self.starts.push(start)?;
+                }
+                set_group(&mut self.groups, index, before);
+            }
+        }
+        Ok(())
+    }
+
+    /// Comes back to the last alternative, and gives its spot. Refuses for want of memory alone.
+    pub fn next(&mut self) -> Result<Option<usize>, NoMemory>
+        ensures { IfOk result (λ next. ComesBack next (stops_of self.old) (way_of self.new) (stops_of self.new)) }
+    {
+        while let Some(frame) = self.frames.pop() {
+            if let Frame::Try(spot) = frame {
+                return Ok(Some(spot));
+            }
+            self.undo(frame)?;
+        }
+        Ok(None)
+    }
+}

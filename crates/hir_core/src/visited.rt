@@ -1,0 +1,72 @@
+//! Which spots were visited at a place.
+
+ghost use Rattle.std.specs.Prelude.{◌≡◌, ◌<◌, false, true, length, replicate, slice_set, IfOk};
+ghost use Rattle.hir_core.specs.Pass.{was_visited};
+
+use sd_edge::NoMemory;
+use std::alloc::Global;
+use std::marker::Model;
+
+/// For each spot, whether it was visited at this place. Contracts see a list of truths.
+///
+/// Each spot has a stamp, and is visited where its stamp is that of the place. So going to the next place costs one step.
+#[derive(Drop)]
+pub struct Visited {
+    /// The stamp of each spot.
+    stamps: Vec<usize>,
+    /// The stamp of the place. No stamp of a spot is greater.
+    stamp: usize,
+}
+
+impl Model for Visited {
+    ghost use Rattle.std.specs.Prelude.{List, Bool};
+    ghost use Rattle.hir_core.specs.Stamps.{visited_at, AllUpTo};
+
+    ghost Value = { List Bool };
+
+    ghost view = { λ v. visited_at v.stamp v.stamps.items };
+
+    ghost invariant = { λ v. AllUpTo v.stamp v.stamps.items };
+}
+
+impl Visited {
+    /// No spots.
+    pub fn new(alloc: Global) -> Visited {
+        Visited {
+            stamps: Vec::new(alloc),
+            stamp: 0,
+        }
+    }
+
+    /// Goes to another place, where none of so many spots was visited. Refuses for want of memory alone.
+    pub fn next_place(&mut self, spots: usize) -> Result<(), NoMemory>
+        ensures { IfOk result (λ _. self.new ≡ replicate spots false) }
+    {
+        if self.stamps.len() == spots && self.stamp < usize::MAX {
+            self.stamp += 1;
+            return Ok(());
+        }
+        self.stamps.clear();
+        self.stamps.resize(spots, 0)?;
+        self.stamp = 1;
+        Ok(())
+    }
+
+    /// Whether a spot was visited.
+    pub fn has(&self, spot: usize) -> bool
+        ensures { result ≡ was_visited self.now spot }
+    {
+        match self.stamps.get(spot) {
+            Some(stamp) => *stamp == self.stamp,
+            None => false,
+        }
+    }
+
+    /// Notes a visit of a spot.
+    pub fn add(&mut self, spot: usize)
+        requires { spot < length self.old }
+        ensures { self.new ≡ slice_set self.old spot true }
+    {
+        self.stamps[spot] = self.stamp;
+    }
+}
