@@ -168,3 +168,6 @@ impl Pass {
         Ok(self.best.take(alloc))
     }
 }
+
+#[cfg(test)]
+mod tests;
