@@ -6,6 +6,7 @@ pub mod Found
 pub mod Hirs
 pub mod Laws
 pub mod Looks
+pub mod Masks
 pub mod Pass
 pub mod Program
 pub mod Ranges
@@ -13,6 +14,7 @@ pub mod Rows
 pub mod Runs
 pub mod RunsExamples
 pub mod RunsLaws
+pub mod Scan
 pub mod Sides
 pub mod Sound
 pub mod Spots

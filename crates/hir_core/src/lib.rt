@@ -30,6 +30,7 @@ mod range_laws;
 mod ranges;
 mod runs_examples;
 mod runs_laws;
+mod scan;
 mod seen;
 mod set_size;
 mod side;

@@ -1,0 +1,100 @@
+-- Sets of spots as bits of a number, and spots that give nothing at a place.
+use Rattle.std.specs.Prelude.{◌≡◌, ℕ, ◌<◌, ◌≤◌, Bool, true, false, ◌&&◌, nat_lt, List, [], ◌∷◌, ◌++◌, length, slice_index, slice_index_or, if◌then◌else◌}
+use Rattle.std.specs.Int.{bit_at}
+use Rattle.std.specs.List.{list_any, Contains}
+use Rattle.hir_core.specs.Runs.{begin, in_set}
+use Rattle.hir_core.specs.Program.{Way, way, spot_at, gives_within, gives}
+use Rattle.hir_core.specs.declared.spot.Spot.{Spot}
+use Rattle.hir_core.specs.declared.spot.Spot.TheVariants as spot
+
+-- the bit is set
+unfoldable pub HasBit : ℕ → ℕ → Type 0
+HasBit mask i = bit_at mask i ≡ 1
+
+-- each bit of the one is set in the other
+abbrev pub IsPart : ℕ → ℕ → Type 0
+IsPart mask more = (i : ℕ) → HasBit mask i → HasBit more i
+
+-- each bit of each number is still set
+abbrev pub Grows : List ℕ → List ℕ → Type 0
+Grows old new = (b : ℕ) → IsPart (slice_index old b) (slice_index new b)
+
+-- the bit that tells that a match may end
+abbrev pub match_bit : ℕ
+match_bit = 63
+
+-- the spot takes bytes
+abbrev pub is_taker : Spot → Bool
+is_taker (spot.Bytes set q) = true
+is_taker (spot.Chars set q) = true
+is_taker _ = false
+
+-- the spot that comes after the bytes
+abbrev pub next_of : Spot → ℕ
+next_of (spot.Bytes set q) = q
+next_of (spot.Chars set q) = q
+next_of _ = 0
+
+-- the spot takes this byte, or the ASCII character that it is
+abbrev pub takes_byte : Spot → ℕ → Bool
+takes_byte (spot.Bytes set q) b = in_set set.items b
+takes_byte (spot.Chars set q) b = nat_lt b 128 && in_set set.items b
+takes_byte _ b = false
+
+-- the set has a member beyond ASCII
+abbrev pub has_wide : List (ℕ × ℕ) → Bool
+has_wide set = list_any (λ r. nat_lt 127 r.1) set
+
+-- the spot may take a character beyond ASCII
+abbrev pub is_wide : Spot → Bool
+is_wide (spot.Chars set q) = has_wide set.items
+is_wide _ = false
+
+-- where a spot leads without a byte
+abbrev pub ways_on : Spot → List ℕ
+ways_on (spot.Look l q) = q ∷ []
+ways_on (spot.Jump q) = q ∷ []
+ways_on (spot.Split p q) = p ∷ q ∷ []
+ways_on (spot.Open q) = q ∷ []
+ways_on (spot.Close i q) = q ∷ []
+ways_on _ = []
+
+-- the spot was reached; past the end nothing goes on, so each spot there counts as reached
+abbrev pub is_reached : List Bool → ℕ → Bool
+is_reached reached q = slice_index_or reached q true
+
+-- where a spot leads that was not reached before
+abbrev pub new_ways : List Bool → ℕ → Spot → List ℕ
+new_ways reached q s = if is_reached reached q then [] else ways_on s
+
+-- where a spot leads that was reached, that was reached too
+abbrev pub IsClosed : List Spot → List Bool → Type 0
+IsClosed spots reached =
+    (q p : ℕ) → is_reached reached q ≡ true → Contains (ways_on (spot_at spots q)) p → is_reached reached p ≡ true
+
+-- From this spot no way gives a run that is at this place.
+abbrev pub IsDead : List ℕ → List Spot → ℕ → ℕ → Type 0
+IsDead text spots at q = (steps : ℕ) (w : Way) → w.run.at ≡ at → gives_within text spots steps q w ≡ []
+
+-- The mask doesn't say that a match may end, and each spot with a bit in it gives nothing at this place; bit i is that of
+-- the spot `of` has at i.
+pub record AreDead (text : List ℕ) (spots : List Spot) (of : List ℕ) (at mask : ℕ) : Type 0 where
+  pub unmatched : HasBit mask match_bit → ⊥
+  pub dead : (i : ℕ) → i < length of → HasBit mask i → IsDead text spots at (slice_index of i)
+
+-- where the spots of the mask give nothing, the spot gives nothing
+abbrev pub Covers : List Spot → List ℕ → ℕ → ℕ → Type 0
+Covers spots of mask q = (text : List ℕ) (at : ℕ) → AreDead text spots of at mask → IsDead text spots at q
+
+-- no run of the program begins at a place from one on to before another
+abbrev pub NoRun : List ℕ → List Spot → ℕ → ℕ → Type 0
+NoRun text spots from until = (groups q : ℕ) → from ≤ q → q < until → gives text spots 0 (way [] (begin q groups)) ≡ []
+
+-- each of these spots takes bytes
+abbrev pub AreTakers : List Spot → List ℕ → Type 0
+AreTakers spots of = (i : ℕ) → i < length of → is_taker (spot_at spots (slice_index of i)) ≡ true
+
+-- each spot that takes bytes is one of these
+abbrev pub AreAllTakers : List Spot → List ℕ → Type 0
+AreAllTakers spots of =
+    (q : ℕ) → is_taker (spot_at spots q) ≡ true → (i : ℕ) × (i < length of) × (slice_index of i ≡ q)

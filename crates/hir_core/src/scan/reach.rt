@@ -1,0 +1,134 @@
+//! Which spots may be tried without a byte.
+
+ghost use Rattle.std.specs.Prelude.{◌≡◌, ◌<◌, ◌≤◌, ◌++◌, ◌+◌, ℕ, true, length, slice_index, slice_set, vec_len, IfOk};
+ghost use Rattle.hir_core.specs.Program.{spot_at};
+ghost use Rattle.hir_core.specs.Masks.{HasBit, IsPart, IsClosed, Covers, AreAllTakers, is_reached, new_ways, ways_on, next_of, match_bit};
+ghost use Rattle.hir_core.specs.declared.spot.Spot.TheVariants as spot;
+
+use crate::scan::bits::{masks, with_bit};
+use crate::spot::Spot;
+use sd_edge::NoMemory;
+use std::alloc::Global;
+
+/// Puts the spots to which a spot leads without a byte onto the stack. Refuses for want of memory alone.
+fn lead(spot: &Spot, stack: &mut Vec<usize>) -> Result<(), NoMemory>
+    ensures { IfOk result (λ _. stack.new.items ≡ stack.old.items ++ ways_on spot.now) }
+{
+    match spot {
+        Spot::Look { next, .. }
+        | Spot::Jump { next }
+        | Spot::Open { next }
+        | Spot::Close { next, .. } => stack.push(*next)?,
+        Spot::Split { first, second } => {
+            stack.push(*first)?;
+            stack.push(*second)?;
+        }
+        _ => {}
+    }
+    Ok(())
+}
+
+/// Reaches a spot, and puts where it leads onto the stack if it is new. Refuses for want of memory alone.
+fn visit(
+    spots: &[Spot],
+    place: usize,
+    reached: &mut [bool],
+    stack: &mut Vec<usize>,
+) -> Result<(), NoMemory>
+    requires { length reached.old ≡ length spots.now }
+    ensures stack { IfOk result (λ _. stack.new.items ≡ stack.old.items ++ new_ways reached.old place (spot_at spots.now place)) }
+    ensures reached { IfOk result (λ _. reached.new ≡ slice_set reached.old place true) }
+{
+    let Some(spot) = spots.get(place) else {
+        return Ok(());
+    };
+    if reached[place] {
+        return Ok(());
+    }
+    reached[place] = true;
+    lead(spot, stack)
+}
+
+/// For each spot, whether a run that is at one may come to it without a byte. Refuses for want of memory alone.
+fn reach(alloc: Global, spots: &[Spot], from: usize) -> Result<Vec<bool>, NoMemory>
+    ensures from { IfOk result (λ reached. is_reached reached.items from ≡ true) }
+    ensures closed { IfOk result (λ reached. IsClosed spots.now reached.items) }
+    ensures room { IfOk result (λ reached. vec_len reached ≡ length spots.now) }
+{
+    let mut reached = Vec::new(alloc);
+    reached.resize(spots.len(), false)?;
+    let mut stack = Vec::new(alloc);
+    stack.push(from)?;
+    while let Some(place) = stack.pop() {
+        visit(spots, place, &mut reached, &mut stack)?;
+    }
+    Ok(reached)
+}
+
+/// The bits of the spots that were reached.
+fn reached_bits(of: &[usize], reached: &[bool]) -> u64
+    requires { length of.now ≤ 63 }
+    ensures { (i : ℕ) → i < length of.now → is_reached reached.now (slice_index of.now i) ≡ true → HasBit result i }
+{
+    let mut mask = 0;
+    for (i, place) in of.iter().enumerate() {
+        if *place >= reached.len() || reached[*place] {
+            mask = with_bit(mask, i);
+        }
+    }
+    mask
+}
+
+/// Whether a spot was reached that ends a match.
+fn reached_match(spots: &[Spot], reached: &[bool]) -> bool
+    requires { length reached.now ≡ length spots.now }
+    ensures { (q : ℕ) → spot_at spots.now q ≡ spot.Match → is_reached reached.now q ≡ true → result ≡ true }
+{
+    for (i, spot) in spots.iter().enumerate() {
+        if matches!(spot, Spot::Match) && reached[i] {
+            return true;
+        }
+    }
+    false
+}
+
+/// The bits of the spots that may be tried at a spot, and MATCH if a match may end there. Refuses for want of memory
+/// alone.
+pub fn mask_from(alloc: Global, spots: &[Spot], of: &[usize], from: usize) -> Result<u64, NoMemory>
+    requires few { length of.now ≤ 63 }
+    requires all { AreAllTakers spots.now of.now }
+    ensures { IfOk result (λ mask. Covers spots.now of.now mask from) }
+{
+    let reached = reach(alloc, spots, from)?;
+    let mask = reached_bits(of, reached.as_slice());
+    if reached_match(spots, reached.as_slice()) {
+        return Ok(with_bit(mask, 63));
+    }
+    Ok(mask)
+}
+
+/// The spot that comes after the bytes of one.
+fn next_of(spots: &[Spot], place: usize) -> usize
+    ensures { result ≡ next_of (spot_at spots.now place) }
+{
+    match spots.get(place) {
+        Some(Spot::Bytes { next, .. } | Spot::Chars { next, .. }) => *next,
+        _ => 0,
+    }
+}
+
+/// For each bit, the bits of the spots that may be tried after its spot took bytes, and MATCH if a match may end there.
+/// Refuses for want of memory alone.
+pub fn after(alloc: Global, spots: &[Spot], of: &[usize]) -> Result<Vec<u64>, NoMemory>
+    requires few { length of.now ≤ 63 }
+    requires all { AreAllTakers spots.now of.now }
+    ensures room { IfOk result (λ after. vec_len after ≡ 64) }
+    ensures covers { IfOk result (λ after. (i : ℕ) → i < length of.now → Covers spots.now of.now (slice_index after.items i) (next_of (spot_at spots.now (slice_index of.now i)))) }
+{
+    let mut after = masks(alloc, 64)?;
+    for (i, place) in of.iter().enumerate() {
+        let mask = mask_from(alloc, spots, of, next_of(spots, *place))?;
+        after[i] = mask;
+    }
+    Ok(after)
+}

@@ -1,0 +1,152 @@
+//! Which spots take which bytes.
+
+ghost use Rattle.std.specs.Prelude.{◌≡◌, ◌<◌, ◌≤◌, ℕ, true, length, slice_index, vec_len, IfOk};
+ghost use Rattle.hir_core.specs.Program.{spot_at};
+ghost use Rattle.hir_core.specs.Runs.{in_set};
+ghost use Rattle.hir_core.specs.Masks.{HasBit, Grows, AreTakers, AreAllTakers, is_taker, takes_byte, has_wide, is_wide};
+
+use crate::scan::bits::{masks, with_bit};
+use crate::spot::Spot;
+use sd_edge::NoMemory;
+use std::alloc::Global;
+
+/// Whether a spot takes bytes.
+fn is_taker(spot: &Spot) -> bool
+    ensures { result ≡ is_taker spot.now }
+{
+    matches!(spot, Spot::Bytes { .. } | Spot::Chars { .. })
+}
+
+/// The spots that take bytes, in order. Refuses for want of memory alone.
+pub fn takers(alloc: Global, spots: &[Spot]) -> Result<Vec<usize>, NoMemory>
+    ensures takers { IfOk result (λ of. AreTakers spots.now of.items) }
+    ensures all { IfOk result (λ of. AreAllTakers spots.now of.items) }
+{
+    let mut of = Vec::new(alloc);
+    for (place, spot) in spots.iter().enumerate() {
+        if is_taker(spot) {
+            of.push(place)?;
+        }
+    }
+    Ok(of)
+}
+
+/// Adds the bit of a spot at the bytes from one to another.
+fn add_range(takes: &mut [u64], bit: usize, start: u8, end: u8)
+    requires room { length takes.old ≡ 256 }
+    requires bit { bit < 64 }
+    ensures grows { Grows takes.old takes.new }
+    ensures has { (b : ℕ) → start ≤ b → b ≤ end → HasBit (slice_index takes.new b) bit }
+{
+    for byte in start..=end {
+        let place = byte as usize;
+        takes[place] = with_bit(takes[place], bit);
+    }
+}
+
+/// Adds the bit of a spot at the bytes of a set.
+fn add_bytes(takes: &mut [u64], bit: usize, set: &[(u8, u8)])
+    requires room { length takes.old ≡ 256 }
+    requires bit { bit < 64 }
+    ensures grows { Grows takes.old takes.new }
+    ensures has { (b : ℕ) → in_set set.now b ≡ true → HasBit (slice_index takes.new b) bit }
+{
+    for range in set {
+        add_range(takes, bit, range.0, range.1);
+    }
+}
+
+/// Adds the bit of a spot at the ASCII characters from one to another.
+fn add_ascii(takes: &mut [u64], bit: usize, start: char, end: char)
+    requires room { length takes.old ≡ 256 }
+    requires bit { bit < 64 }
+    ensures grows { Grows takes.old takes.new }
+    ensures has { (b : ℕ) → b < 128 → start ≤ b → b ≤ end → HasBit (slice_index takes.new b) bit }
+{
+    let start = start as u32;
+    let end = (end as u32).min(127);
+    if start < 128 {
+        add_range(takes, bit, start as u8, end as u8);
+    }
+}
+
+/// Adds the bit of a spot at the ASCII characters of a set.
+fn add_chars(takes: &mut [u64], bit: usize, set: &[(char, char)])
+    requires room { length takes.old ≡ 256 }
+    requires bit { bit < 64 }
+    ensures grows { Grows takes.old takes.new }
+    ensures has { (b : ℕ) → b < 128 → in_set set.now b ≡ true → HasBit (slice_index takes.new b) bit }
+{
+    for range in set {
+        add_ascii(takes, bit, range.0, range.1);
+    }
+}
+
+/// Adds the bit of a spot at the bytes that it takes.
+fn add_spot(takes: &mut [u64], bit: usize, spot: &Spot)
+    requires room { length takes.old ≡ 256 }
+    requires bit { bit < 64 }
+    ensures grows { Grows takes.old takes.new }
+    ensures has { (b : ℕ) → takes_byte spot.now b ≡ true → HasBit (slice_index takes.new b) bit }
+{
+    match spot {
+        Spot::Bytes { set, .. } => add_bytes(takes, bit, set),
+        Spot::Chars { set, .. } => add_chars(takes, bit, set),
+        _ => {}
+    }
+}
+
+/// Adds the bits of the spots at the bytes that they take.
+fn add_spots(takes: &mut [u64], spots: &[Spot], of: &[usize])
+    requires room { length takes.old ≡ 256 }
+    requires few { length of.now ≤ 63 }
+    ensures { (i b : ℕ) → i < length of.now → takes_byte (spot_at spots.now (slice_index of.now i)) b ≡ true → HasBit (slice_index takes.new b) i }
+{
+    for (i, place) in of.iter().enumerate() {
+        if let Some(spot) = spots.get(*place) {
+            add_spot(takes, i, spot);
+        }
+    }
+}
+
+/// For each byte, the bits of the spots that take it, or the ASCII character that it is. Refuses for want of memory alone.
+pub fn takes(alloc: Global, spots: &[Spot], of: &[usize]) -> Result<Vec<u64>, NoMemory>
+    requires { length of.now ≤ 63 }
+    ensures room { IfOk result (λ takes. vec_len takes ≡ 256) }
+    ensures has { IfOk result (λ takes. (i b : ℕ) → i < length of.now → takes_byte (spot_at spots.now (slice_index of.now i)) b ≡ true → HasBit (slice_index takes.items b) i) }
+{
+    let mut takes = masks(alloc, 256)?;
+    add_spots(&mut takes, spots, of);
+    Ok(takes)
+}
+
+/// Whether a set has a member beyond ASCII.
+fn has_wide(set: &[(char, char)]) -> bool
+    ensures { result ≡ has_wide set.now }
+{
+    set.iter().any(|range| range.1 > '\u{7f}')
+}
+
+/// Whether a spot may take a character beyond ASCII.
+fn is_wide(spots: &[Spot], place: usize) -> bool
+    ensures { result ≡ is_wide (spot_at spots.now place) }
+{
+    match spots.get(place) {
+        Some(Spot::Chars { set, .. }) => has_wide(set),
+        _ => false,
+    }
+}
+
+/// The bits of the spots that may take a character beyond ASCII.
+pub fn wide(spots: &[Spot], of: &[usize]) -> u64
+    requires { length of.now ≤ 63 }
+    ensures { (i : ℕ) → i < length of.now → is_wide (spot_at spots.now (slice_index of.now i)) ≡ true → HasBit result i }
+{
+    let mut mask = 0;
+    for (i, place) in of.iter().enumerate() {
+        if is_wide(spots, *place) {
+            mask = with_bit(mask, i);
+        }
+    }
+    mask
+}

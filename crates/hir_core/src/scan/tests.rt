@@ -1,0 +1,215 @@
+//! What the filter answers for some programs.
+
+ghost use Rattle.std.specs.Prelude.{◌≤◌, ◌+◌, length};
+ghost use Rattle.hir_core.specs.Program.{ClosesFall};
+
+use super::Scan;
+use crate::Look;
+use crate::compile::program;
+use crate::core_tree::{CoreTree, Greed};
+use crate::spot::Spot;
+use crate::stack_search::first_run;
+use sd_edge::NoMemory;
+use std::alloc::Global;
+use std::process::Abort;
+use std::test::Fail;
+
+/// Takes a byte of a range.
+fn range(alloc: Global, start: u8, end: u8) -> Result<CoreTree, NoMemory> {
+    Ok(CoreTree::Bytes(vec![in alloc; (start, end)]?))
+}
+
+/// One after the other.
+fn pair(alloc: Global, first: CoreTree, second: CoreTree) -> Result<CoreTree, NoMemory> {
+    Ok(CoreTree::Pair(Box::new(alloc, first)?, Box::new(alloc, second)?))
+}
+
+/// One or the other.
+fn choice(alloc: Global, first: CoreTree, second: CoreTree) -> Result<CoreTree, NoMemory> {
+    Ok(CoreTree::Choice(Box::new(alloc, first)?, Box::new(alloc, second)?))
+}
+
+/// One round or more.
+fn plus(alloc: Global, body: CoreTree) -> Result<CoreTree, NoMemory> {
+    Ok(CoreTree::Plus {
+        greed: Greed::Greedy,
+        body: Box::new(alloc, body)?,
+    })
+}
+
+/// The bytes of a word, one after the other.
+fn word(alloc: Global, bytes: &[u8]) -> Result<CoreTree, NoMemory> {
+    let mut tree = CoreTree::Empty;
+    for byte in bytes.iter().rev() {
+        tree = pair(alloc, range(alloc, *byte, *byte)?, tree)?;
+    }
+    Ok(tree)
+}
+
+/// `[a-z]+_id`
+fn names(alloc: Global) -> Result<CoreTree, NoMemory> {
+    let letters = plus(alloc, range(alloc, b'a', b'z')?)?;
+    pair(alloc, letters, word(alloc, b"_id")?)
+}
+
+/// The next candidate of a program.
+fn next(
+    rt: &impl Abort,
+    alloc: Global,
+    tree: &CoreTree,
+    text: &[u8],
+    at: usize,
+) -> Result<Option<(usize, usize)>, NoMemory> {
+    assert!(rt; at <= text.len());
+    let spots = program(alloc, tree)?;
+    let scan = Scan::new(alloc, spots.as_slice())?;
+    assert!(rt; scan.is_some());
+    Ok(match scan {
+        Some(scan) => scan.next(text, at).map(|c| (c.from, c.until)),
+        None => None,
+    })
+}
+
+/// Whether no run begins at a place from one on to before another.
+fn has_none(
+    alloc: Global,
+    spots: &[Spot],
+    text: &[u8],
+    from: usize,
+    until: usize,
+) -> Result<bool, NoMemory>
+    requires falls { ClosesFall spots.now }
+    requires within { until ≤ length text.now + 1 }
+{
+    for at in from..until {
+        if first_run(alloc, spots, text, at, 0)?.is_some() {
+            return Ok(false);
+        }
+    }
+    Ok(true)
+}
+
+/// Compares the filter with the plain search, at each place of a text.
+fn compare(
+    rt: &impl Abort,
+    alloc: Global,
+    spots: &[Spot],
+    scan: &Scan,
+    text: &[u8],
+) -> Result<(), NoMemory>
+    requires { ClosesFall spots.now }
+{
+    for at in 0..text.len() + 1 {
+        let end = match scan.next(text, at) {
+            Some(candidate) => candidate.from,
+            None => text.len() + 1,
+        };
+        assert!(rt; has_none(alloc, spots, text, at, end)?);
+    }
+    Ok(())
+}
+
+/// Compares them on each text of two letters up to length 5.
+fn compare_all(rt: &impl Abort, alloc: Global, tree: &CoreTree) -> Result<(), NoMemory> {
+    let spots = program(alloc, tree)?;
+    let scan = Scan::new(alloc, spots.as_slice())?;
+    let Some(scan) = scan else {
+        assert!(rt; false);
+        return Ok(());
+    };
+    for number in 0..64u8 {
+        let mut text = Vec::new(alloc);
+        let mut left = number;
+        // The letters are the digits after the first 1.
+        for _ in 0..5 {
+            if left >= 2 {
+                text.push(if left % 2 == 0 { b'a' } else { b'b' })?;
+                left /= 2;
+            }
+        }
+        compare(rt, alloc, spots.as_slice(), &scan, text.as_slice())?;
+    }
+    Ok(())
+}
+
+#[test]
+fn names_with_an_ending(rt: HostRuntime) -> Result<(), Fail> {
+    let alloc = rt.alloc();
+    let tree = names(alloc)?;
+    assert_eq!(rt; next(&rt, alloc, &tree, b"", 0)?, None);
+    assert_eq!(rt; next(&rt, alloc, &tree, b"a few words _id", 0)?, None);
+    assert_eq!(rt;
+        next(&rt, alloc, &tree, b"a b_i user_id c", 0)?,
+        Some((6, 13))
+    );
+    assert_eq!(rt;
+        next(&rt, alloc, &tree, b"a b_i user_id c", 8)?,
+        Some((8, 13))
+    );
+    assert_eq!(rt; next(&rt, alloc, &tree, b"a b_i user_id c", 11)?, None);
+    Ok(())
+}
+
+#[test]
+fn one_of_some_words(rt: HostRuntime) -> Result<(), Fail> {
+    let alloc = rt.alloc();
+    let others = choice(alloc, word(alloc, b"ba")?, CoreTree::Nothing)?;
+    let tree = choice(alloc, word(alloc, b"aab")?, others)?;
+    assert_eq!(rt; next(&rt, alloc, &tree, b"aaaab", 0)?, Some((0, 5)));
+    assert_eq!(rt; next(&rt, alloc, &tree, b"cba", 0)?, Some((1, 3)));
+    assert_eq!(rt; next(&rt, alloc, &tree, b"aa", 0)?, None);
+    compare_all(&rt, alloc, &tree)?;
+    Ok(())
+}
+
+#[test]
+fn what_may_be_empty(rt: HostRuntime) -> Result<(), Fail> {
+    let alloc = rt.alloc();
+    let rounds = plus(alloc, range(alloc, b'a', b'a')?)?;
+    let tree = choice(alloc, rounds, CoreTree::Empty)?;
+    assert_eq!(rt; next(&rt, alloc, &tree, b"ba", 1)?, Some((1, 1)));
+    assert_eq!(rt; next(&rt, alloc, &tree, b"", 0)?, Some((0, 0)));
+    compare_all(&rt, alloc, &tree)?;
+    Ok(())
+}
+
+#[test]
+fn looks_count_as_if_they_held(rt: HostRuntime) -> Result<(), Fail> {
+    let alloc = rt.alloc();
+    let letter = range(alloc, b'b', b'b')?;
+    let tree = pair(alloc, CoreTree::Look(Look::Start), letter)?;
+    assert_eq!(rt; next(&rt, alloc, &tree, b"aab", 0)?, Some((2, 3)));
+    assert_eq!(rt; next(&rt, alloc, &tree, b"aaa", 0)?, None);
+    compare_all(&rt, alloc, &tree)?;
+    Ok(())
+}
+
+#[test]
+fn characters_beyond_ascii(rt: HostRuntime) -> Result<(), Fail> {
+    let alloc = rt.alloc();
+    let tree = CoreTree::Chars(vec![in alloc; ('x', 'é')]?);
+    assert_eq!(rt; next(&rt, alloc, &tree, b"ax", 0)?, Some((1, 2)));
+    assert_eq!(rt; next(&rt, alloc, &tree, "aé".as_bytes(), 0)?, Some((1, 1)));
+    assert_eq!(rt; next(&rt, alloc, &tree, b"abc", 0)?, None);
+    let ascii = CoreTree::Chars(vec![in alloc; ('x', 'z')]?);
+    assert_eq!(rt;
+        next(&rt, alloc, &ascii, "aéy".as_bytes(), 0)?,
+        Some((3, 4))
+    );
+    Ok(())
+}
+
+#[test]
+fn sixty_three_spots_and_no_more(rt: HostRuntime) -> Result<(), Fail> {
+    let alloc = rt.alloc();
+    let mut tree = CoreTree::Empty;
+    for _ in 0..63 {
+        tree = pair(alloc, range(alloc, b'a', b'a')?, tree)?;
+    }
+    let spots = program(alloc, &tree)?;
+    assert!(rt; Scan::new(alloc, spots.as_slice())?.is_some());
+    let longer = pair(alloc, range(alloc, b'a', b'a')?, tree)?;
+    let spots = program(alloc, &longer)?;
+    assert!(rt; Scan::new(alloc, spots.as_slice())?.is_none());
+    Ok(())
+}
