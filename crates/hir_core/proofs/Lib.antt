@@ -7,7 +7,9 @@ mod Computing
 mod CoreNumbersLemmas
 mod CoreSpotsLemmas
 mod CoresLemmas
+mod DeadLemmas
 mod ListLemmas
+mod MaskLemmas
 mod NumbersLemmas
 mod PassLemmas
 mod PlacedLemmas
@@ -15,14 +17,17 @@ mod PlacingLemmas
 mod ProgramLemmas
 mod PruningLemmas
 mod RangesLemmas
+mod ReachLemmas
 mod RoundLemmas
 mod RowsLemmas
 mod RunsComputing
 mod RunsLemmas
 mod SameRangesLemmas
+mod ScanLemmas
 mod SpotsLemmas
 mod StackLemmas
 mod StampsLemmas
+mod TakesLemmas
 mod TicksLemmas
 mod TrailLemmas
 mod TurnLemmas

@@ -1,5 +1,5 @@
 -- Sets of spots as bits of a number, and spots that give nothing at a place.
-use Rattle.std.specs.Prelude.{◌≡◌, ℕ, ◌<◌, ◌≤◌, Bool, true, false, ◌&&◌, nat_lt, List, [], ◌∷◌, ◌++◌, length, slice_index, slice_index_or, if◌then◌else◌}
+use Rattle.std.specs.Prelude.{◌≡◌, ℕ, ◌+◌, ◌*◌, ◌/◌, ◌%◌, ◌^◌, ◌<◌, ◌≤◌, Bool, true, false, ◌&&◌, nat_lt, List, [], ◌∷◌, ◌++◌, length, slice_index, slice_index_or, if◌then◌else◌}
 use Rattle.std.specs.Int.{bit_at}
 use Rattle.std.specs.List.{list_any, Contains}
 use Rattle.hir_core.specs.Runs.{begin, in_set}
@@ -22,6 +22,10 @@ Grows old new = (b : ℕ) → IsPart (slice_index old b) (slice_index new b)
 -- the bit that tells that a match may end
 abbrev pub match_bit : ℕ
 match_bit = 63
+
+-- Where the rows have the masks of the eight bits that a bit is among: row r is of the bits from 8 r on, and has 256 masks.
+abbrev pub row_place : ℕ → ℕ → ℕ
+row_place mask i = 256 * (i / 8) + mask / 2 ^ (8 * (i / 8)) % 256
 
 -- the spot takes bytes
 abbrev pub is_taker : Spot → Bool

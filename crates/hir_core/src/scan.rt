@@ -9,7 +9,7 @@ mod takes;
 mod tests;
 
 use crate::spot::Spot;
-use bits::MATCH;
+use bits::{MATCH, joined};
 use sd_edge::NoMemory;
 use std::alloc::Global;
 
@@ -20,14 +20,15 @@ pub struct Scan {
     of: Vec<usize>,
     /// For each byte, the spots that take it, or the ASCII character that it is.
     takes: Vec<u64>,
-    /// For each bit, the spots that may be tried after its spot, and MATCH if a match may end there.
+    /// The spots that may be tried after some took bytes, and MATCH if a match may end there: row r has a mask for each
+    /// choice of the eight bits from 8 r on.
     after: Vec<u64>,
     /// The same for the start of the program.
     start: u64,
     /// The spots that may take a character beyond ASCII.
     wide: u64,
     ghost all_bytes: { vec_len takes ≡ 256 },
-    ghost all_bits: { vec_len after ≡ 64 },
+    ghost all_rows: { vec_len after ≡ 2048 },
 }
 
 /// Places that may have a match: none before `from` has one. A run that begins there may end at `until`, or go on in a
@@ -42,7 +43,7 @@ pub struct Candidate {
 
 impl Scan {
     ghost use Rattle.hir_core.specs.declared.spot.Spot.{Spot};
-    ghost use Rattle.hir_core.specs.Masks.{HasBit, IsPart, NoRun};
+    ghost use Rattle.hir_core.specs.Masks.{NoRun};
     ghost use Rattle.hir_core.specs.Scan.{IsFilterOf};
 
     /// The filter of a program; None where more than 63 spots take bytes. Refuses for want of memory alone.
@@ -64,20 +65,6 @@ impl Scan {
             start,
             wide,
         }))
-    }
-
-    /// The spots that may be tried after each of these took bytes, and MATCH if a match may end there.
-    fn after_each(&self, live: u64) -> u64
-        ensures { (i : ℕ) → i < 64 → HasBit live i → IsPart (slice_index self.now.after.items i) result }
-    {
-        let mut rest = live;
-        let mut tried = 0;
-        while rest != 0 {
-            let bit = rest.trailing_zeros();
-            tried |= self.after[bit as usize];
-            rest &= !(1 << bit);
-        }
-        tried
     }
 
     /// The next places of a text, from one on, that may have a match. None where no place from there on has one.
@@ -102,7 +89,7 @@ impl Scan {
             if byte >= 128 && tried & self.wide != 0 {
                 return Some(Candidate { from, until: place });
             }
-            state = self.after_each(tried & self.takes[byte as usize]);
+            state = joined(self.after.as_slice(), tried & self.takes[byte as usize]);
             place += 1;
             if state >= MATCH {
                 return Some(Candidate { from, until: place });

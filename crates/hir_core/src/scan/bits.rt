@@ -1,7 +1,7 @@
 //! Sets of spots as bits of a number.
 
-ghost use Rattle.std.specs.Prelude.{◌≡◌, ◌<◌, ◌^◌, ℕ, IfOk, vec_len};
-ghost use Rattle.hir_core.specs.Masks.{HasBit, IsPart};
+ghost use Rattle.std.specs.Prelude.{◌≡◌, ◌+◌, ◌*◌, ◌<◌, ℕ, length, slice_index, IfOk, vec_len};
+ghost use Rattle.hir_core.specs.Masks.{HasBit, IsPart, Grows, row_place};
 
 use sd_edge::NoMemory;
 use std::alloc::Global;
@@ -25,4 +25,39 @@ pub fn masks(alloc: Global, count: usize) -> Result<Vec<u64>, NoMemory>
     let mut masks = Vec::new(alloc);
     masks.resize(count, 0)?;
     Ok(masks)
+}
+
+/// How many masks the rows have: a row for each eight bits.
+pub const ROWS: usize = 8 * 256;
+
+/// Adds a mask to a row, for each choice of its bits that has this one.
+pub fn add_to_row(rows: &mut [u64], row: usize, bit: usize, mask: u64)
+    requires room { length rows.old ≡ 2048 }
+    requires row { row < 8 }
+    requires bit { bit < 8 }
+    ensures grows { Grows rows.old rows.new }
+    ensures has { (v : ℕ) → v < 256 → HasBit v bit → IsPart mask (slice_index rows.new (256 * row + v)) }
+{
+    for eight in 0..256usize {
+        if (eight >> bit) % 2 == 1 {
+            rows[256 * row + eight] |= mask;
+        }
+    }
+}
+
+/// What the rows have for the bits that are set, eight at a time.
+pub fn joined(rows: &[u64], live: u64) -> u64
+    requires { length rows.now ≡ 2048 }
+    ensures { (i : ℕ) → i < 64 → HasBit live i → IsPart (slice_index rows.now (row_place live i)) result }
+{
+    let mut rest = live;
+    let mut joined = 0;
+    for row in 0..8usize {
+        joined |= rows[256 * row + (rest % 256) as usize];
+        rest >>= 8;
+        if rest == 0 {
+            return joined;
+        }
+    }
+    joined
 }

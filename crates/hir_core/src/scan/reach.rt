@@ -1,11 +1,11 @@
 //! Which spots may be tried without a byte.
 
-ghost use Rattle.std.specs.Prelude.{◌≡◌, ◌<◌, ◌≤◌, ◌++◌, ◌+◌, ℕ, true, length, slice_index, slice_set, vec_len, IfOk};
+ghost use Rattle.std.specs.Prelude.{◌≡◌, ◌+◌, ◌*◌, ◌/◌, ◌%◌, ◌<◌, ◌≤◌, ◌++◌, ℕ, true, length, slice_index, slice_set, vec_len, IfOk};
 ghost use Rattle.hir_core.specs.Program.{spot_at};
 ghost use Rattle.hir_core.specs.Masks.{HasBit, IsPart, IsClosed, Covers, AreAllTakers, is_reached, new_ways, ways_on, next_of, match_bit};
 ghost use Rattle.hir_core.specs.declared.spot.Spot.TheVariants as spot;
 
-use crate::scan::bits::{masks, with_bit};
+use crate::scan::bits::{ROWS, add_to_row, masks, with_bit};
 use crate::spot::Spot;
 use sd_edge::NoMemory;
 use std::alloc::Global;
@@ -117,18 +117,19 @@ fn next_of(spots: &[Spot], place: usize) -> usize
     }
 }
 
-/// For each bit, the bits of the spots that may be tried after its spot took bytes, and MATCH if a match may end there.
-/// Refuses for want of memory alone.
+/// The rows of the spots that may be tried after some took bytes, and MATCH if a match may end there. Refuses for want of
+/// memory alone.
 pub fn after(alloc: Global, spots: &[Spot], of: &[usize]) -> Result<Vec<u64>, NoMemory>
     requires few { length of.now ≤ 63 }
     requires all { AreAllTakers spots.now of.now }
-    ensures room { IfOk result (λ after. vec_len after ≡ 64) }
-    ensures covers { IfOk result (λ after. (i : ℕ) → i < length of.now → Covers spots.now of.now (slice_index after.items i) (next_of (spot_at spots.now (slice_index of.now i)))) }
+    ensures room { IfOk result (λ after. vec_len after ≡ 2048) }
+    ensures covers { IfOk result (λ after. (i v : ℕ) → i < length of.now → v < 256 → HasBit v (i % 8)
+        → Covers spots.now of.now (slice_index after.items (256 * (i / 8) + v)) (next_of (spot_at spots.now (slice_index of.now i)))) }
 {
-    let mut after = masks(alloc, 64)?;
+    let mut after = masks(alloc, ROWS)?;
     for (i, place) in of.iter().enumerate() {
         let mask = mask_from(alloc, spots, of, next_of(spots, *place))?;
-        after[i] = mask;
+        add_to_row(&mut after, i / 8, i % 8, mask);
     }
     Ok(after)
 }

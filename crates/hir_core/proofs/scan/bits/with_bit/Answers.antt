@@ -1,0 +1,8 @@
+use Rattle.hir_core.proofs.MaskLemmas.{HasBit-or_left, HasBit-set}
+use Rattle.hir_core.proofs.scan.bits.with_bit.Goals as goal
+
+pub returns-clause-kept : goal.returns-clause-kept
+returns-clause-kept c i has = HasBit-or_left c.args.mask _ i has
+
+pub returns-clause-set : goal.returns-clause-set
+returns-clause-set c = HasBit-set c.args.mask c.args.bit c.requires
