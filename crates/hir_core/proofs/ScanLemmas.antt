@@ -1,6 +1,7 @@
 -- What a filter has looked at of a text.
-use Rattle.std.proofs.Common.{◌≡◌, ℕ, ◌+◌, ◌*◌, ◌/◌, ◌%◌, ◌^◌, ◌<◌, ◌≤◌, Bool, true, false, ◌⊎◌, inl, inr, List, length, slice_index, bit_and, bit_or, refl, sym, ap, ◌∙◌, subst, arith}
+use Rattle.std.proofs.Common.{◌≡◌, ℕ, ◌+◌, ◌*◌, ◌/◌, ◌%◌, ◌^◌, ◌<◌, ◌≤◌, Bool, true, false, ◌⊎◌, inl, inr, List, length, slice_index, slice_index_or, bit_and, bit_or, refl, sym, ap, ◌∙◌, subst, arith}
 use Rattle.std.proofs.lemmas.Bool.{cases_lt}
+use Rattle.std.proofs.lemmas.Option.{slice_get_read, get_or_from_slice_get}
 use Rattle.hir_core.specs.Program.{spot_at}
 use Rattle.hir_core.specs.Masks.{HasBit, IsPart, match_bit, row_place, next_of, is_wide, IsDead, AreDead, NoRun}
 use Rattle.hir_core.specs.Scan.{IsFilterOf}
@@ -26,6 +27,23 @@ pub record Steps (text : List ℕ) (s : Scan) (place state next : ℕ) : Type 0 
   pub narrow : (slice_index text place < 128) ⊎ (bit_and (bit_or state s.start) s.wide ≡ 0)
   pub follows : (i : ℕ) → i < 64 → HasBit (bit_and (bit_or state s.start) (slice_index s.takes.items (slice_index text place))) i
       → IsPart (slice_index s.after.items (row_place (bit_and (bit_or state s.start) (slice_index s.takes.items (slice_index text place))) i)) next
+
+-- what the filter does, from what it reads of its lists
+pub Steps-read : (text : List ℕ) (s : Scan) (place state next read : ℕ) (rows : List ℕ) → place < length text → slice_index text place < length s.takes.items → slice_index text place < 256
+    → (slice_index text place < 128) ⊎ (bit_and (bit_or state s.start) s.wide ≡ 0) → read ≡ slice_index_or s.takes.items (slice_index text place) read → rows ≡ s.after.items
+    → ((i : ℕ) → i < 64 → HasBit (bit_and (bit_or state s.start) read) i → IsPart (slice_index rows (row_place (bit_and (bit_or state s.start) read) i)) next)
+    → Steps text s place state next
+Steps-read text s place state next read rows more within byte narrow is same follows =
+    let takes : read ≡ slice_index s.takes.items (slice_index text place) =
+    sym (get_or_from_slice_get s.takes.items (slice_index text place) read 0 (slice_get_read s.takes.items (length s.takes.items) (slice_index text place) read refl within is)) in
+    record {
+      more = more;
+      byte = byte;
+      narrow = narrow;
+      follows =
+          subst (λ (live : ℕ). (i : ℕ) → i < 64 → HasBit (bit_and (bit_or state s.start) live) i → IsPart (slice_index s.after.items (row_place (bit_and (bit_or state s.start) live) i)) next) takes
+          (subst (λ (list : List ℕ). (i : ℕ) → i < 64 → HasBit (bit_and (bit_or state s.start) read) i → IsPart (slice_index list (row_place (bit_and (bit_or state s.start) read) i)) next) same follows);
+    }
 
 -- no bit, no spot
 AreDead-none : (text : List ℕ) (spots : List Spot) (of : List ℕ) (at : ℕ) → AreDead text spots of at 0
