@@ -7,11 +7,7 @@ use Rattle.std.proofs.lemmas.Nat.Bits.{bit_at-zero, bit_at_and, bit_at_or, bit_a
 use Rattle.std.specs.Int.{bit_at}
 use Rattle.hir_core.specs.Masks.{HasBit, IsPart, Grows}
 
--- a bit is set or not
-pub HasBit-or_not : (mask i : ℕ) → HasBit mask i ⊎ (HasBit mask i → ⊥)
-unfolding HasBit
-HasBit-or_not mask i = cases_eq (bit_at mask i) 1
-
+-- 0 has no bit
 pub HasBit-none : (i : ℕ) → HasBit 0 i → ⊥
 unfolding HasBit
 HasBit-none i h = let e : ◌≡◌ {A = ℕ} 0 1 = sym (bit_at-zero i) ∙ h in omega arith

@@ -71,7 +71,7 @@ module _ (text : List ℕ) (spots : List Spot) (s : Scan) (filter : IsFilterOf s
         let live = HasBit-and (bit_or state s.start) (slice_index s.takes.items byte) i (part i has) (filter.takes i byte lt steps.byte one.1) in
         let least : i < 64 = omega (arith, filter.few) in
         subst (λ (j : ℕ). IsDead text spots (place + j) (next_of (taker i))) (sym one.0)
-        (filter.after i (eight i) lt (omega arith) (HasBit-eight tried i live) text (place + 1)
+        (filter.follows i (eight i) lt (omega arith) (HasBit-eight tried i live) text (place + 1)
         (AreDead-part text spots s.of.items (place + 1) (slice_index s.after.items (row_place tried i)) next (steps.follows i least live) later)));
   }
     where

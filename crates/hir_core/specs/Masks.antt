@@ -23,7 +23,7 @@ Grows old new = (b : ℕ) → IsPart (slice_index old b) (slice_index new b)
 abbrev pub match_bit : ℕ
 match_bit = 63
 
--- Where the rows have the masks of the eight bits that a bit is among: row r is of the bits from 8 r on, and has 256 masks.
+-- Where the rows have the mask for the eight bits that a bit is among: row r is of the bits from 8 r on, and has 256 masks.
 abbrev pub row_place : ℕ → ℕ → ℕ
 row_place mask i = 256 * (i / 8) + mask / 2 ^ (8 * (i / 8)) % 256
 
@@ -102,3 +102,18 @@ AreTakers spots of = (i : ℕ) → i < length of → is_taker (spot_at spots (sl
 abbrev pub AreAllTakers : List Spot → List ℕ → Type 0
 AreAllTakers spots of =
     (q : ℕ) → is_taker (spot_at spots q) ≡ true → (i : ℕ) × (i < length of) × (slice_index of i ≡ q)
+
+-- each spot's bit is set at the bytes that it takes
+abbrev pub SaysWhatTakes : List Spot → List ℕ → List ℕ → Type 0
+SaysWhatTakes spots of takes =
+    (i b : ℕ) → i < length of → b < 256 → takes_byte (spot_at spots (slice_index of i)) b ≡ true → HasBit (slice_index takes b) i
+
+-- Row r has a mask for each choice of the eight bits from 8 r on: it covers what comes after the spot of each bit that is chosen.
+abbrev pub SaysWhatFollows : List Spot → List ℕ → List ℕ → Type 0
+SaysWhatFollows spots of rows =
+    (i v : ℕ) → i < length of → v < 256 → HasBit v (i % 8)
+    → Covers spots of (slice_index rows (256 * (i / 8) + v)) (next_of (spot_at spots (slice_index of i)))
+
+-- the bit of each spot is set that may take a character beyond ASCII
+abbrev pub SaysWhichAreWide : List Spot → List ℕ → ℕ → Type 0
+SaysWhichAreWide spots of mask = (i : ℕ) → i < length of → is_wide (spot_at spots (slice_index of i)) ≡ true → HasBit mask i

@@ -2,7 +2,7 @@
 
 ghost use Rattle.std.specs.Prelude.{◌≡◌, ◌+◌, ◌*◌, ◌/◌, ◌%◌, ◌<◌, ◌≤◌, ◌++◌, ℕ, true, length, slice_index, slice_set, vec_len, IfOk};
 ghost use Rattle.hir_core.specs.Program.{spot_at};
-ghost use Rattle.hir_core.specs.Masks.{HasBit, IsPart, IsClosed, Covers, AreAllTakers, is_reached, new_ways, ways_on, next_of, match_bit};
+ghost use Rattle.hir_core.specs.Masks.{HasBit, IsPart, IsClosed, Covers, AreAllTakers, SaysWhatFollows, is_reached, new_ways, ways_on, next_of, match_bit};
 ghost use Rattle.hir_core.specs.declared.spot.Spot.TheVariants as spot;
 
 use crate::scan::bits::{ROWS, add_to_row, masks, with_bit};
@@ -123,8 +123,7 @@ pub fn after(alloc: Global, spots: &[Spot], of: &[usize]) -> Result<Vec<u64>, No
     requires few { length of.now ≤ 63 }
     requires all { AreAllTakers spots.now of.now }
     ensures room { IfOk result (λ after. vec_len after ≡ 2048) }
-    ensures covers { IfOk result (λ after. (i v : ℕ) → i < length of.now → v < 256 → HasBit v (i % 8)
-        → Covers spots.now of.now (slice_index after.items (256 * (i / 8) + v)) (next_of (spot_at spots.now (slice_index of.now i)))) }
+    ensures says { IfOk result (λ after. SaysWhatFollows spots.now of.now after.items) }
 {
     let mut after = masks(alloc, ROWS)?;
     for (i, place) in of.iter().enumerate() {

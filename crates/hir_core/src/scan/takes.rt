@@ -3,7 +3,7 @@
 ghost use Rattle.std.specs.Prelude.{◌≡◌, ◌<◌, ◌≤◌, ℕ, true, length, slice_index, vec_len, IfOk};
 ghost use Rattle.hir_core.specs.Program.{spot_at};
 ghost use Rattle.hir_core.specs.Runs.{in_set};
-ghost use Rattle.hir_core.specs.Masks.{HasBit, Grows, AreTakers, AreAllTakers, is_taker, takes_byte, has_wide, is_wide};
+ghost use Rattle.hir_core.specs.Masks.{HasBit, Grows, AreTakers, AreAllTakers, SaysWhatTakes, SaysWhichAreWide, is_taker, takes_byte, has_wide, is_wide};
 
 use crate::scan::bits::{masks, with_bit};
 use crate::spot::Spot;
@@ -100,7 +100,7 @@ fn add_spot(takes: &mut [u64], bit: usize, spot: &Spot)
 fn add_spots(takes: &mut [u64], spots: &[Spot], of: &[usize])
     requires room { length takes.old ≡ 256 }
     requires few { length of.now ≤ 63 }
-    ensures { (i b : ℕ) → i < length of.now → takes_byte (spot_at spots.now (slice_index of.now i)) b ≡ true → HasBit (slice_index takes.new b) i }
+    ensures { SaysWhatTakes spots.now of.now takes.new }
 {
     for (i, place) in of.iter().enumerate() {
         if let Some(spot) = spots.get(*place) {
@@ -113,7 +113,7 @@ fn add_spots(takes: &mut [u64], spots: &[Spot], of: &[usize])
 pub fn takes(alloc: Global, spots: &[Spot], of: &[usize]) -> Result<Vec<u64>, NoMemory>
     requires { length of.now ≤ 63 }
     ensures room { IfOk result (λ takes. vec_len takes ≡ 256) }
-    ensures has { IfOk result (λ takes. (i b : ℕ) → i < length of.now → takes_byte (spot_at spots.now (slice_index of.now i)) b ≡ true → HasBit (slice_index takes.items b) i) }
+    ensures says { IfOk result (λ takes. SaysWhatTakes spots.now of.now takes.items) }
 {
     let mut takes = masks(alloc, 256)?;
     add_spots(&mut takes, spots, of);
@@ -140,7 +140,7 @@ fn is_wide(spots: &[Spot], place: usize) -> bool
 /// The bits of the spots that may take a character beyond ASCII.
 pub fn wide(spots: &[Spot], of: &[usize]) -> u64
     requires { length of.now ≤ 63 }
-    ensures { (i : ℕ) → i < length of.now → is_wide (spot_at spots.now (slice_index of.now i)) ≡ true → HasBit result i }
+    ensures { SaysWhichAreWide spots.now of.now result }
 {
     let mut mask = 0;
     for (i, place) in of.iter().enumerate() {
