@@ -24,6 +24,7 @@ mod RunsComputing
 mod RunsLemmas
 mod SameRangesLemmas
 mod ScanLemmas
+mod SkipLemmas
 mod SpotsLemmas
 mod StackLemmas
 mod StampsLemmas

@@ -111,3 +111,10 @@ all_places at place len n h = let k : n * (place - at) ≤ n * (len + 1 - at) = 
 pub places_more : (at place len n : ℕ) → at ≤ place → place ≤ len → (place - at) * n + n ≤ (len + 1 - at) * n
 places_more at place len n h k =
     let one = place_more at place n h in let all = all_places at (place + 1) len n (omega arith) in omega arith
+
+-- up to a later place there are more places
+pub places_to : (at place to n : ℕ) → at ≤ place → place + 1 ≤ to → (place - at) * n + n ≤ (to - at) * n
+places_to at place to n h k =
+    let one = place_more at place n h in let all = all_places at (place + 1) (to - 1) n (omega arith) in
+    let same : (to - 1) + 1 - at ≡ to - at = omega arith in
+    omega (arith, ap (λ m. m * n) same)

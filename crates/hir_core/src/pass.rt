@@ -1,13 +1,16 @@
 //! The pass of a search over a text, which keeps one run for each spot and byte.
 
-ghost use Rattle.std.specs.Prelude.{◌≡◌, ◌+◌, ◌-◌, ◌*◌, ◌≤◌, is_some, length, IfOk, ◌++◌};
+ghost use Rattle.std.specs.Prelude.{◌≡◌, ◌+◌, ◌-◌, ◌*◌, ◌≤◌, ℕ, List, [], None, is_some, length, IfOk, IfSome, IsTrue, ◌++◌};
 ghost use Rattle.std.specs.Option.{option_or};
 ghost use Rattle.hir_core.specs.Program.{ClosesFall};
+ghost use Rattle.hir_core.specs.Scan.{IsFilterOf};
 ghost use Rattle.sd_edge.specs.Steps.{TicksAtMost};
+ghost use Rattle.hir_core.specs.declared.spot.Spot.{Spot};
 ghost use Rattle.hir_core.specs.Pass.{stops_give, match_of, first_of, begins_unless, answer, first_from, best_of, best_in, AllLater, AllFrom, counted};
 
 use crate::closure::Closure;
 use crate::later::Later;
+use crate::scan::Scan;
 use crate::spot::Spot;
 use crate::trail::Trail;
 use sd_edge::{Ledger, NoMemory, Steps};
@@ -139,17 +142,60 @@ impl Pass {
         Ok(())
     }
 
-    /// The first run of the least place, from one on, at which a program gives a run. Refuses for want of memory alone.
+    /// Whether no thread is followed, and there is no match.
+    fn is_idle(&self) -> bool
+        ensures { IsTrue result → (self.now.threads ≡ []) × (best_in self.now.best ≡ None) }
+    {
+        self.threads.is_empty() && !self.best.is_some()
+    }
+
+    /// The place from which the search goes on that has come to a place: the filter may pass over some that have no match.
+    /// `looked` is how far the filter has looked, so that it goes over no part of the text again and again.
+    fn next_place(
+        &self,
+        filter: Option<&Scan>,
+        text: &[u8],
+        place: usize,
+        looked: &mut usize,
+    ) -> usize
+        requires from { AllFrom text.now place self.now.threads }
+        requires within { place ≤ length text.now + 1 }
+        ensures from { AllFrom text.now result self.now.threads }
+        ensures after { place ≤ result }
+        ensures within { result ≤ length text.now + 1 }
+        ensures answer { (spots : List Spot) (groups : ℕ) → IfSome filter.entry (λ f. IsFilterOf spots f.now)
+            → answer text.now spots groups result (stops_give text.now spots self.now.threads) (best_in self.now.best)
+            ≡ answer text.now spots groups place (stops_give text.now spots self.now.threads) (best_in self.now.best) }
+    {
+        let Some(filter) = filter else {
+            return place;
+        };
+        if place < *looked || place > text.len() || !self.is_idle() {
+            return place;
+        }
+        match filter.next(text, place) {
+            None => text.len() + 1,
+            Some(candidate) => {
+                *looked = candidate.until;
+                candidate.from
+            }
+        }
+    }
+
+    /// The first run of the least place, from one on, at which a program gives a run. A filter of the program makes the
+    /// search quicker. Refuses for want of memory alone.
     pub fn search<L: Ledger>(
         &mut self,
         alloc: Global,
         spots: &[Spot],
+        filter: Option<&Scan>,
         text: &[u8],
         at: usize,
         groups: u32,
         steps: &mut Steps<L>,
     ) -> Result<Option<Found>, NoMemory>
         requires falls { ClosesFall spots.now }
+        requires filters { IfSome filter (λ f. IsFilterOf spots.now f.now) }
         requires at { at ≤ length text.now }
         ensures found { IfOk result
             (λ found. best_of found ≡ first_from text.now spots.now groups (length text.now + 1 - at) at) }
@@ -157,13 +203,14 @@ impl Pass {
     {
         self.threads.clear();
         self.best.end = None;
-        let mut place = at;
+        let mut looked = at;
+        let mut place = self.next_place(filter, text, at, &mut looked);
         while place <= text.len() {
             self.round(spots, text, place, groups, steps)?;
             if self.threads.is_empty() && self.best.is_some() {
                 return Ok(self.best.take(alloc));
             }
-            place += 1;
+            place = self.next_place(filter, text, place + 1, &mut looked);
         }
         Ok(self.best.take(alloc))
     }

@@ -47,7 +47,7 @@ fn check(
     let spots = program(alloc, tree)?;
     let mut steps = Steps::new(Silent);
     assert!(rt; at <= text.len());
-    let found = pass.search(alloc, spots.as_slice(), text, at, groups, &mut steps)?;
+    let found = pass.search(alloc, spots.as_slice(), None, text, at, groups, &mut steps)?;
     match found {
         Some(found) => assert_eq!(rt; found.groups.as_slice(), wanted),
         None => assert!(rt; wanted.is_empty()),
@@ -128,7 +128,7 @@ fn visits_are_counted(rt: HostRuntime) -> Result<(), Fail> {
     let spots = program(alloc, &tree)?;
     let mut steps = Steps::new(Tally::default());
     let mut pass = Pass::new(alloc);
-    let found = pass.search(alloc, spots.as_slice(), b"xxxx", 0, 0, &mut steps)?;
+    let found = pass.search(alloc, spots.as_slice(), None, b"xxxx", 0, 0, &mut steps)?;
     assert!(rt; found.is_none());
     assert_eq!(rt; steps.into_ledger(), Tally { ticks: 15 });
     Ok(())

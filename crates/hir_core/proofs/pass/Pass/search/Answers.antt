@@ -4,7 +4,7 @@ use Rattle.std.proofs.lemmas.Bool.{eqb-true}
 use Rattle.sd_edge.proofs.StepsLemmas.{at_most_more, at_most_add}
 use Rattle.hir_core.specs.Pass.{best_in, counted}
 use Rattle.hir_core.proofs.RoundLemmas.{answer-over, answer-end}
-use Rattle.hir_core.proofs.VisitLemmas.{place_more, places_more, all_places}
+use Rattle.hir_core.proofs.VisitLemmas.{places_to, places_more, all_places}
 use Rattle.hir_core.proofs.pass.Pass.search.Goals as goal
 
 pub returns-in_err-round-clause-ticks : goal.returns-in_err-round-clause-ticks
@@ -29,14 +29,18 @@ returns-then-is_some g c =
     }
 
 pub loop-place-preserved : goal.loop-place-preserved
-loop-place-preserved g c = record {
-  from = c.in_ok-round.ensures.from;
-  answer = c.in_ok-round.ensures.answer ∙ c.loop-place.invariant.answer;
-  after = omega (arith, c.loop-place.invariant.after);
-  within = omega (arith, c.loop-place-test.true);
-  ticks =
-      at_most_more (place_more c.args.at c.loop-place.place (counted c.args.spots.now) c.loop-place.invariant.after) (at_most_add c.loop-place.invariant.ticks c.round.ensures.ticks);
-}
+loop-place-preserved g c =
+    let next = c.next_place-place-in-loop-place in
+    record {
+      from = next.ensures.from;
+      answer = next.ensures.answer c.args.spots.now c.args.groups c.requires.filters ∙ c.in_ok-round.ensures.answer ∙ c.loop-place.invariant.answer;
+      after = omega (arith, c.loop-place.invariant.after, next.ensures.after);
+      within = next.ensures.within;
+      ticks =
+          at_most_more
+          (places_to c.args.at c.loop-place.place next.result (counted c.args.spots.now) c.loop-place.invariant.after next.ensures.after)
+          (at_most_add c.loop-place.invariant.ticks c.round.ensures.ticks);
+    }
 
 pub returns : goal.returns
 returns g c =
