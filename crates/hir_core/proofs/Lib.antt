@@ -14,6 +14,7 @@ mod NumbersLemmas
 mod PassLemmas
 mod PlacedLemmas
 mod PlacingLemmas
+mod PlainTextLemmas
 mod ProgramLemmas
 mod PruningLemmas
 mod RangesLemmas

@@ -8,6 +8,7 @@ pub mod Laws
 pub mod Looks
 pub mod Masks
 pub mod Pass
+pub mod PlainText
 pub mod Program
 pub mod Ranges
 pub mod Rows

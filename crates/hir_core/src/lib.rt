@@ -26,6 +26,7 @@ mod list_tests;
 mod lists;
 mod look;
 mod pass;
+mod plain;
 mod range_laws;
 mod ranges;
 mod runs_examples;
@@ -57,6 +58,7 @@ pub use hir::{Group, Hir, Hirs, Repeat};
 pub use laws::characters_stand_beside_a_place;
 pub use lists::Bytes;
 pub use look::{Look, holds};
+pub use plain::{TextFinder, one_text_matches_where_it_stands, plain_text};
 pub use range_laws::a_set_has_one_list_of_ranges;
 pub use runs_examples::{
     groups_match_as_in_the_examples, repetitions_match_as_in_the_examples,
