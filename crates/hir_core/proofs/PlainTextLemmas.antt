@@ -1,29 +1,26 @@
--- What a core of one text matches.
-use Rattle.std.proofs.Common.{◌≡◌, ℕ, zero, suc, ◌+◌, ◌-◌, ◌<◌, ◌≤◌, Bool, true, false, cond, eqb, List, [], ◌∷◌, ◌++◌, length, map, drop, replicate, Option, Some, None, if◌then◌else◌, refl, sym, ap, ap₂, subst, ◌∙◌, true≢false, eq-eqb, length-append, drop-drop, arith}
-use Rattle.std.specs.Prelude.{◌==◌, ◌||◌, ◌&&◌, slice_get, slice_set, option_map, option_and_then}
+-- What a core of one text matches, and where the text is found.
+use Rattle.std.proofs.Common.{◌≡◌, ℕ, zero, suc, ◌+◌, ◌-◌, ◌<◌, ◌≤◌, Bool, true, false, cond, eqb, List, [], ◌∷◌, ◌++◌, length, map, take, drop, replicate, get_or, Option, Some, None, if◌then◌else◌, refl, sym, ap, ap₂, subst, ◌∙◌, add-one, append_assoc, length-append, length-drop, take_all, drop-cons, drop-drop, arith}
+use Rattle.std.specs.Prelude.{◌||◌, ◌&&◌, slice_get, slice_set, option_map}
 use Rattle.std.specs.List.{flat_map, starts_with}
-use Rattle.std.proofs.Math.Bool.{or-false}
-use Rattle.std.proofs.lemmas.Bool.{eqb-true, ne_eqb}
-use Rattle.std.proofs.lemmas.Bool.Decides.{nat_tests}
-use Rattle.std.proofs.lemmas.List.{append-nil, take_more}
+use Rattle.std.proofs.lemmas.Bool.{ne_eqb}
+use Rattle.std.proofs.lemmas.Bool.Decides.{Decides-eqb, nat_tests}
+use Rattle.std.proofs.lemmas.List.{append-nil, take_more, map-set}
 use Rattle.std.proofs.lemmas.Option.{none-some, same_Some, slice_get_within, get_or_from_slice_get}
-use Rattle.hir_core.specs.Core.{Core, empty, byte_in, pair, numbers, one_byte, literal, pair_all}
-use Rattle.hir_core.specs.Cores.{core_of, cores_of}
-use Rattle.hir_core.specs.Runs.{Run, Step, begin, moved, mark, is_seen, visit, in_set, byte_size, as_list, take_size, runs, first, preferred}
-use Rattle.hir_core.specs.PlainText.{joined, joined_all, text_of, texts_of, place_found, stands_at, text_groups, text_found}
-use Rattle.hir_core.specs.declared.hir.Hir.{Hir, Empty, Literal, ClassChars, ClassBytes, Look, Repetition', Capture', Concat', Alternation', Row_of-Hir, end_of-Hir, more_of-Hir}
-use Rattle.hir_core.specs.declared.hir.Hir.{items-the_row-Hir, items_hidden-the_row-Hir-0}
-use Rattle.hir_core.specs.declared.hir.Hir.TheBlock.{hidden-the_row-Hir-0}
-use Rattle.hir_core.specs.declared.hir.Hir.TheVariants.{Concat}
-use Rattle.hir_core.specs.declared.hir.Hirs.{Hirs}
-use Rattle.hir_core.specs.Found.{IsOfLeast}
+use Rattle.std.proofs.lemmas.Slice.Eq.{starts_is}
+use mathlib.Core.Former.{Count}
 use Rattle.memchr.specs.Find.{OccursAt, FindsNeedle}
 use Rattle.memchr.proofs.lemmas.MatchLemmas.{OccursAt-split, OccursAt-from_part}
 use Rattle.grep_matcher.specs.PlainLemmas.{text_fits}
-use Rattle.std.proofs.Common.{take, take_all, length-drop, get_or, add-one, drop-cons, append_assoc}
-use Rattle.std.proofs.lemmas.Slice.Eq.{starts_is}
-use Rattle.std.proofs.lemmas.Bool.Decides.{Decides-eqb}
-use mathlib.Core.Former.{Count}
+use Rattle.grep_matcher.specs.Span.{Span}
+use Rattle.hir_core.specs.Core.{Core, empty, pair, numbers, one_byte, literal, pair_all}
+use Rattle.hir_core.specs.Cores.{core_of, cores_of}
+use Rattle.hir_core.specs.Found.{IsOfLeast, span_of}
+use Rattle.hir_core.specs.PlainText.{joined, joined_all, text_of, texts_of, place_found, stands_at, text_groups, text_found}
+use Rattle.hir_core.specs.Runs.{Run, Step, begin, moved, mark, is_seen, visit, in_set, byte_size, as_list, take_size, runs, first, preferred}
+use Rattle.hir_core.specs.declared.hir.Hir.{Hir, Empty, Literal, ClassChars, ClassBytes, Look, Repetition', Capture', Concat', Alternation', Row_of-Hir, end_of-Hir, more_of-Hir, items-the_row-Hir, items_hidden-the_row-Hir-0}
+use Rattle.hir_core.specs.declared.hir.Hir.TheBlock.{hidden-the_row-Hir-0}
+use Rattle.hir_core.specs.declared.hir.Hir.TheVariants.{Concat}
+use Rattle.hir_core.specs.declared.hir.Hirs.{Hirs}
 use Rattle.hir_core.proofs.NumbersLemmas.{preferred-first}
 
 and-both : (a b c d : Bool) → b ≡ (c && d) → (a && b) ≡ ((a && c) && d)
@@ -279,3 +276,40 @@ module _ (text bytes rest : List ℕ) (from : ℕ) (cut : rest ≡ take (length 
         place-here text bytes (from + k) (rest-stands (from + k) (omega arith) ∙ ap (stands_at bytes rest) e ∙ occurs-stands rest bytes k found.1),
         (λ at low lt. rest-none at low (omega (arith, found.0.high, rest-length)) (found.0.before (at - from) (omega arith) (omega arith))),
       )
+
+-- the groups at a place, where the bytes stand there
+found-groups : (bytes : List ℕ) (groups : ℕ) (text : List ℕ) (at : ℕ) → text_found bytes groups text at ≡ option_map (text_groups bytes groups) (place_found bytes text at)
+found-groups bytes groups text at = cases (stands_at bytes text at)
+  where
+    cases : (b : Bool) → cond b (Some (text_groups bytes groups at)) None ≡ option_map (text_groups bytes groups) (cond b (Some at) None)
+    cases true = refl
+    cases false = refl
+
+-- the least place gives the groups of the least place
+pub groups-least : (bytes : List ℕ) (groups : ℕ) (text : List ℕ) (from to : ℕ) (r : Option ℕ) → IsOfLeast (place_found bytes text) from to r
+    → IsOfLeast (text_found bytes groups text) from to (option_map (text_groups bytes groups) r)
+groups-least bytes groups text from to None h = λ at low high. found-groups bytes groups text at ∙ ap (option_map (text_groups bytes groups)) (h at low high)
+groups-least bytes groups text from to (Some start) (least, low, high, here, before) = (
+  least,
+  low,
+  high,
+  found-groups bytes groups text least ∙ ap (option_map (text_groups bytes groups)) here,
+  (λ at l h. found-groups bytes groups text at ∙ ap (option_map (text_groups bytes groups)) (before at l h)),
+)
+
+unset-spans : (n : ℕ) → map span_of (replicate n None) ≡ replicate n None
+unset-spans zero = refl
+unset-spans (suc n) = ap (λ spans. None ∷ spans) (unset-spans n)
+
+-- the slots of as many groups, where the bytes are group 0
+abbrev whole : ℕ → ℕ → List ℕ → List (Option Span)
+whole n start bytes = slice_set (replicate n None) 0 (Some (record { start = start; end = start + length bytes }))
+
+-- those are the groups as slots hold them
+pub whole-spans : (bytes shown : List ℕ) (n start : ℕ) (slots : List (Option Span)) → 0 < n → shown ≡ bytes → slots ≡ whole n start shown
+    → slots ≡ map span_of (text_groups bytes (n - 1) start)
+whole-spans bytes shown n start slots some same set =
+    let all : n - 1 + 1 ≡ n = omega arith in
+    set
+    ∙ ap₂ (λ (m : ℕ) (b : List ℕ). whole m start b) (sym all) same
+    ∙ sym (map-set span_of (replicate (n - 1 + 1) None) 0 (Some (start, start + length bytes)) ∙ ap (λ spans. slice_set spans 0 (Some (record { start = start; end = start + length bytes }))) (unset-spans (n - 1 + 1)))

@@ -4,7 +4,8 @@
 //! [`spots`] tells how much it takes to search. [`Look`] names what a pattern asks of a place between two bytes of a
 //! text, and [`holds`] tells whether it holds there. `specs/Core.antt` says to what a pattern is written out,
 //! `specs/Cores.antt` to what a tree is, and `specs/Runs.antt` what that matches; its worked examples and laws are
-//! functions here. [`Slots`] hold the groups of a match.
+//! functions here. [`Slots`] hold the groups of a match. [`plain_text`] gives the bytes of a pattern that is one text, and
+//! [`TextFinder`] searches for them.
 #![tactic(auto)]
 
 mod build;

@@ -1,10 +1,10 @@
 //! Patterns that are one text, and the search for one.
 
-ghost use Rattle.std.specs.Prelude.{◌≡◌, ◌+◌, ◌≤◌, ◌++◌, length, map, option_map, IfOk, IfSome, OnOk, Some, None, if◌then◌else◌};
-ghost use Rattle.hir_core.specs.Found.{IsOfLeast};
-ghost use Rattle.hir_core.specs.PlainText.{OneTextMatchesWhereItStands, joined_all, place_found, text_of};
+ghost use Rattle.std.specs.Prelude.{◌≡◌, ◌+◌, ◌-◌, ◌<◌, ◌≤◌, ◌++◌, length, map, option_map, IfOk, IfSome, OnOk, Some, None, if◌then◌else◌};
+ghost use Rattle.hir_core.specs.Found.{IsFound, IsOfLeast};
+ghost use Rattle.hir_core.specs.PlainText.{OneTextMatchesWhereItStands, joined_all, place_found, text_found, text_of};
 
-use crate::{Bytes, Hir};
+use crate::{Bytes, Hir, Slots};
 use memchr::memmem::{Finder, FinderBuilder};
 use sd_edge::NoMemory;
 use std::alloc::Global;
@@ -104,6 +104,25 @@ impl TextFinder {
             Some(offset) => Some(at + offset),
         }
     }
+
+    /// Whether the bytes stand in a text at a place from one on. Then group 0 of the slots is the least such place, and all
+    /// other groups are unset; else all are.
+    pub fn search(&self, text: &[u8], at: usize, slots: &mut Slots) -> bool
+        requires { 0 < length slots.old }
+        ensures found { IsFound (text_found self.now (length slots.old - 1) text.now) at (length text.now) result slots.new }
+        ensures kept { length slots.new ≡ length slots.old }
+    {
+        match self.find(text, at) {
+            None => {
+                slots.unset_all();
+                false
+            }
+            Some(start) => {
+                slots.set_whole(start, start + self.bytes().len());
+                true
+            }
+        }
+    }
 }
 
 /// The preferred match of a pattern that is one text is that text, where it stands.
@@ -115,6 +134,7 @@ pub fn one_text_matches_where_it_stands()
 mod tests {
     use super::*;
     use crate::{ByteRanges, Group, Hirs, Repeat};
+    use grep_matcher::Match;
     use std::process::Abort;
     use std::test::Fail;
 
@@ -171,6 +191,19 @@ mod tests {
         assert_eq!(rt; finder.find(text, 10), None);
         assert_eq!(rt; finder.find(b"axbxa", 0), None);
         assert_eq!(rt; finder.find(b"", 0), None);
+        Ok(())
+    }
+
+    #[test]
+    fn slots_hold_the_place_of_the_text(rt: HostRuntime) -> Result<(), Fail> {
+        let finder = TextFinder::new(b"ab".to_vec(rt.alloc())?);
+        let mut slots = Slots::new(rt.alloc(), 1)?;
+        assert!(rt; finder.search(b"abxab", 1, &mut slots));
+        assert_eq!(rt; slots.get(0), Some(Match::new(3, 5)));
+        assert!(rt; slots.get(1).is_none());
+        assert!(rt; !finder.search(b"abxab", 4, &mut slots));
+        assert!(rt; slots.get(0).is_none());
+        assert_eq!(rt; slots.len(), 2);
         Ok(())
     }
 

@@ -1,6 +1,6 @@
 //! The groups of a match.
 
-ghost use Rattle.std.specs.Prelude.{◌≡◌, ◌+◌, length, map, replicate, slice_index_or, EachIndex, IfOk, None};
+ghost use Rattle.std.specs.Prelude.{◌≡◌, ◌+◌, ◌<◌, ◌≤◌, length, map, replicate, slice_index_or, slice_set, EachIndex, IfOk, None, Some};
 ghost use Rattle.grep_matcher.specs.Groups.{group_at};
 ghost use Rattle.hir_core.specs.Found.{IsInOrder, span_of};
 
@@ -55,6 +55,16 @@ impl Slots {
         for span in self.spans.iter_mut() {
             *span = None;
         }
+    }
+
+    /// Sets group 0 to a span, and unsets the others.
+    pub fn set_whole(&mut self, start: usize, end: usize)
+        requires some { 0 < length self.old }
+        requires order { start ≤ end }
+        ensures { self.new ≡ slice_set (replicate (length self.old) None) 0 (Some (record { start = start; end = end })) }
+    {
+        self.unset_all();
+        self.spans[0] = Some(Match::new(start, end));
     }
 
     /// Sets the slots to the spans of as many groups.

@@ -1,5 +1,4 @@
-use Rattle.std.proofs.Common.{sym, ap, ◌∙◌, ◌++◌, map, cond, option_map, Some, None, Ok}
-use Rattle.std.specs.Prelude.{IfOk}
+use Rattle.std.proofs.Common.{sym, ap, ◌∙◌, map}
 use Rattle.hir_core.specs.PlainText.{joined_all, text_of}
 use Rattle.hir_core.proofs.PlainTextLemmas.{text_concat}
 use Rattle.hir_core.proofs.plain.+plain.Goals as goal
