@@ -91,7 +91,7 @@ impl TextFinder {
         self.finder.needle()
     }
 
-    /// The least place of a text, from one on, where the bytes stand. No bytes stand at every place, also at the end.
+    /// The least place of a text, from one on, where the bytes stand. An empty text stands at every place, also at the end.
     pub fn find(&self, text: &[u8], at: usize) -> Option<usize>
         ensures least { IsOfLeast (place_found self.now text.now) at (length text.now) result }
         ensures fits { IfSome result (λ start. start + length self.now ≤ length text.now) }
