@@ -16,6 +16,7 @@ mod PlacedLemmas
 mod PlacingLemmas
 mod PlainTextLemmas
 mod ProgramLemmas
+mod ProgramVisitsLemmas
 mod PruningLemmas
 mod RangesLemmas
 mod ReachLemmas
@@ -25,7 +26,9 @@ mod RunsComputing
 mod RunsLemmas
 mod SameRangesLemmas
 mod ScanLemmas
+mod SearcherLemmas
 mod SkipLemmas
+mod SoundRunsLemmas
 mod SpotsLemmas
 mod StackLemmas
 mod StampsLemmas

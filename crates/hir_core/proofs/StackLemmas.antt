@@ -204,7 +204,7 @@ module _ (text : List ℕ) where
       cases None e = tt
       cases (Some k) e = (sound-on count w (w.run.at + k) [] (omega arith) ((within w.run.at k e).1) h, tt)
 
-  leads-sound : (count : ℕ) (s : Spot) (w : Way) → IsSound text count w → AllSound text count (leads text s w)
+  pub leads-sound : (count : ℕ) (s : Spot) (w : Way) → IsSound text count w → AllSound text count (leads text s w)
   leads-sound count (spot.Bytes set f) w h = past-sound count (byte_size set.items text) (byte_size-within set.items text) f w h
   leads-sound count (spot.Chars set f) w h = past-sound count (char_size set.items text) (char_size-within set.items text) f w h
   leads-sound count (spot.Look l f) w h = cases (holds l text w.run.at)

@@ -16,6 +16,7 @@ pub mod Runs
 pub mod RunsExamples
 pub mod RunsLaws
 pub mod Scan
+pub mod Searcher
 pub mod Sides
 pub mod Sound
 pub mod Spots

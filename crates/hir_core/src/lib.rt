@@ -4,8 +4,9 @@
 //! [`spots`] tells how much it takes to search. [`Look`] names what a pattern asks of a place between two bytes of a
 //! text, and [`holds`] tells whether it holds there. `specs/Core.antt` says to what a pattern is written out,
 //! `specs/Cores.antt` to what a tree is, and `specs/Runs.antt` what that matches; its worked examples and laws are
-//! functions here. [`Slots`] hold the groups of a match. [`plain_text`] gives the bytes of a pattern that is one text, and
 //! [`TextFinder`] searches for them.
+//! functions here. A [`Searcher`] finds a pattern's matches in texts, and [`Slots`] hold the groups of a match.
+//! functions here. [`Slots`] hold the groups of a match. [`plain_text`] gives the bytes of a pattern that is one text, and
 #![tactic(auto)]
 
 mod build;
@@ -33,6 +34,7 @@ mod ranges;
 mod runs_examples;
 mod runs_laws;
 mod scan;
+mod searcher;
 mod seen;
 mod set_size;
 mod side;
@@ -69,4 +71,5 @@ pub use runs_laws::{
     choices_join_runs, numbers_do_not_matter, preferred_is_the_first_run, rounds_are_not_cut_off,
     runs_go_forward,
 };
+pub use searcher::Searcher;
 pub use slots::Slots;
