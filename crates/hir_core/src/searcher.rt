@@ -86,3 +86,6 @@ impl Searcher {
         Ok(true)
     }
 }
+
+#[cfg(test)]
+mod tests;
