@@ -1,5 +1,6 @@
 -- Sets of spots as bits of a number, and spots that give nothing at a place.
 use Rattle.std.specs.Prelude.{◌≡◌, ℕ, ◌+◌, ◌*◌, ◌/◌, ◌%◌, ◌^◌, ◌<◌, ◌≤◌, Bool, true, false, ◌&&◌, nat_lt, List, [], ◌∷◌, ◌++◌, length, slice_index, slice_index_or, if◌then◌else◌}
+use native.Mathlib.Nat.{ℕ_set}
 use Rattle.std.specs.Int.{bit_at}
 use Rattle.std.specs.List.{list_any, Contains}
 use Rattle.hir_core.specs.Runs.{begin, in_set}
@@ -10,6 +11,11 @@ use Rattle.hir_core.specs.declared.spot.Spot.TheVariants as spot
 -- the bit is set
 unfoldable pub HasBit : ℕ → ℕ → Type 0
 HasBit mask i = bit_at mask i ≡ 1
+
+-- a bit is set in one way
+pub HasBit-prop : (mask i : ℕ) → IsProp (HasBit mask i)
+unfolding HasBit
+HasBit-prop mask i = ℕ_set (bit_at mask i) 1
 
 -- each bit of the one is set in the other
 abbrev pub IsPart : ℕ → ℕ → Type 0

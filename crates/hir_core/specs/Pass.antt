@@ -126,6 +126,10 @@ module _ (text : List ℕ) (spots : List Spot) where
   abbrev pub begins : ℕ → ℕ → List Run
   begins groups at = gives text spots 0 (way [] (begin at groups))
 
+  -- what the groups of the first of these runs hold
+  abbrev pub groups_found : ℕ → ℕ → Option (List (Option (ℕ × ℕ)))
+  groups_found groups at = option_map (λ r. r.groups) (first (begins groups at))
+
   -- the first run of the least of so many places, from this one on, that has a run
   abbrev pub first_from : ℕ → ℕ → ℕ → Option Run
   first_from groups zero at = None

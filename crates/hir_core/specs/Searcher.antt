@@ -1,12 +1,11 @@
 -- What a searcher finds at the places of a text, and what it takes.
-use Rattle.std.specs.Prelude.{ℕ, List, Option, option_map}
-use Rattle.hir_core.specs.Runs.{first}
-use Rattle.hir_core.specs.Pass.{begins, counted}
+use Rattle.std.specs.Prelude.{ℕ, List, Option}
+use Rattle.hir_core.specs.Pass.{counted, groups_found}
 use Rattle.hir_core.specs.declared.searcher.Searcher.{Searcher}
 
 -- the groups of the match from a place of a text: what those of the first run hold
 abbrev pub finds : Searcher → List ℕ → ℕ → Option (List (Option (ℕ × ℕ)))
-finds searcher text at = option_map (λ r. r.groups) (first (begins text searcher.spots.items searcher.groups at))
+finds searcher text at = groups_found text searcher.spots.items searcher.groups at
 
 -- the greatest index of a group
 abbrev pub last_group : Searcher → ℕ

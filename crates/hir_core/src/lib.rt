@@ -1,12 +1,11 @@
 //! Patterns as trees, and what they match.
 //!
-//! What stands so far are the tree of a pattern, the looks, and what a pattern matches. [`Hir`] is the tree, and
-//! [`spots`] tells how much it takes to search. [`Look`] names what a pattern asks of a place between two bytes of a
-//! text, and [`holds`] tells whether it holds there. `specs/Core.antt` says to what a pattern is written out,
-//! `specs/Cores.antt` to what a tree is, and `specs/Runs.antt` what that matches; its worked examples and laws are
-//! [`TextFinder`] searches for them.
-//! functions here. A [`Searcher`] finds a pattern's matches in texts, and [`Slots`] hold the groups of a match.
-//! functions here. [`Slots`] hold the groups of a match. [`plain_text`] gives the bytes of a pattern that is one text, and
+//! [`Hir`] is the tree of a pattern, and [`spots`] tells how much it takes to search. [`Look`] names what a pattern asks of a
+//! place between two bytes of a text, and [`holds`] tells whether it holds there. A [`Searcher`] finds a pattern's matches
+//! in texts, and [`Slots`] hold the groups of a match.
+//!
+//! `specs/Core.antt` says to what a pattern is written out, `specs/Cores.antt` to what a tree is, and `specs/Runs.antt` what
+//! that matches; its worked examples and laws are functions here.
 #![tactic(auto)]
 
 mod build;
@@ -61,7 +60,7 @@ pub use hir::{Group, Hir, Hirs, Repeat};
 pub use laws::characters_stand_beside_a_place;
 pub use lists::Bytes;
 pub use look::{Look, holds};
-pub use plain::{TextFinder, one_text_matches_where_it_stands, plain_text};
+pub use plain::one_text_matches_where_it_stands;
 pub use range_laws::a_set_has_one_list_of_ranges;
 pub use runs_examples::{
     groups_match_as_in_the_examples, repetitions_match_as_in_the_examples,

@@ -11,7 +11,7 @@ use std::alloc::Global;
 use std::marker::Model;
 
 /// The bytes of a pattern that is one text, or `None` where it is none. Refuses for want of memory alone.
-pub fn plain_text(alloc: Global, hir: &Hir) -> Result<Option<Vec<u8>>, NoMemory>
+fn plain_text(alloc: Global, hir: &Hir) -> Result<Option<Vec<u8>>, NoMemory>
     ensures { IfOk result (λ found. option_map (λ bytes. bytes.items) found ≡ text_of hir.now) }
 {
     let mut bytes = Vec::new(alloc);
@@ -75,6 +75,16 @@ impl Model for TextFinder {
 }
 
 impl TextFinder {
+    /// The search for the text that a pattern is, or `None` where it is none. Refuses for want of memory alone.
+    pub fn of_pattern(alloc: Global, hir: &Hir) -> Result<Option<TextFinder>, NoMemory>
+        ensures { IfOk result (λ found. found ≡ text_of hir.now) }
+    {
+        match plain_text(alloc, hir)? {
+            None => Ok(None),
+            Some(bytes) => Ok(Some(TextFinder::new(bytes))),
+        }
+    }
+
     /// The search for these bytes.
     pub fn new(bytes: Vec<u8>) -> TextFinder
         ensures { result ≡ bytes.items }

@@ -1,16 +1,22 @@
 //! Searching texts for a pattern.
 
-ghost use Rattle.std.specs.Prelude.{◌≡◌, ℕ, ◌+◌, ◌-◌, ◌*◌, ◌≤◌, List, length, replicate, None, IfOk, IfErr};
+ghost use Rattle.std.specs.Prelude.{◌≡◌, ℕ, ◌+◌, ◌-◌, ◌*◌, ◌≤◌, List, length, replicate, None, IfOk, IfErr, IfSome};
 ghost use Rattle.hir_core.specs.Cores.{core_of};
 ghost use Rattle.hir_core.specs.Found.{IsFound};
+ghost use Rattle.hir_core.specs.PlainText.{FindsText};
 ghost use Rattle.hir_core.specs.Program.{ClosesFall};
 ghost use Rattle.hir_core.specs.Runs.{preferred};
+ghost use Rattle.hir_core.specs.Masks.{HasBit-prop};
+ghost use Rattle.hir_core.specs.Scan.{IsFilterOf};
+ghost use Rattle.std.proofs.Props.{props};
 ghost use Rattle.hir_core.specs.Spots.{groups_of, spots_of};
 ghost use Rattle.sd_edge.specs.Steps.{TicksAtMost};
 
 use crate::build::build;
 use crate::compile::program;
 use crate::pass::Pass;
+use crate::plain::TextFinder;
+use crate::scan::Scan;
 use crate::spot::Spot;
 use crate::{Hir, Slots, group_count};
 use sd_edge::{Ledger, NoMemory, Silent, Steps};
@@ -25,7 +31,13 @@ pub struct Searcher {
     groups: u32,
     /// The pattern's program.
     spots: Vec<Spot>,
+    /// What rules out places of a text, if the program has few spots that take bytes.
+    filter: Option<Scan>,
+    /// The search for the text that the pattern is, if it is one.
+    text: Option<TextFinder>,
     ghost falls: { ClosesFall spots.items },
+    ghost filters: { IfSome filter (IsFilterOf spots.items) } by { Prim.hlevel (HasBit-prop, props) },
+    ghost is_text: { IfSome text (FindsText spots.items groups) } by { Prim.hlevel props },
 }
 
 impl Searcher {
@@ -40,10 +52,14 @@ impl Searcher {
     {
         let tree = build(alloc, hir)?;
         let spots = program(alloc, &tree)?;
+        let filter = Scan::new(alloc, &spots)?;
+        let text = TextFinder::of_pattern(alloc, hir)?;
         Ok(Searcher {
             alloc,
             groups: group_count(hir),
             spots,
+            filter,
+            text,
         })
     }
 
@@ -56,11 +72,20 @@ impl Searcher {
         ensures kept { length slots.new ≡ length slots.old }
         ensures refused { IfErr result (λ _. slots.new ≡ replicate (length slots.old) None) }
     {
-        self.search_at_steps(text, at, slots, &mut Steps::new(Silent))
+        match &self.text {
+            Some(finder) => Ok(finder.search(text, at, slots)),
+            None => self.search(
+                self.filter.as_ref(),
+                text,
+                at,
+                slots,
+                &mut Steps::new(Silent),
+            ),
+        }
     }
 
-    /// [`search_at`](Searcher::search_at), with a step for each visit of a spot that takes a byte or a character, looks, or
-    /// goes on both ways. At a place of the text each spot is visited once at most.
+    /// [`search_at`](Searcher::search_at) with counted steps: one for each visit of a spot that takes a byte or a character,
+    /// looks, or goes on both ways. At a place of the text each spot is visited once at most.
     pub fn search_at_steps<L: Ledger>(
         &self,
         text: &[u8],
@@ -73,13 +98,40 @@ impl Searcher {
         ensures found { IfOk result (λ found. IsFound (finds self.now text.now) at (length text.now) found slots.new) }
         ensures kept { length slots.new ≡ length slots.old }
         ensures refused { IfErr result (λ _. slots.new ≡ replicate (length slots.old) None) }
-        // a search that refuses takes no more either, which is to be said here once `Pass::search` says it
-        ensures ticks { IfOk result
-            (λ _. TicksAtMost L.noted ((length text.now + 1 - at) * visits self.now) steps.old steps.new) }
+        ensures ticks { TicksAtMost L.noted ((length text.now + 1 - at) * visits self.now) steps.old steps.new }
+    {
+        self.search(None, text, at, slots, steps)
+    }
+
+    /// The search in one pass over the text. Refuses for want of memory alone.
+    fn search<L: Ledger>(
+        &self,
+        filter: Option<&Scan>,
+        text: &[u8],
+        at: usize,
+        slots: &mut Slots,
+        steps: &mut Steps<L>,
+    ) -> Result<bool, NoMemory>
+        requires filters { IfSome filter (λ f. IsFilterOf self.now.spots.items f.now) }
+        requires within { at ≤ length text.now }
+        requires slots { length slots.old ≡ last_group self.now + 1 }
+        ensures found { IfOk result (λ found. IsFound (finds self.now text.now) at (length text.now) found slots.new) }
+        ensures kept { length slots.new ≡ length slots.old }
+        ensures refused { IfErr result (λ _. slots.new ≡ replicate (length slots.old) None) }
+        ensures ticks { TicksAtMost L.noted ((length text.now + 1 - at) * visits self.now) steps.old steps.new }
     {
         slots.unset_all();
         let mut pass = Pass::new(self.alloc);
-        let Some(found) = pass.search(self.alloc, &self.spots, text, at, self.groups, steps)? else {
+        let found = pass.search(
+            self.alloc,
+            &self.spots,
+            filter,
+            text,
+            at,
+            self.groups,
+            steps,
+        )?;
+        let Some(found) = found else {
             return Ok(false);
         };
         slots.set_all(&found.groups);
