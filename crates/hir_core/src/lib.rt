@@ -41,6 +41,8 @@ mod slots;
 mod spot;
 mod stack_search;
 #[cfg(test)]
+mod table_tests;
+#[cfg(test)]
 mod tests;
 mod trail;
 mod visited;

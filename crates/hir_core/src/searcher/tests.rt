@@ -1,7 +1,7 @@
 //! Searches for the patterns of small trees.
 
 use super::Searcher;
-use crate::{Bytes, Group, Hir, Hirs, Repeat, Slots, group_count};
+use crate::{Bytes, CharRanges, Group, Hir, Hirs, Repeat, Slots, group_count};
 use grep_matcher::Match;
 use sd_edge::{NoMemory, Steps, Tally};
 use std::alloc::Global;
@@ -194,5 +194,61 @@ fn visits_are_noted(rt: HostRuntime) -> Result<(), Fail> {
     assert!(rt; searcher.search_at_steps(b"aab", 0, &mut slots, &mut steps)?);
     let ticks = steps.into_ledger().ticks;
     assert!(rt; 0 < ticks && ticks <= 4, "{ticks}");
+    Ok(())
+}
+
+// `(?:x*)*y` has 6 spots, so at most 6 steps for each of the 200,001 places.
+#[test]
+fn nested_repetitions_take_six_steps_a_place(rt: HostRuntime) -> Result<(), Fail> {
+    let alloc = rt.alloc();
+    let inner = repeat(alloc, None, true, byte(alloc, b'x')?)?;
+    let outer = repeat(alloc, None, true, inner)?;
+    let hir = Hir::Concat(two(alloc, outer, byte(alloc, b'y')?)?);
+    let searcher = Searcher::new(alloc, &hir)?;
+    let mut slots = Slots::new(alloc, group_count(&hir))?;
+    let mut text = Vec::new(alloc);
+    text.resize(200_000, b'x')?;
+    let mut steps = Steps::new(Tally::default());
+    assert!(rt; !searcher.search_at_steps(&text, 0, &mut slots, &mut steps)?);
+    let ticks = steps.into_ledger().ticks;
+    assert!(rt; ticks <= 1_200_006, "{ticks}");
+    assert!(rt; !searcher.search_at(&text, 0, &mut slots)?);
+    Ok(())
+}
+
+// `((a)b)` with both groups under the index 1: what is set last stays, and that is the outer one.
+#[test]
+fn groups_under_one_index(rt: HostRuntime) -> Result<(), Fail> {
+    let alloc = rt.alloc();
+    let inner = group(alloc, 1, byte(alloc, b'a')?)?;
+    let outer = group(
+        alloc,
+        1,
+        Hir::Concat(two(alloc, inner, byte(alloc, b'b')?)?),
+    )?;
+    check(&rt, alloc, &outer, b"cab", 0, &[Some((1, 3)), Some((1, 3))])?;
+    Ok(())
+}
+
+// A pattern that matches nothing: a choice without parts.
+#[test]
+fn a_choice_without_parts_matches_nothing(rt: HostRuntime) -> Result<(), Fail> {
+    let alloc = rt.alloc();
+    let hir = Hir::Alternation(Hirs::new(alloc));
+    let (found, slots) = search(&rt, alloc, &hir, b"ab", 0)?;
+    assert!(rt; !found && slots.get(0).is_none());
+    Ok(())
+}
+
+// `[é]` on bytes that are no UTF-8: the character begins at 1.
+#[test]
+fn texts_that_are_no_utf8(rt: HostRuntime) -> Result<(), Fail> {
+    let alloc = rt.alloc();
+    let mut set = CharRanges::new(alloc);
+    set.add('é', 'é')?;
+    let hir = Hir::ClassChars(set);
+    check(&rt, alloc, &hir, b"\xc3\xc3\xa9\xa9", 0, &[Some((1, 3))])?;
+    let (found, _slots) = search(&rt, alloc, &hir, b"\xc3\xc3\xa9\xa9", 2)?;
+    assert!(rt; !found);
     Ok(())
 }
