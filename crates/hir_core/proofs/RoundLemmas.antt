@@ -1,11 +1,9 @@
 -- The threads of a place, followed one after another.
-use Rattle.std.proofs.Common.{◌≡◌, ℕ, zero, suc, ◌+◌, ◌-◌, ◌<◌, ◌≤◌, Bool, true, false, inl, inr, List, [], ◌∷◌, ◌++◌, length, map, Option, Some, None, refl, sym, ap, ◌∙◌, subst, true≢false, append-nil, append_assoc, add-one, arith}
+use Rattle.std.proofs.Common.{◌≡◌, ℕ, zero, suc, ◌+◌, ◌-◌, ◌<◌, ◌≤◌, Bool, true, false, inl, inr, List, [], ◌∷◌, ◌++◌, length, Option, Some, None, refl, sym, ap, ◌∙◌, subst, true≢false, append-nil, append_assoc, add-one, arith}
 use Rattle.std.specs.Prelude.{drop, slice_get, is_some}
 use Rattle.std.specs.Option.{option_or}
-use Rattle.std.specs.List.{flat_map}
 use Rattle.std.proofs.lemmas.Grind.{flat_map-append}
 use Rattle.hir_core.specs.Runs.{Run, begin}
-use Rattle.hir_core.specs.RunsLaws.{forget}
 use Rattle.hir_core.specs.Program.{way}
 use Rattle.hir_core.specs.Trails.{Stop}
 use Rattle.hir_core.specs.Pass.{first_of, some_run, stop_gives, stops_give, begins, begins_unless, first_from, answer, Spent, Followed, AllLater, AllFrom}

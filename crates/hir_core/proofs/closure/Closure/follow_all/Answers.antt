@@ -1,6 +1,6 @@
-use Rattle.std.proofs.Common.{◌≡◌, refl, ◌∙◌, arith, drop, length}
+use Rattle.std.proofs.Common.{refl, ◌∙◌}
 use Rattle.hir_core.specs.Trails.{way_of}
-use Rattle.hir_core.proofs.RoundLemmas.{threads_from, Rounds-at, Rounds-followed, Rounds-found, Rounds-end}
+use Rattle.hir_core.proofs.RoundLemmas.{threads_from, Rounds-followed, Rounds-found}
 use Rattle.hir_core.proofs.VisitLemmas.{CountsVisits-none, CountsVisits-add}
 use Rattle.hir_core.proofs.closure.Closure.follow_all.Goals as goal
 

@@ -1,5 +1,4 @@
 use Rattle.std.proofs.Common.{◌≡◌, subst, arith}
-use Rattle.hir_core.specs.Trails.{way_of}
 use Rattle.hir_core.specs.Pass.{some_run, stops_give, Spent, AllLater}
 use Rattle.hir_core.proofs.closure.Closure.follow_or_keep.Goals as goal
 
