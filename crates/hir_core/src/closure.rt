@@ -1,6 +1,6 @@
 //! The search of one place, which visits each spot once.
 
-ghost use Rattle.std.specs.Prelude.{◌≡◌, ◌+◌, ◌^◌, ◌≤◌, ◌<◌, ◌++◌, false, length, IfOk, IfSome};
+ghost use Rattle.std.specs.Prelude.{◌≡◌, ◌+◌, ◌^◌, ◌≤◌, ◌<◌, [], ◌++◌, false, length, IfOk, IfSome};
 ghost use Rattle.hir_core.specs.Program.{ClosesFall, spot_at};
 ghost use Rattle.hir_core.specs.Trails.{way_of, stops_of};
 ghost use Rattle.sd_edge.specs.Steps.{IsTicked};
@@ -85,7 +85,10 @@ pub struct Closure {
 
 impl Closure {
     /// A search with empty lists.
-    pub fn new(alloc: Global) -> Closure {
+    pub fn new(alloc: Global) -> Closure
+        ensures visited { result.visited ≡ [] }
+        ensures later { result.later ≡ [] }
+    {
         Closure {
             trail: Trail::new(alloc),
             visited: Visited::new(alloc),

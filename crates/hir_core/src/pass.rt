@@ -78,7 +78,10 @@ pub struct Pass {
 
 impl Pass {
     /// A pass with empty lists.
-    pub fn new(alloc: Global) -> Pass {
+    pub fn new(alloc: Global) -> Pass
+        ensures threads { result.threads ≡ [] }
+        ensures best { best_in result.best ≡ None }
+    {
         let groups = Vec::new(alloc);
         Pass {
             threads: Later::new(alloc),

@@ -54,7 +54,9 @@ fn set_group(groups: &mut Vec<Option<(usize, usize)>>, index: usize, group: Opti
 
 impl Trail {
     /// A trail with empty lists.
-    pub fn new(alloc: Global) -> Trail {
+    pub fn new(alloc: Global) -> Trail
+        ensures { stops_of result ≡ [] }
+    {
         Trail {
             at: 0,
             starts: Vec::new(alloc),

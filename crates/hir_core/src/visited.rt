@@ -1,6 +1,6 @@
 //! Which spots were visited at a place.
 
-ghost use Rattle.std.specs.Prelude.{◌≡◌, ◌<◌, false, true, length, replicate, slice_set, IfOk};
+ghost use Rattle.std.specs.Prelude.{◌≡◌, ◌<◌, [], false, true, length, replicate, slice_set, IfOk};
 ghost use Rattle.hir_core.specs.Pass.{was_visited};
 
 use sd_edge::NoMemory;
@@ -31,7 +31,9 @@ impl Model for Visited {
 
 impl Visited {
     /// No spots.
-    pub fn new(alloc: Global) -> Visited {
+    pub fn new(alloc: Global) -> Visited
+        ensures { result ≡ [] }
+    {
         Visited {
             stamps: Vec::new(alloc),
             stamp: 0,
