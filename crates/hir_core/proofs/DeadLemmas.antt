@@ -1,18 +1,17 @@
 -- Spots that give nothing at a place.
-use Rattle.std.proofs.Common.{◌≡◌, ℕ, zero, suc, ◌+◌, ◌*◌, ◌/◌, ◌%◌, ◌<◌, ◌≤◌, Bool, true, false, ◌⊎◌, inl, inr, List, [], ◌∷◌, ◌++◌, length, drop, slice_index, Option, Some, None, if◌then◌else◌, refl, sym, ap, ap₂, ◌∙◌, subst, true≢false, append-nil, arith, encode_utf8, get_or-drop, length-drop}
+use Rattle.std.proofs.Common.{◌≡◌, ℕ, zero, suc, ◌+◌, ◌*◌, ◌/◌, ◌%◌, ◌<◌, ◌≤◌, Bool, true, false, ◌⊎◌, inl, inr, List, [], ◌∷◌, ◌++◌, length, drop, slice_index, Option, Some, None, if◌then◌else◌, refl, sym, ap, ap₂, ◌∙◌, subst, true≢false, append-nil, arith, get_or-drop, length-drop}
 use Rattle.std.specs.Prelude.{◌&&◌, ◌||◌, nat_le, nat_lt, option_map}
-use Rattle.std.specs.List.{flat_map, list_any, Contains}
+use Rattle.std.specs.List.{flat_map, Contains}
 use Rattle.std.proofs.lemmas.Bool.{cases_eq, cases_lt, or_left, or_right}
 use Rattle.std.proofs.lemmas.Bool.Decides.{nat_tests}
-use Rattle.std.proofs.lemmas.Option.{slice_get_within, get_or_from_slice_get, none-some, same_Some}
+use Rattle.std.proofs.lemmas.Option.{get_or_from_slice_get, none-some, same_Some}
 use Rattle.std.proofs.lemmas.Str.{encode_ascii}
 use Rattle.bstr.specs.Utf8.{Decoded, decoded}
 use Rattle.bstr.proofs.lemmas.PieceLemmas.{value-1}
 use Rattle.bstr.proofs.lemmas.SoundLemmas.{SpellsChar-decoded}
-use Rattle.hir_core.specs.Looks.{holds}
 use Rattle.hir_core.specs.Sides.{byte_after, char_after}
-use Rattle.hir_core.specs.Runs.{Run, begin, moved, mark, is_seen, in_set, size_in, byte_size, char_size, as_list, take_size}
-use Rattle.hir_core.specs.Program.{Way, way, marked, opened, closed, spot_at, is_unmarked, follow, visit_as, gives_within, gives, rank}
+use Rattle.hir_core.specs.Runs.{Run, begin, moved, mark, in_set, size_in, byte_size, char_size, as_list, take_size}
+use Rattle.hir_core.specs.Program.{Way, way, marked, opened, closed, spot_at, visit_as, gives_within, gives, rank}
 use Rattle.hir_core.specs.Masks.{HasBit, IsPart, Grows, match_bit, is_taker, next_of, takes_byte, has_wide, is_wide, ways_on, is_reached, IsClosed, IsDead, AreDead, Covers, NoRun, AreAllTakers}
 use Rattle.hir_core.specs.declared.spot.Spot.{Spot}
 use Rattle.hir_core.specs.declared.spot.Spot.TheVariants as spot

@@ -1,5 +1,5 @@
 -- What a filter has looked at of a text.
-use Rattle.std.proofs.Common.{◌≡◌, ℕ, ◌+◌, ◌*◌, ◌/◌, ◌%◌, ◌^◌, ◌<◌, ◌≤◌, Bool, true, false, ◌⊎◌, inl, inr, List, length, slice_index, slice_index_or, bit_and, bit_or, refl, sym, ap, ◌∙◌, subst, arith}
+use Rattle.std.proofs.Common.{◌≡◌, ℕ, ◌+◌, ◌*◌, ◌/◌, ◌%◌, ◌^◌, ◌<◌, ◌≤◌, Bool, true, false, ◌⊎◌, inl, inr, List, length, slice_index, slice_index_or, bit_and, bit_or, refl, sym, subst, arith}
 use Rattle.std.proofs.lemmas.Bool.{cases_lt}
 use Rattle.std.proofs.lemmas.Option.{slice_get_read, get_or_from_slice_get}
 use Rattle.hir_core.specs.Program.{spot_at}
@@ -8,7 +8,7 @@ use Rattle.hir_core.specs.Scan.{IsFilterOf}
 use Rattle.hir_core.specs.declared.spot.Spot.{Spot}
 use Rattle.hir_core.specs.declared.scan.Scan.{Scan}
 use Rattle.hir_core.proofs.MaskLemmas.{HasBit-none, HasBit-above, HasBit-or_left, HasBit-or_right, HasBit-and, HasBit-eight}
-use Rattle.hir_core.proofs.DeadLemmas.{AreDead-part, spot_size, IsDead-taker, spot_size-within, one_byte, NoRun-dead}
+use Rattle.hir_core.proofs.DeadLemmas.{AreDead-part, IsDead-taker, spot_size-within, one_byte, NoRun-dead}
 
 -- What the filter has looked at: no run begins before `from`, and none that begins from there on, unless a spot of the state
 -- gives something at the place.

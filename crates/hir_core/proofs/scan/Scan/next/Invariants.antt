@@ -1,4 +1,4 @@
-use Rattle.std.proofs.Common.{ℕ, ◌-◌, length}
+use Rattle.std.proofs.Common.{◌-◌, length}
 use Rattle.hir_core.proofs.ScanLemmas.{Looked}
 use Rattle.hir_core.proofs.scan.Scan.next.Given as goal
 

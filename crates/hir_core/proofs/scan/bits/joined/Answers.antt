@@ -1,4 +1,4 @@
-use Rattle.std.proofs.Common.{ℕ, ◌+◌, ◌*◌, inl, inr, bit_or, get_or, ◌%◌, ap, arith}
+use Rattle.std.proofs.Common.{◌+◌, inl, inr, arith}
 use Rattle.hir_core.proofs.MaskLemmas.{Joins-begin, Joins-next, Joins-end}
 use Rattle.hir_core.proofs.scan.bits.joined.Goals as goal
 

@@ -1,4 +1,4 @@
-use Rattle.std.proofs.Common.{◌≡◌, ℕ, true, false, slice_index, sym, ap, ◌∙◌, subst, true≢false}
+use Rattle.std.proofs.Common.{slice_index, sym, ap, ◌∙◌, true≢false}
 use Rattle.hir_core.specs.Masks.{is_reached}
 use Rattle.hir_core.proofs.DeadLemmas.{Covers-reached}
 use Rattle.hir_core.proofs.scan.reach.mask_from.Goals as goal
