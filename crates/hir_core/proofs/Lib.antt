@@ -32,7 +32,6 @@ mod SoundRunsLemmas
 mod SpotsLemmas
 mod StackLemmas
 mod StampsLemmas
-mod TakesLemmas
 mod TicksLemmas
 mod TrailLemmas
 mod TurnLemmas
