@@ -1,10 +1,10 @@
 -- Places that a search passes over, since none of them has a run.
-use Rattle.std.proofs.Common.{◌≡◌, ℕ, zero, suc, ◌+◌, ◌-◌, ◌<◌, ◌≤◌, List, [], ◌∷◌, length, Option, Some, None, refl, sym, ap, ◌∙◌, arith}
+use Rattle.std.proofs.Common.{◌≡◌, ℕ, zero, suc, ◌+◌, ◌-◌, ◌≤◌, List, [], length, Option, None, sym, ap, ◌∙◌, arith}
 use Rattle.std.specs.Option.{option_or}
 use Rattle.hir_core.specs.Runs.{Run}
 use Rattle.hir_core.specs.Masks.{NoRun}
 use Rattle.hir_core.specs.Trails.{Stop}
-use Rattle.hir_core.specs.Pass.{first_of, first_from, begins, answer, stops_give}
+use Rattle.hir_core.specs.Pass.{first_of, first_from, answer, stops_give}
 use Rattle.hir_core.specs.declared.spot.Spot.{Spot}
 
 module _ (text : List ℕ) (spots : List Spot) (groups : ℕ) where
