@@ -132,6 +132,7 @@ fn compare(
     let mut slots = Slots::new(alloc, groups)?;
     let mut matching: usize = 0;
     for text in texts {
+        assert!(rt; wanted.len() > 0 && slots.len() == groups as usize + 1);
         let is_found = stack_search::search_at(alloc, &spots, text, 0, &mut wanted)?;
         assert_eq!(rt;
             searcher.search_at(text, 0, &mut slots)?,
