@@ -197,22 +197,33 @@ fn visits_are_noted(rt: HostRuntime) -> Result<(), Fail> {
     Ok(())
 }
 
+/// `(?:x*)*y`
+fn nested(alloc: Global) -> Result<Hir, NoMemory> {
+    let inner = repeat(alloc, None, true, byte(alloc, b'x')?)?;
+    let outer = repeat(alloc, None, true, inner)?;
+    Ok(Hir::Concat(two(alloc, outer, byte(alloc, b'y')?)?))
+}
+
+/// Whether a search finds a match, and how many steps it notes.
+fn steps_of(alloc: Global, hir: &Hir, text: &[u8]) -> Result<(bool, u64), NoMemory> {
+    let searcher = Searcher::new(alloc, hir)?;
+    let mut slots = Slots::new(alloc, group_count(hir))?;
+    let mut steps = Steps::new(Tally::default());
+    let found = searcher.search_at_steps(text, 0, &mut slots, &mut steps)?;
+    Ok((found, steps.into_ledger().ticks))
+}
+
 // `(?:x*)*y` has 6 spots, so at most 6 steps for each of the 200,001 places.
 #[test]
 fn nested_repetitions_take_six_steps_a_place(rt: HostRuntime) -> Result<(), Fail> {
     let alloc = rt.alloc();
-    let inner = repeat(alloc, None, true, byte(alloc, b'x')?)?;
-    let outer = repeat(alloc, None, true, inner)?;
-    let hir = Hir::Concat(two(alloc, outer, byte(alloc, b'y')?)?);
-    let searcher = Searcher::new(alloc, &hir)?;
-    let mut slots = Slots::new(alloc, group_count(&hir))?;
+    let hir = nested(alloc)?;
     let mut text = Vec::new(alloc);
     text.resize(200_000, b'x')?;
-    let mut steps = Steps::new(Tally::default());
-    assert!(rt; !searcher.search_at_steps(&text, 0, &mut slots, &mut steps)?);
-    let ticks = steps.into_ledger().ticks;
-    assert!(rt; ticks <= 1_200_006, "{ticks}");
-    assert!(rt; !searcher.search_at(&text, 0, &mut slots)?);
+    let (found, ticks) = steps_of(alloc, &hir, &text)?;
+    assert!(rt; !found && ticks <= 1_200_006, "{ticks}");
+    let (found, _slots) = search(&rt, alloc, &hir, &text, 0)?;
+    assert!(rt; !found);
     Ok(())
 }
 
