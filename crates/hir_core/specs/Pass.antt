@@ -10,8 +10,10 @@ use Rattle.hir_core.specs.RunsLaws.{forget}
 use Rattle.hir_core.specs.Program.{spot_at, is_unmarked, Way, way, opened, closed, gives}
 use Rattle.hir_core.specs.declared.spot.Spot.{Spot}
 use Rattle.hir_core.specs.declared.spot.Spot.TheVariants as spot
-use Rattle.hir_core.specs.Trails.{Stop, way_of}
+use Rattle.hir_core.specs.Trails.{Stop, way_of, stops_on}
 use Rattle.hir_core.specs.declared.trail.Trail.{Trail}
+use Rattle.hir_core.specs.declared.closure.Turn.{Turn}
+use Rattle.hir_core.specs.declared.closure.Turn.TheVariants as turn
 use Rattle.hir_core.specs.declared.pass.Found.{Found}
 use Rattle.hir_core.specs.declared.pass.Best.{Best}
 
@@ -166,8 +168,8 @@ module _ (text : List ℕ) (spots : List Spot) where
       × (visited' ≡ visiting s p.0 visited)
       × ((s ≡ spot.Match) → ⊥)
 
-  -- one turn of a thread, after which it has this way: it is a match, or others come in its place
-  abbrev pub Turned : Bool → Stop → Way → List Bool → List Bool → List Stop → List Stop → List Stop → List Stop → Type 0
-  Turned false p w visited visited' stack stack' kept kept' = TurnedTo p visited visited' stack stack' kept kept'
-  Turned true p w visited visited' stack stack' kept kept' =
-      (w ≡ p.1) × (spot_at spots p.0 ≡ spot.Match) × (kept' ≡ kept) × (visited' ≡ visited)
+  -- one turn of a thread, after which the trail is this one: it is a match, or others come in its place
+  abbrev pub Turned : Turn → Stop → Trail → List Bool → List Bool → List Stop → List Stop → List Stop → Type 0
+  Turned (turn.On q) p trail visited visited' stack kept kept' = TurnedTo p visited visited' stack (stops_on q trail) kept kept'
+  Turned turn.Match p trail visited visited' stack kept kept' =
+      (way_of trail ≡ p.1) × (spot_at spots p.0 ≡ spot.Match) × (kept' ≡ kept) × (visited' ≡ visited)

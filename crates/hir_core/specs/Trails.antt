@@ -40,6 +40,11 @@ alternatives (frame.Ended i start before ∷ fs) w = alternatives fs (undone (fr
 abbrev pub stops_of : Trail → List Stop
 stops_of t = alternatives (reverse t.frames.items) (way_of t)
 
+-- the alternatives of a trail, before them the spot at which the thread goes on, if it does
+abbrev pub stops_on : Option ℕ → Trail → List Stop
+stops_on None t = stops_of t
+stops_on (Some q) t = (q, way_of t) ∷ stops_of t
+
 -- The search came back to the first of the old alternatives, by this way, or there was none.
 abbrev pub ComesBack : Option ℕ → List Stop → Way → List Stop → Type 0
 ComesBack None old w new = old ≡ []

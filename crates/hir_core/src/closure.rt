@@ -2,7 +2,7 @@
 
 ghost use Rattle.std.specs.Prelude.{◌≡◌, ◌+◌, ◌^◌, ◌≤◌, ◌<◌, [], ◌++◌, false, length, IfOk, IfSome};
 ghost use Rattle.hir_core.specs.Program.{ClosesFall, spot_at};
-ghost use Rattle.hir_core.specs.Trails.{way_of, stops_of};
+ghost use Rattle.hir_core.specs.Trails.{way_of, stops_of, stops_on};
 ghost use Rattle.sd_edge.specs.Steps.{IsTicked};
 ghost use Rattle.hir_core.specs.Pass.{leads, taken, some_run, match_of, stops_give, Spent, Turned, Followed, AllLater, AllFrom, stop_gives, was_visited, visiting, is_counted, visit_ticks, CountsVisits};
 
@@ -15,30 +15,40 @@ use crate::visited::Visited;
 use sd_edge::{Ledger, NoMemory, Steps};
 use std::alloc::Global;
 
-/// Puts what a spot leads to without a byte before the alternatives. Refuses for want of memory alone.
-fn lead(spot: &Spot, text: &[u8], trail: &mut Trail) -> Result<(), NoMemory>
+/// What one turn of a thread comes to.
+#[derive(Drop)]
+enum Turn {
+    /// The thread is a match.
+    Match,
+    /// The thread goes on at this spot, or else an alternative is tried.
+    On(Option<usize>),
+}
+
+/// The spot that a spot leads to without a byte, if there is one; a second one is put before the alternatives. Refuses for want
+/// of memory alone.
+fn lead(spot: &Spot, text: &[u8], trail: &mut Trail) -> Result<Option<usize>, NoMemory>
     requires { trail.old.at ≤ length text.now }
     ensures { IfOk result
-        (λ _. stops_of trail.new ≡ leads text.now spot.now (way_of trail.old) ++ stops_of trail.old) }
+        (λ on. stops_on on trail.new ≡ leads text.now spot.now (way_of trail.old) ++ stops_of trail.old) }
 {
     match spot {
         Spot::Look { look, next } => {
             if holds(*look, text, trail.at) {
-                trail.push(*next)?;
+                return Ok(Some(*next));
             }
+            Ok(None)
         }
-        Spot::Jump { next } => trail.push(*next)?,
+        Spot::Jump { next } => Ok(Some(*next)),
         Spot::Split { first, second } => {
             trail.push(*second)?;
-            trail.push(*first)?;
+            Ok(Some(*first))
         }
         Spot::Open { next } => {
             trail.open()?;
-            trail.push(*next)?;
+            Ok(Some(*next))
         }
-        _ => {}
+        _ => Ok(None),
     }
-    Ok(())
 }
 
 /// Keeps the thread of a trail, which goes on by so many bytes to another spot, if there are any. Refuses for want of memory
@@ -96,35 +106,34 @@ impl Closure {
         }
     }
 
-    /// Follows the thread to the spots that this one leads to at its place, and says whether it is a match. Refuses for want
-    /// of memory alone.
+    /// Follows the thread to the spots that this one leads to at its place, and says whether it is a match, or where it goes
+    /// on. Refuses for want of memory alone.
     fn turn<L: Ledger>(
         &mut self,
         spots: &[Spot],
         text: &[u8],
         spot: usize,
         steps: &mut Steps<L>,
-    ) -> Result<bool, NoMemory>
+    ) -> Result<Turn, NoMemory>
         requires room { length self.old.visited ≡ length spots.now }
         requires at { self.old.trail.at ≤ length text.now }
-        ensures turned { IfOk result (λ found. Turned text.now spots.now found (spot, way_of self.old.trail) (way_of self.new.trail)
-            self.old.visited self.new.visited (stops_of self.old.trail) (stops_of self.new.trail) self.old.later self.new.later) }
+        ensures turned { IfOk result (λ turn. Turned text.now spots.now turn (spot, way_of self.old.trail) self.new.trail
+            self.old.visited self.new.visited (stops_of self.old.trail) self.old.later self.new.later) }
         ensures visited { self.new.visited ≡ visiting (spot_at spots.now spot) spot self.old.visited }
         ensures ticks { IsTicked L.noted (visit_ticks (spot_at spots.now spot) (was_visited self.old.visited spot)) steps.old steps.new }
     {
         let Some(here) = spots.get(spot) else {
-            return Ok(false);
+            return Ok(Turn::On(None));
         };
         if let Spot::Match = here {
-            return Ok(true);
+            return Ok(Turn::Match);
         }
         if let Spot::Close { index, next } = here {
             self.trail.close(*index)?;
-            self.trail.push(*next)?;
-            return Ok(false);
+            return Ok(Turn::On(Some(*next)));
         }
         if self.visited.has(spot) {
-            return Ok(false);
+            return Ok(Turn::On(None));
         }
         self.visited.add(spot);
         count(here, steps);
@@ -133,14 +142,15 @@ impl Closure {
             Spot::Bytes { set, next } => {
                 let size = byte_size(set, text, at);
                 keep(size, *next, &self.trail, &mut self.later)?;
+                Ok(Turn::On(None))
             }
             Spot::Chars { set, next } => {
                 let size = char_size(set, text, at);
                 keep(size, *next, &self.trail, &mut self.later)?;
+                Ok(Turn::On(None))
             }
-            _ => lead(here, text, &mut self.trail)?,
+            _ => Ok(Turn::On(lead(here, text, &mut self.trail)?)),
         }
-        Ok(false)
     }
 
     /// Follows the thread from a spot until what it leads to takes bytes, or is a match, and says whether it is one: the
@@ -163,10 +173,12 @@ impl Closure {
         ensures room { length self.new.visited ≡ length self.old.visited }
         ensures ticks { CountsVisits L.noted spots.now self.old.visited self.new.visited steps.old steps.new }
     {
-        self.trail.start(spot)?;
-        while let Some(next) = self.trail.next()? {
-            if self.turn(spots, text, next, steps)? {
-                return Ok(true);
+        self.trail.clear();
+        let mut on = Some(spot);
+        while let Some(here) = self.trail.next(on)? {
+            match self.turn(spots, text, here, steps)? {
+                Turn::Match => return Ok(true),
+                Turn::On(next) => on = next,
             }
         }
         Ok(false)

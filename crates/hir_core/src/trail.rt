@@ -3,7 +3,7 @@
 ghost use Rattle.std.specs.Prelude.{◌≡◌, ℕ, ◌∷◌, [], IfOk, None, slice_index_or, slice_set};
 ghost use Rattle.hir_core.specs.Program.{opened, closed, way};
 ghost use Rattle.hir_core.specs.Runs as runs;
-ghost use Rattle.hir_core.specs.Trails.{way_of, stops_of, undone, ComesBack};
+ghost use Rattle.hir_core.specs.Trails.{way_of, stops_of, stops_on, undone, ComesBack};
 
 use sd_edge::NoMemory;
 use std::alloc::Global;
@@ -76,14 +76,12 @@ impl Trail {
         Ok(())
     }
 
-    /// Drops the alternatives, so that this spot alone is to be tried. Refuses for want of memory alone.
-    pub fn start(&mut self, spot: usize) -> Result<(), NoMemory>
+    /// Drops the alternatives.
+    pub fn clear(&mut self)
         ensures way { way_of self.new ≡ way_of self.old }
-        ensures stops { IfOk result (λ _. stops_of self.new ≡ (spot, way_of self.old) ∷ []) }
+        ensures stops { stops_of self.new ≡ [] }
     {
         self.frames.clear();
-        self.frames.push(Frame::Try(spot))?;
-        Ok(())
     }
 
     /// A spot is to be tried before the alternatives. Refuses for want of memory alone.
@@ -145,10 +143,14 @@ impl Trail {
         Ok(())
     }
 
-    /// Comes back to the last alternative, and gives its spot. Refuses for want of memory alone.
-    pub fn next(&mut self) -> Result<Option<usize>, NoMemory>
-        ensures { IfOk result (λ next. ComesBack next (stops_of self.old) (way_of self.new) (stops_of self.new)) }
+    /// Gives the spot at which the thread goes on, if there is one, or else comes back to the last alternative, and gives its
+    /// spot. Refuses for want of memory alone.
+    pub fn next(&mut self, on: Option<usize>) -> Result<Option<usize>, NoMemory>
+        ensures { IfOk result (λ next. ComesBack next (stops_on on self.old) (way_of self.new) (stops_of self.new)) }
     {
+        if on.is_some() {
+            return Ok(on);
+        }
         while let Some(frame) = self.frames.pop() {
             if let Frame::Try(spot) = frame {
                 return Ok(Some(spot));
