@@ -3,11 +3,11 @@
 ghost use Rattle.std.specs.Prelude.{◌≡◌, ◌↔◌, ◌⊎◌, ◌+◌, [], ◌∷◌, ◌++◌, Bool, List, All, length, IfOk};
 ghost use Rattle.glob_match.specs.Places.{IsUnion, IsNowhere, IsOfPlaces};
 ghost use Rattle.glob_match.specs.Braces.{IsOpened, IsPlain, IsParted, IsClosed};
-ghost use Rattle.sd_edge.specs.Steps.{IsTicked};
+ghost use Rattle.sd_base.specs.Steps.{IsTicked};
 
 use crate::piece::{Piece, Single};
 use crate::places::after_piece;
-use sd_edge::{Ledger, NoMemory, Steps};
+use sd_base::{Ledger, NoMemory, Steps};
 use std::alloc::Global;
 use std::marker::Model;
 

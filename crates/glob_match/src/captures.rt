@@ -6,7 +6,7 @@ ghost use Rattle.glob_match.specs.Captures.{GlobCaptures, GlobRanges, AreBytePla
 
 use crate::parse::{after_signs, read};
 use crate::walk::{Capture, captures_of};
-use sd_edge::NoMemory;
+use sd_base::NoMemory;
 use std::alloc::Global;
 use std::ops::Range;
 

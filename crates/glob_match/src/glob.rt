@@ -3,12 +3,12 @@
 ghost use Rattle.std.specs.Prelude.{◌≡◌, ◌↔◌, ◌+◌, ◌*◌, chars, length, IfOk, IsTrue, MatchOption, None};
 ghost use Rattle.glob_match.specs.Reading.{pieces_of};
 ghost use Rattle.glob_match.specs.Takes.{Fits};
-ghost use Rattle.sd_edge.specs.Steps.{TicksAtMost};
+ghost use Rattle.sd_base.specs.Steps.{TicksAtMost};
 
 use crate::matching::places_after;
 use crate::parse::{after_signs, read};
 use crate::piece::Token;
-use sd_edge::{Ledger, NoMemory, Silent, Steps};
+use sd_base::{Ledger, NoMemory, Silent, Steps};
 use std::alloc::Global;
 use std::marker::Model;
 

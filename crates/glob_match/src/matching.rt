@@ -6,13 +6,13 @@ ghost use Rattle.glob_match.specs.Reading.{pieces_of_tokens};
 ghost use Rattle.glob_match.specs.Places.{IsOfPlaces, IsReached};
 ghost use Rattle.glob_match.specs.Braces.{IsTokenStep};
 ghost use Rattle.glob_match.specs.Takes.{Fits};
-ghost use Rattle.sd_edge.specs.Steps.{TicksAtMost};
+ghost use Rattle.sd_base.specs.Steps.{TicksAtMost};
 
 use crate::braces::{Brace, close_brace, open_brace, part_brace};
 use crate::glob::Glob;
 use crate::piece::Token;
 use crate::places::{after_piece, start_alone};
-use sd_edge::{Ledger, NoMemory, Silent, Steps};
+use sd_base::{Ledger, NoMemory, Silent, Steps};
 use std::alloc::Global;
 
 /// Turns the places reached and the open braces into those after one more token.
@@ -90,7 +90,7 @@ pub fn glob_match_steps<L: Ledger>(
 #[cfg(test)]
 mod tests {
     use super::*;
-    use sd_edge::Tally;
+    use sd_base::Tally;
     use std::test::Fail;
 
     #[test]

@@ -15,7 +15,7 @@ ghost use Rattle.glob_match.specs.declared.piece.Piece.TheVariants as piece;
 use crate::braces::{Brace, nowhere, open_brace};
 use crate::piece::{Piece, Single, Token};
 use crate::places::{is_after_separator, is_separator, takes_at};
-use sd_edge::{NoMemory, Silent, Steps};
+use sd_base::{NoMemory, Silent, Steps};
 use std::alloc::Global;
 use std::marker::Model;
 

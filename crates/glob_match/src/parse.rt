@@ -6,7 +6,7 @@ ghost use Rattle.glob_match.specs.Pieces.{Pieces};
 ghost use Rattle.glob_match.specs.Reading.{escape, symbols_after, is_sign, character_of, ranges_of, class_at, star_at, star_tails, token_at, tokens_from, found, class_body, pieces_of_tokens, pieces_of_symbols, is_odd, negations};
 
 use crate::piece::{CharacterRange, Found, Piece, Ranges, Single, Symbol, Token};
-use sd_edge::NoMemory;
+use sd_base::NoMemory;
 use std::alloc::Global;
 
 /// What a character stands for after a backslash.

@@ -4,10 +4,10 @@ ghost use Rattle.std.specs.Prelude.{◌≡◌, ◌≢◌, ◌+◌, ◌-◌, ◌<
 ghost use Rattle.glob_match.specs.Takes.{IsInClass, IsInRanges, IsAfterSeparator, TakesOne};
 ghost use Rattle.glob_match.specs.Places.{IsStartAlone, IsStep, TakesAt};
 ghost use Rattle.glob_match.specs.declared.piece.Piece.TheVariants as piece;
-ghost use Rattle.sd_edge.specs.Steps.{IsTicked};
+ghost use Rattle.sd_base.specs.Steps.{IsTicked};
 
 use crate::piece::{Piece, Single};
-use sd_edge::{Ledger, NoMemory, Steps};
+use sd_base::{Ledger, NoMemory, Steps};
 use std::alloc::Global;
 
 /// The set of places that holds the start of a path alone.

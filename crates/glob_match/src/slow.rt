@@ -1,7 +1,7 @@
 //! Globs matched slowly, for the tests: a sign of a glob tries each end to which it may take a path, and goes on with
 //! the signs after it. Reads globs without backslashes, and classes without ranges.
 
-use sd_edge::NoMemory;
+use sd_base::NoMemory;
 use std::alloc::Global;
 
 /// A sign of a glob.

@@ -15,7 +15,7 @@ ghost use Rattle.glob_match.specs.declared.piece.Single.{Single};
 use crate::onward::{PlaceSet, onward_sets};
 use crate::piece::{Piece, Single, Token};
 use crate::places::{is_after_separator, is_separator};
-use sd_edge::NoMemory;
+use sd_base::NoMemory;
 use std::alloc::Global;
 
 /// A part of a path, from one place between its characters to another.

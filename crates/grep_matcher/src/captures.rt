@@ -9,7 +9,7 @@ ghost use Rattle.grep_matcher.specs.References.{Answers, LieIn, expand, group_te
 
 use crate::references::interpolate;
 use crate::span::Match;
-use sd_edge::NoMemory;
+use sd_base::NoMemory;
 
 /// The groups of a match, by their numbers. Group 0 is the whole match.
 ///

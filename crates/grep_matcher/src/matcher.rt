@@ -1,7 +1,7 @@
 //! Matchers: what finds spans in a haystack.
 
 ghost use Rattle.std.specs.Prelude.{◌≡◌, ◌⊎◌, ℕ, ◌≤◌, length, Option, Some, None, IfOk, IfErr, OnOk, OnErr, IfSome, Result, Ok, ◌++◌, drop, option_map, is_some, true, false, Bool, List, []};
-ghost use Rattle.sd_edge.specs.declared.fault.NoMemory.{NoMemory};
+ghost use Rattle.sd_base.specs.declared.no_memory.NoMemory.{NoMemory};
 ghost use Rattle.grep_matcher.specs.declared.line_match_kind.LineMatchKind.TheVariants.{Confirmed};
 ghost use Rattle.grep_matcher.specs.ByteSets.{is_in};
 ghost use Rattle.grep_matcher.specs.Callable.{TakesSpans, TakesCaptures, StaysCallable};
@@ -21,7 +21,7 @@ use crate::line_match_kind::LineMatchKind;
 use crate::line_terminator::LineTerminator;
 use crate::span::Match;
 use crate::visiting::{after, next_captures, next_member, put, put_rest};
-use sd_edge::NoMemory;
+use sd_base::NoMemory;
 use std::fmt::Display;
 
 /// What finds matches in a haystack of bytes.

@@ -9,7 +9,7 @@ ghost use Rattle.grep_matcher.specs.Replaced.{Extends};
 ghost use Rattle.grep_matcher.specs.Reached.{Reached};
 
 use memchr::memchr;
-use sd_edge::NoMemory;
+use sd_base::NoMemory;
 use std::str::from_utf8;
 
 /// A reference to a group at the front of a replacement text.

@@ -10,7 +10,7 @@ use crate::captures::Captures;
 use crate::fault::Fault;
 use crate::matcher::Matcher;
 use crate::span::Match;
-use sd_edge::NoMemory;
+use sd_base::NoMemory;
 
 /// The first span from a place on, but for the empty one at `skip`.
 pub(crate) fn next_member<M: Matcher>(

@@ -1,9 +1,9 @@
 -- Visits that are counted.
 use Rattle.std.proofs.Common.{◌≡◌, ℕ, zero, suc, ◌+◌, ◌-◌, ◌*◌, ◌≤◌, Bool, true, false, List, [], ◌∷◌, length, refl, sym, ap, ◌∙◌, arith, if◌then◌else◌}
 use Rattle.std.specs.Prelude.{◌&&◌, not, slice_set, replicate}
-use Rattle.sd_edge.specs.Steps.{IsTicked, TicksAtMost}
-use Rattle.sd_edge.specs.declared.steps.Steps.{Steps}
-use Rattle.sd_edge.proofs.StepsLemmas.{ticked_none, ticked_add, ticked_as, at_most}
+use Rattle.sd_base.specs.Steps.{IsTicked, TicksAtMost}
+use Rattle.sd_base.specs.declared.steps.Steps.{Steps}
+use Rattle.sd_base.proofs.StepsLemmas.{ticked_none, ticked_add, ticked_as, at_most}
 use Rattle.std.proofs.Math.Nat.{mul-le-mul_left}
 use Rattle.std.proofs.lemmas.List.Sums.{sum_by-cons}
 use Rattle.hir_core.specs.Program.{spot_at}

@@ -2,8 +2,8 @@
 use Rattle.std.specs.Prelude.{◌≡◌, ℕ, zero, suc, ◌+◌, ◌-◌, ◌<◌, ◌≤◌, Bool, true, false, not, ◌&&◌, ◌⊎◌, List, [], ◌∷◌, ◌++◌, length, map, Option, Some, None, if◌then◌else◌, slice_index_or, slice_set, option_map}
 use Rattle.std.specs.Option.{option_or}
 use Rattle.std.specs.List.{flat_map, sum_by, AllByRecursion}
-use Rattle.sd_edge.specs.Steps.{IsTicked}
-use Rattle.sd_edge.specs.declared.steps.Steps.{Steps}
+use Rattle.sd_base.specs.Steps.{IsTicked}
+use Rattle.sd_base.specs.declared.steps.Steps.{Steps}
 use Rattle.hir_core.specs.Looks.{holds}
 use Rattle.hir_core.specs.Runs.{Run, begin, moved, byte_size, char_size, first}
 use Rattle.hir_core.specs.RunsLaws.{forget}

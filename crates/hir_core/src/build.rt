@@ -7,7 +7,7 @@ ghost use Rattle.hir_core.specs.Cores.{core_of};
 
 use crate::core_tree::{CoreTree, Greed};
 use crate::{ByteRanges, Bytes, CharRanges, Hir};
-use sd_edge::NoMemory;
+use sd_base::NoMemory;
 use std::alloc::Global;
 
 /// The core of a pattern's tree, as a tree. Refuses for want of memory alone.

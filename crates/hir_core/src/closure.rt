@@ -3,7 +3,7 @@
 ghost use Rattle.std.specs.Prelude.{◌≡◌, ◌+◌, ◌^◌, ◌≤◌, ◌<◌, [], ◌++◌, false, length, IfOk, IfSome};
 ghost use Rattle.hir_core.specs.Program.{ClosesFall, spot_at};
 ghost use Rattle.hir_core.specs.Trails.{way_of, stops_of, stops_on};
-ghost use Rattle.sd_edge.specs.Steps.{IsTicked};
+ghost use Rattle.sd_base.specs.Steps.{IsTicked};
 ghost use Rattle.hir_core.specs.Pass.{leads, taken, some_run, match_of, stops_give, Spent, Turned, Followed, AllLater, AllFrom, stop_gives, was_visited, visiting, is_counted, visit_ticks, CountsVisits};
 
 use crate::later::Later;
@@ -12,7 +12,7 @@ use crate::set_size::{byte_size, char_size};
 use crate::spot::Spot;
 use crate::trail::Trail;
 use crate::visited::Visited;
-use sd_edge::{Ledger, NoMemory, Steps};
+use sd_base::{Ledger, NoMemory, Steps};
 use std::alloc::Global;
 
 /// What one turn of a thread comes to.

@@ -8,7 +8,7 @@ ghost use Rattle.hir_core.specs.Program.{ClosesFall};
 use crate::Look;
 use crate::core_tree::{CoreTree, Greed, size};
 use crate::spot::Spot;
-use sd_edge::NoMemory;
+use sd_base::NoMemory;
 use std::alloc::Global;
 
 /// Programs have fewer spots than this, since no memory holds more.

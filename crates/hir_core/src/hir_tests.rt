@@ -1,7 +1,7 @@
 //! What the trees of some patterns count up to.
 
 use crate::{ByteRanges, Bytes, CharRanges, Group, Hir, Hirs, Look, Repeat, group_count, spots};
-use sd_edge::{NoMemory, Text};
+use sd_base::{NoMemory, Text};
 use std::alloc::Global;
 use std::process::Abort;
 use std::test::Fail;

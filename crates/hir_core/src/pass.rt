@@ -4,7 +4,7 @@ ghost use Rattle.std.specs.Prelude.{◌≡◌, ◌+◌, ◌-◌, ◌*◌, ◌≤
 ghost use Rattle.std.specs.Option.{option_or};
 ghost use Rattle.hir_core.specs.Program.{ClosesFall};
 ghost use Rattle.hir_core.specs.Scan.{IsFilterOf};
-ghost use Rattle.sd_edge.specs.Steps.{TicksAtMost};
+ghost use Rattle.sd_base.specs.Steps.{TicksAtMost};
 ghost use Rattle.hir_core.specs.declared.spot.Spot.{Spot};
 ghost use Rattle.hir_core.specs.Pass.{stops_give, match_of, first_of, begins_unless, answer, first_from, best_of, best_in, AllLater, AllFrom, counted};
 
@@ -13,7 +13,7 @@ use crate::later::Later;
 use crate::scan::Scan;
 use crate::spot::Spot;
 use crate::trail::Trail;
-use sd_edge::{Ledger, NoMemory, Steps};
+use sd_base::{Ledger, NoMemory, Steps};
 use std::alloc::Global;
 use std::mem;
 

@@ -6,7 +6,7 @@ ghost use Rattle.hir_core.specs.PlainText.{OneTextMatchesWhereItStands, joined_a
 
 use crate::{Bytes, Hir, Slots};
 use memchr::memmem::{Finder, FinderBuilder};
-use sd_edge::NoMemory;
+use sd_base::NoMemory;
 use std::alloc::Global;
 use std::marker::Model;
 

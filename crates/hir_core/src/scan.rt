@@ -10,7 +10,7 @@ mod tests;
 
 use crate::spot::Spot;
 use bits::{MATCH, joined};
-use sd_edge::NoMemory;
+use sd_base::NoMemory;
 use std::alloc::Global;
 
 /// A filter: which places of a text may have a match. One bit for each spot that takes bytes.

@@ -10,7 +10,7 @@ ghost use Rattle.hir_core.specs.Masks.{HasBit-prop};
 ghost use Rattle.hir_core.specs.Scan.{IsFilterOf};
 ghost use Rattle.std.proofs.Props.{props};
 ghost use Rattle.hir_core.specs.Spots.{groups_of, spots_of};
-ghost use Rattle.sd_edge.specs.Steps.{TicksAtMost};
+ghost use Rattle.sd_base.specs.Steps.{TicksAtMost};
 
 use crate::build::build;
 use crate::compile::program;
@@ -19,7 +19,7 @@ use crate::plain::TextFinder;
 use crate::scan::Scan;
 use crate::spot::Spot;
 use crate::{Hir, Slots, group_count};
-use sd_edge::{Ledger, NoMemory, Silent, Steps};
+use sd_base::{Ledger, NoMemory, Silent, Steps};
 use std::alloc::Global;
 
 /// A pattern that was compiled for searching.

@@ -3,7 +3,7 @@
 ghost use Rattle.std.specs.Prelude.{◌≡◌, ℕ, ◌+◌, ◌<◌, ◌^◌, false, ◌||◌, ◌==◌, IfOk};
 ghost use Rattle.hir_core.specs.StackSearch.{has};
 
-use sd_edge::NoMemory;
+use sd_base::NoMemory;
 use std::alloc::Global;
 
 /// A set of spots, as a bit for each up to the greatest member.

@@ -5,7 +5,7 @@ ghost use Rattle.grep_matcher.specs.Groups.{group_at};
 ghost use Rattle.hir_core.specs.Found.{IsInOrder, span_of};
 
 use grep_matcher::Match;
-use sd_edge::NoMemory;
+use sd_base::NoMemory;
 use std::alloc::Global;
 use std::marker::Model;
 

@@ -16,7 +16,7 @@ use crate::seen::Seen;
 use crate::set_size::{byte_size, char_size};
 use crate::slots::Slots;
 use crate::spot::Spot;
-use sd_edge::NoMemory;
+use sd_base::NoMemory;
 use std::alloc::Global;
 
 /// An alternative that is still to be tried.

@@ -5,7 +5,7 @@
 use crate::build::build;
 use crate::compile::program;
 use crate::{Bytes, Group, Hir, Hirs, Repeat, Searcher, Slots, group_count, stack_search};
-use sd_edge::{NoMemory, Silent, Steps};
+use sd_base::{NoMemory, Silent, Steps};
 use std::alloc::Global;
 use std::process::Abort;
 use std::test::Fail;

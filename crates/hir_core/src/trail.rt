@@ -5,7 +5,7 @@ ghost use Rattle.hir_core.specs.Program.{opened, closed, way};
 ghost use Rattle.hir_core.specs.Runs as runs;
 ghost use Rattle.hir_core.specs.Trails.{way_of, stops_of, stops_on, undone, ComesBack};
 
-use sd_edge::NoMemory;
+use sd_base::NoMemory;
 use std::alloc::Global;
 
 /// What is done when a search comes back to an alternative.

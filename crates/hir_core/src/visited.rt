@@ -3,7 +3,7 @@
 ghost use Rattle.std.specs.Prelude.{◌≡◌, ◌<◌, [], false, true, length, replicate, slice_set, IfOk};
 ghost use Rattle.hir_core.specs.Pass.{was_visited};
 
-use sd_edge::NoMemory;
+use sd_base::NoMemory;
 use std::alloc::Global;
 use std::marker::Model;
 

@@ -10,7 +10,6 @@ pub mod PlaceLemmas
 pub mod RewritingLemmas
 pub mod RoundLemmas
 pub mod StepLemmas
-pub mod StepsLemmas
 pub mod TextLemmas
 pub mod TrailLemmas
 pub mod WayLemmas

@@ -4,8 +4,6 @@ pub mod Count
 pub mod Disk
 pub mod Files
 pub mod Lists
-pub mod Steps
-pub mod StepsView
 pub mod Streams
 pub mod Calls
 pub mod Examples

@@ -12,19 +12,17 @@ mod memory;
 mod meta;
 mod open_lists;
 mod path_texts;
-mod steps;
 mod stream;
-mod text;
 
 pub use disk::Disk;
 pub use examples::{
     links_lead_as_in_the_examples, paths_lead_as_in_the_examples, paths_name_as_in_the_examples,
     plain_paths_lead_as_in_the_examples,
 };
-pub use fault::{BuildFault, DiskFault, Failed, NoMemory};
+pub use fault::{BuildFault, DiskFault, Failed};
 pub use host::{HostDisk, HostSink, HostSource};
 pub use laws::{
-    a_tally_holds_its_ticks, calls_on_files_keep_directories_and_links, paths_lead_where_they_name,
+    calls_on_files_keep_directories_and_links, paths_lead_where_they_name,
     paths_rest_on_directories_and_links, plain_paths_lead_as_others,
 };
 pub use memory::{MemDisk, MemSink, MemSource};
@@ -33,6 +31,8 @@ pub use path_texts::{
     texts_of_places_below_a_folder, texts_of_places_hold_their_names, texts_of_places_lead_there,
     texts_of_places_name_them,
 };
-pub use steps::{Ledger, Silent, Steps, Tally};
+pub use sd_base::{
+    Globs, Ledger, NoMemory, Patterns, Silent, Steps, Tally, Text, Texts, Words,
+    a_tally_holds_its_ticks,
+};
 pub use stream::{Sink, Source};
-pub use text::{Globs, Patterns, Text, Texts, Words};

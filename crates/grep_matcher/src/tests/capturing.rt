@@ -3,7 +3,7 @@
 use super::pairs::{PairCaptures, Pairs};
 use super::plain::Plain;
 use crate::{Captures, Match, Matcher};
-use sd_edge::NoMemory;
+use sd_base::NoMemory;
 use std::test::Fail;
 
 const PAIRS: &[u8] = b"-a-b.-c";

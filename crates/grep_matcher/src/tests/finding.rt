@@ -3,7 +3,7 @@
 use super::gathered::{all_spans, count};
 use super::plain::Plain;
 use crate::{LineMatchKind, Match, Matcher};
-use sd_edge::NoMemory;
+use sd_base::NoMemory;
 use std::test::Fail;
 
 const TEXT: &[u8] = b"one two one";

@@ -5,7 +5,7 @@ use super::pairs::{PairCaptures, Pairs};
 use super::plain::Plain;
 use crate::visiting::put;
 use crate::{Captures, Fault, Match, Matcher};
-use sd_edge::NoMemory;
+use sd_base::NoMemory;
 use std::test::Fail;
 
 const TEXT: &[u8] = b"one two one";

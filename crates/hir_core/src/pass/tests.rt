@@ -3,7 +3,7 @@
 use super::Pass;
 use crate::compile::program;
 use crate::core_tree::{CoreTree, Greed};
-use sd_edge::{NoMemory, Silent, Steps, Tally};
+use sd_base::{NoMemory, Silent, Steps, Tally};
 use std::alloc::Global;
 use std::process::Abort;
 use std::test::Fail;

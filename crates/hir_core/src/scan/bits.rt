@@ -3,7 +3,7 @@
 ghost use Rattle.std.specs.Prelude.{◌≡◌, ◌+◌, ◌*◌, ◌<◌, ℕ, length, slice_index, IfOk, vec_len};
 ghost use Rattle.hir_core.specs.Masks.{HasBit, IsPart, Grows, row_place};
 
-use sd_edge::NoMemory;
+use sd_base::NoMemory;
 use std::alloc::Global;
 
 /// The bit that tells that a match may end.

@@ -7,7 +7,7 @@ ghost use Rattle.hir_core.specs.declared.spot.Spot.TheVariants as spot;
 
 use crate::scan::bits::{ROWS, add_to_row, masks, with_bit};
 use crate::spot::Spot;
-use sd_edge::NoMemory;
+use sd_base::NoMemory;
 use std::alloc::Global;
 
 /// Puts the spots to which a spot leads without a byte onto the stack. Refuses for want of memory alone.

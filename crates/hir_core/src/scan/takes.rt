@@ -7,7 +7,7 @@ ghost use Rattle.hir_core.specs.Masks.{HasBit, Grows, AreTakers, AreAllTakers, S
 
 use crate::scan::bits::{masks, with_bit};
 use crate::spot::Spot;
-use sd_edge::NoMemory;
+use sd_base::NoMemory;
 use std::alloc::Global;
 
 /// Whether a spot takes bytes.

@@ -9,7 +9,7 @@ use crate::compile::program;
 use crate::core_tree::{CoreTree, Greed};
 use crate::spot::Spot;
 use crate::stack_search::first_run;
-use sd_edge::NoMemory;
+use sd_base::NoMemory;
 use std::alloc::Global;
 use std::process::Abort;
 use std::test::Fail;

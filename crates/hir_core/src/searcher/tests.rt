@@ -3,7 +3,7 @@
 use super::Searcher;
 use crate::{Bytes, CharRanges, Group, Hir, Hirs, Repeat, Slots, group_count};
 use grep_matcher::Match;
-use sd_edge::{NoMemory, Steps, Tally};
+use sd_base::{NoMemory, Steps, Tally};
 use std::alloc::Global;
 use std::process::Abort;
 use std::test::Fail;

@@ -7,7 +7,7 @@ use super::{first_run, search_at};
 use crate::spot::Spot;
 use crate::{Look, Slots};
 use grep_matcher::Match;
-use sd_edge::NoMemory;
+use sd_base::NoMemory;
 use std::alloc::Global;
 use std::process::Abort;
 use std::test::Fail;

@@ -1,4 +1,4 @@
-use Rattle.sd_edge.specs.Steps.{IsTicked}
+use Rattle.sd_base.specs.Steps.{IsTicked}
 use Rattle.glob_match.proofs.PlacesLemmas.{IsTurned, HoldsOneOf}
 use Rattle.glob_match.proofs.braces.add.Given as goal
 

@@ -1,7 +1,7 @@
 use Rattle.std.proofs.Common.{◌+◌, ◌*◌, ◌≤◌, List, length, arith, refl, subst}
 use Rattle.std.proofs.Math.ListN.{drop_of_length-le}
 use Rattle.std.proofs.Math.Nat.{mul-le-mul_right}
-use Rattle.sd_edge.proofs.StepsLemmas.{ticked_none, at_most, at_most_add, at_most_more}
+use Rattle.sd_base.proofs.StepsLemmas.{ticked_none, at_most, at_most_add, at_most_more}
 use Rattle.glob_match.specs.declared.piece.Token.{Token}
 use Rattle.glob_match.proofs.ReadingLemmas.{drop_next}
 use Rattle.glob_match.proofs.PlacesLemmas.{written}

@@ -1,5 +1,5 @@
 use Rattle.std.proofs.Common.{◌+◌, ◌*◌, drop, length}
-use Rattle.sd_edge.specs.Steps.{TicksAtMost}
+use Rattle.sd_base.specs.Steps.{TicksAtMost}
 use Rattle.glob_match.proofs.MatchingLemmas.{MatchedSoFar}
 use Rattle.glob_match.proofs.matching.places_after.Given as goal
 

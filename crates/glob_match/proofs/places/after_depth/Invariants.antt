@@ -1,5 +1,5 @@
 use Rattle.glob_match.specs.declared.piece.Piece.TheVariants.{AnyDepth}
-use Rattle.sd_edge.specs.Steps.{IsTicked}
+use Rattle.sd_base.specs.Steps.{IsTicked}
 use Rattle.glob_match.proofs.PlacesLemmas.{StarSoFar}
 use Rattle.glob_match.proofs.places.after_depth.Given as goal
 

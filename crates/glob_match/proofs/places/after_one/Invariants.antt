@@ -1,4 +1,4 @@
-use Rattle.sd_edge.specs.Steps.{IsTicked}
+use Rattle.sd_base.specs.Steps.{IsTicked}
 use Rattle.glob_match.proofs.PlacesLemmas.{OneSoFar}
 use Rattle.glob_match.proofs.places.after_one.Given as goal
 

@@ -1,6 +1,6 @@
 use Rattle.std.proofs.Common.{◌≡◌, ◌≢◌, ◌↔◌, ◌⊎◌, get_or, slice_get, Some, true, false, arith}
 use Rattle.std.proofs.lemmas.Grind.{common_steps}
-use Rattle.sd_edge.proofs.StepsLemmas.{ticked_add, ticked_as}
+use Rattle.sd_base.proofs.StepsLemmas.{ticked_add, ticked_as}
 use Rattle.glob_match.proofs.PlacesLemmas.{run_more, turned_all}
 use Rattle.glob_match.proofs.places.after_run.Goals as goal
 

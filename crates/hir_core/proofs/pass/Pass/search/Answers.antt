@@ -1,7 +1,7 @@
 use Rattle.std.proofs.Common.{◌≡◌, ◌+◌, [], length, sym, ◌∙◌, arith}
 use Rattle.std.proofs.lemmas.List.{nil_from_length}
 use Rattle.std.proofs.lemmas.Bool.{eqb-true}
-use Rattle.sd_edge.proofs.StepsLemmas.{at_most_more, at_most_add}
+use Rattle.sd_base.proofs.StepsLemmas.{at_most_more, at_most_add}
 use Rattle.hir_core.specs.Pass.{best_in, counted}
 use Rattle.hir_core.proofs.RoundLemmas.{answer-over, answer-end}
 use Rattle.hir_core.proofs.VisitLemmas.{places_to, places_more, all_places}

@@ -1,5 +1,5 @@
 use Rattle.std.proofs.Common.{◌≡◌, ◌+◌, ◌-◌, ◌*◌, ◌≤◌, length}
-use Rattle.sd_edge.specs.Steps.{TicksAtMost}
+use Rattle.sd_base.specs.Steps.{TicksAtMost}
 use Rattle.hir_core.specs.Pass.{stops_give, first_from, answer, best_in, AllFrom, counted}
 use Rattle.hir_core.proofs.pass.Pass.search.Given as goal
 
