@@ -2,7 +2,7 @@
 use Rattle.std.proofs.Common.{◌≡◌, ℕ, zero, suc, ◌+◌, ◌-◌, ◌<◌, ◌≤◌, Bool, List, [], ◌∷◌, ◌++◌, map, length, take, drop, get_or, drop-cons, add-one, refl, sym, ap, ◌∙◌, arith}
 use Rattle.std.proofs.Math.ListN.{drop_of_length-le}
 use Rattle.std.proofs.Math.Seq.{take-suc}
-use Rattle.hir_core.specs.Core.{Core, pair, pair_all, copies, with_more}
+use Rattle.hir_tree.specs.Core.{Core, pair, pair_all, copies, with_more}
 
 -- the first elements and one more
 pub take_next : {A : Type 0} (xs front more : List A) (i : ℕ) (x : A) → i < length xs → x ≡ get_or xs i x → front ≡ take i xs

@@ -1,10 +1,10 @@
 -- A core that is appended to a program stands in it.
 use Rattle.std.proofs.Common.{◌≡◌, ℕ, ◌+◌, ◌<◌, ◌≤◌, Bool, List, [], ◌∷◌, ◌++◌, length, length-append, option_map, Vec, Global, if◌then◌else◌, refl, sym, ap, ◌∙◌, add_comm, arith}
 use Rattle.std.proofs.lemmas.Grind.{common_steps}
-use Rattle.hir_core.specs.Core.{Core, byte_in, char_in, group, pair, choice, plus, numbers}
+use Rattle.hir_tree.specs.Core.{Core, byte_in, char_in, group, pair, choice, plus, numbers}
 use Rattle.hir_core.specs.CoreTree.{Lays, IsProgram, GivesPreferred}
 use Rattle.hir_core.specs.Program.{spot_at, ClosesFall, Placed}
-use Rattle.hir_core.specs.Runs.{begin, first, preferred}
+use Rattle.hir_tree.specs.Runs.{begin, first, preferred}
 use Rattle.hir_core.specs.declared.spot.Spot.{Spot}
 use Rattle.hir_core.specs.declared.spot.Spot.TheVariants as spot
 use Rattle.hir_core.proofs.PlacedLemmas.{program-runs}

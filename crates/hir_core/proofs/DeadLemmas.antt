@@ -9,13 +9,13 @@ use Rattle.std.proofs.lemmas.Str.{encode_ascii}
 use Rattle.bstr.specs.Utf8.{Decoded, decoded}
 use Rattle.bstr.proofs.lemmas.PieceLemmas.{value-1}
 use Rattle.bstr.proofs.lemmas.SoundLemmas.{SpellsChar-decoded}
-use Rattle.hir_core.specs.Sides.{byte_after, char_after}
-use Rattle.hir_core.specs.Runs.{Run, begin, moved, mark, in_set, size_in, byte_size, char_size, as_list, take_size}
+use Rattle.hir_tree.specs.Sides.{byte_after, char_after}
+use Rattle.hir_tree.specs.Runs.{Run, begin, moved, mark, in_set, size_in, byte_size, char_size, as_list, take_size}
 use Rattle.hir_core.specs.Program.{Way, way, marked, opened, closed, spot_at, visit_as, gives_within, gives, rank}
 use Rattle.hir_core.specs.Masks.{HasBit, IsPart, Grows, match_bit, is_taker, next_of, takes_byte, has_wide, is_wide, ways_on, is_reached, IsClosed, IsDead, AreDead, Covers, NoRun, AreAllTakers}
 use Rattle.hir_core.specs.declared.spot.Spot.{Spot}
 use Rattle.hir_core.specs.declared.spot.Spot.TheVariants as spot
-use Rattle.hir_core.proofs.RunsLemmas.{byte_size-within, char_size-within}
+use Rattle.hir_tree.proofs.RunsLemmas.{byte_size-within, char_size-within}
 
 -- fewer bits are dead too
 pub AreDead-part : (text : List ℕ) (spots : List Spot) (of : List ℕ) (at mask more : ℕ) → IsPart mask more → AreDead text spots of at more → AreDead text spots of at mask

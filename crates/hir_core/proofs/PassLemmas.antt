@@ -6,8 +6,8 @@ use Rattle.std.proofs.Math.Bool.{or-false}
 use Rattle.std.proofs.lemmas.Bool.{or_left, or_right, cond-true, cond-false}
 use Rattle.std.proofs.lemmas.Grind.{flat_map-append}
 use Rattle.std.proofs.lemmas.List.{get_or_past}
-use Rattle.hir_core.specs.Runs.{Run, is_seen, first}
-use Rattle.hir_core.specs.RunsLaws.{forget}
+use Rattle.hir_tree.specs.Runs.{Run, is_seen, first}
+use Rattle.hir_tree.specs.RunsLaws.{forget}
 use Rattle.hir_core.specs.Program.{spot_at, is_unmarked, way, marked, closed, follow, gives, ClosesFall}
 use Rattle.hir_core.specs.declared.spot.Spot.{Spot}
 use Rattle.hir_core.specs.declared.spot.Spot.TheVariants as spot

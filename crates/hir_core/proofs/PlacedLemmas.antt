@@ -5,14 +5,14 @@ use Rattle.std.specs.List.{flat_map}
 use Rattle.std.proofs.lemmas.Bool.{cases_lt, cond-true, cond-false}
 use Rattle.std.proofs.lemmas.Grind.{flat_map-append}
 use Rattle.std.proofs.lemmas.List.Folds.{flat_map-map}
-use Rattle.hir_core.specs.Core.{Core, empty, byte_in, char_in, look, group, pair, choice, none, plus, numbers}
-use Rattle.hir_core.specs.Looks.{holds}
-use Rattle.hir_core.specs.Runs.{Run, Step, mark, set_group, is_seen, visit, rounds_or_end, after, byte_size, char_size, take_size, runs}
+use Rattle.hir_tree.specs.Core.{Core, empty, byte_in, char_in, look, group, pair, choice, none, plus, numbers}
+use Rattle.hir_tree.specs.Looks.{holds}
+use Rattle.hir_tree.specs.Runs.{Run, Step, mark, set_group, is_seen, visit, rounds_or_end, after, byte_size, char_size, take_size, runs}
 use Rattle.hir_core.specs.Program.{spot_at, is_unmarked, Way, way, closed, follow, visit_as, gives, ClosesFall, Placed}
 use Rattle.hir_core.specs.declared.spot.Spot.{Spot}
 use Rattle.hir_core.specs.declared.spot.Spot.TheVariants as spot
-use Rattle.hir_core.proofs.ListLemmas.{flat_map-cong, flat_map-flat_map}
-use Rattle.hir_core.proofs.RunsLemmas.{GoesOn, Forward, seen_self, after-shut, runs-Forward}
+use Rattle.hir_tree.proofs.ListLemmas.{flat_map-cong, flat_map-flat_map}
+use Rattle.hir_tree.proofs.RunsLemmas.{GoesOn, Forward, seen_self, after-shut, runs-Forward}
 use Rattle.hir_core.proofs.ProgramLemmas.{gives-eq}
 
 module _ (text : List ℕ) (spots : List Spot) (falls : ClosesFall spots) where

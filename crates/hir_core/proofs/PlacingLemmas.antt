@@ -2,7 +2,7 @@
 use Rattle.std.proofs.Common.{◌≡◌, ℕ, ◌+◌, ◌<◌, ◌≤◌, Bool, true, false, ◌⊎◌, inl, inr, List, length, true≢false, if◌then◌else◌, refl, sym, ap, ◌∙◌, arith}
 use Rattle.std.proofs.lemmas.Bool.{cases_lt}
 use Rattle.std.proofs.lemmas.List.{get_or_past}
-use Rattle.hir_core.specs.Core.{Core, empty, byte_in, char_in, look, group, pair, choice, none, plus, numbers}
+use Rattle.hir_tree.specs.Core.{Core, empty, byte_in, char_in, look, group, pair, choice, none, plus, numbers}
 use Rattle.hir_core.specs.Program.{spot_at, is_close, tie, ClosesFall, Placed}
 use Rattle.hir_core.specs.declared.spot.Spot.{Spot}
 use Rattle.hir_core.specs.declared.spot.Spot.TheVariants as spot

@@ -12,16 +12,16 @@ use Rattle.memchr.specs.Find.{OccursAt, FindsNeedle}
 use Rattle.memchr.proofs.lemmas.MatchLemmas.{OccursAt-split, OccursAt-from_part}
 use Rattle.grep_matcher.specs.PlainLemmas.{text_fits}
 use Rattle.grep_matcher.specs.Span.{Span}
-use Rattle.hir_core.specs.Core.{Core, empty, pair, numbers, one_byte, literal, pair_all}
-use Rattle.hir_core.specs.Cores.{core_of, cores_of}
+use Rattle.hir_tree.specs.Core.{Core, empty, pair, numbers, one_byte, literal, pair_all}
+use Rattle.hir_tree.specs.Cores.{core_of, cores_of}
 use Rattle.hir_core.specs.Found.{IsOfLeast, span_of}
 use Rattle.hir_core.specs.PlainText.{joined, joined_all, text_of, texts_of, place_found, stands_at, text_groups, text_found}
-use Rattle.hir_core.specs.Runs.{Run, Step, begin, moved, mark, is_seen, visit, in_set, byte_size, as_list, take_size, runs, first, preferred}
-use Rattle.hir_core.specs.declared.hir.Hir.{Hir, Empty, Literal, ClassChars, ClassBytes, Look, Repetition', Capture', Concat', Alternation', Row_of-Hir, end_of-Hir, more_of-Hir, items-the_row-Hir, items_hidden-the_row-Hir-0}
-use Rattle.hir_core.specs.declared.hir.Hir.TheBlock.{hidden-the_row-Hir-0}
-use Rattle.hir_core.specs.declared.hir.Hir.TheVariants.{Concat}
-use Rattle.hir_core.specs.declared.hir.Hirs.{Hirs}
-use Rattle.hir_core.proofs.NumbersLemmas.{preferred-first}
+use Rattle.hir_tree.specs.Runs.{Run, Step, begin, moved, mark, is_seen, visit, in_set, byte_size, as_list, take_size, runs, first, preferred}
+use Rattle.hir_tree.specs.declared.hir.Hir.{Hir, Empty, Literal, ClassChars, ClassBytes, Look, Repetition', Capture', Concat', Alternation', Row_of-Hir, end_of-Hir, more_of-Hir, items-the_row-Hir, items_hidden-the_row-Hir-0}
+use Rattle.hir_tree.specs.declared.hir.Hir.TheBlock.{hidden-the_row-Hir-0}
+use Rattle.hir_tree.specs.declared.hir.Hir.TheVariants.{Concat}
+use Rattle.hir_tree.specs.declared.hir.Hirs.{Hirs}
+use Rattle.hir_tree.proofs.NumbersLemmas.{preferred-first}
 
 and-both : (a b c d : Bool) → b ≡ (c && d) → (a && b) ≡ ((a && c) && d)
 and-both true b c d e = e

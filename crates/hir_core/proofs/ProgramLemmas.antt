@@ -6,12 +6,12 @@ use Rattle.std.proofs.Math.Nat.{mul-le-mul_left}
 use Rattle.std.proofs.Math.Bool.{false-or}
 use Rattle.std.proofs.lemmas.Bool.{cases_lt, cond-false, or_left, ne_eqb}
 use Rattle.std.proofs.lemmas.List.{get_or_past}
-use Rattle.hir_core.specs.Looks.{holds}
-use Rattle.hir_core.specs.Runs.{moved, mark, is_seen, byte_size, char_size, as_list, take_size}
+use Rattle.hir_tree.specs.Looks.{holds}
+use Rattle.hir_tree.specs.Runs.{moved, mark, is_seen, byte_size, char_size, as_list, take_size}
 use Rattle.hir_core.specs.Program.{spot_at, is_close, Way, way, marked, opened, closed, Gives, follow, visit_as, visit_spot, gives_within, unseen, tie, rank, gives, ClosesFall}
 use Rattle.hir_core.specs.declared.spot.Spot.{Spot}
 use Rattle.hir_core.specs.declared.spot.Spot.TheVariants as spot
-use Rattle.hir_core.proofs.RunsLemmas.{TakesWithin, byte_size-within, char_size-within}
+use Rattle.hir_tree.proofs.RunsLemmas.{TakesWithin, byte_size-within, char_size-within}
 
 -- at most all are unseen
 pub unseen_le : (n : ℕ) (seen : List ℕ) → unseen n seen ≤ n

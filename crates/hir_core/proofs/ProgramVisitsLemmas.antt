@@ -1,9 +1,9 @@
 -- A program has no more spots with counted visits than its core takes.
 use Rattle.std.proofs.Common.{◌≡◌, ℕ, zero, suc, ◌+◌, ◌≤◌, true, false, List, [], ◌∷◌, length, if◌then◌else◌, refl, ap, ◌∙◌, sym, arith}
 use Rattle.std.proofs.lemmas.List.Sums.{sum_by-cons}
-use Rattle.hir_core.specs.Core.{Core, empty, byte_in, char_in, look, group, pair, choice, none, plus, numbers}
+use Rattle.hir_tree.specs.Core.{Core, empty, byte_in, char_in, look, group, pair, choice, none, plus, numbers}
 use Rattle.hir_core.specs.CoreTree.{IsProgram}
-use Rattle.hir_core.specs.Cores.{core_spots}
+use Rattle.hir_tree.specs.Cores.{core_spots}
 use Rattle.hir_core.specs.Pass.{is_counted, counted}
 use Rattle.hir_core.specs.Program.{spot_at, Placed}
 use Rattle.hir_core.specs.declared.spot.Spot.{Spot}

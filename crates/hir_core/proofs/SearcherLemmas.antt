@@ -4,13 +4,13 @@ use Rattle.std.specs.Prelude.{option_map}
 use Rattle.std.specs.Option.{option_or}
 use Rattle.std.proofs.lemmas.Bool.{cases_lt}
 use Rattle.hir_core.specs.Found.{IsOfLeast}
-use Rattle.hir_core.specs.Core.{Core}
-use Rattle.hir_core.specs.Cores.{core_of}
+use Rattle.hir_tree.specs.Core.{Core}
+use Rattle.hir_tree.specs.Cores.{core_of}
 use Rattle.hir_core.specs.CoreTree.{GivesPreferred}
 use Rattle.hir_core.specs.PlainText.{text_of, FindsText}
-use Rattle.hir_core.specs.Runs.{Run, first, preferred}
+use Rattle.hir_tree.specs.Runs.{Run, first, preferred}
 use Rattle.hir_core.specs.Pass.{first_of, begins, groups_found, first_from}
-use Rattle.hir_core.specs.declared.hir.Hir.{Hir}
+use Rattle.hir_tree.specs.declared.hir.Hir.{Hir}
 use Rattle.hir_core.specs.declared.spot.Spot.{Spot}
 use Rattle.hir_core.proofs.PlainTextLemmas.{preferred-text}
 use Rattle.hir_core.proofs.SoundRunsLemmas.{IsWhole, first_from-whole}

@@ -1,7 +1,7 @@
 -- Places that a search passes over, since none of them has a run.
 use Rattle.std.proofs.Common.{◌≡◌, ℕ, zero, suc, ◌+◌, ◌-◌, ◌≤◌, List, [], length, Option, None, sym, ap, ◌∙◌, arith}
 use Rattle.std.specs.Option.{option_or}
-use Rattle.hir_core.specs.Runs.{Run}
+use Rattle.hir_tree.specs.Runs.{Run}
 use Rattle.hir_core.specs.Masks.{NoRun}
 use Rattle.hir_core.specs.Trails.{Stop}
 use Rattle.hir_core.specs.Pass.{first_of, first_from, answer, stops_give}

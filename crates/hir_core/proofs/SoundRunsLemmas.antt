@@ -5,15 +5,15 @@ use Rattle.std.specs.Option.{option_or}
 use Rattle.std.specs.List.{flat_map, AllByRecursion}
 use Rattle.std.proofs.lemmas.Option.{none-some, same_Some}
 use Rattle.hir_core.specs.Found.{IsInOrder}
-use Rattle.hir_core.specs.Looks.{holds}
-use Rattle.hir_core.specs.Runs.{Run, begin, moved, is_seen, byte_size, char_size, as_list}
-use Rattle.hir_core.specs.RunsLaws.{forget}
+use Rattle.hir_tree.specs.Looks.{holds}
+use Rattle.hir_tree.specs.Runs.{Run, begin, moved, is_seen, byte_size, char_size, as_list}
+use Rattle.hir_tree.specs.RunsLaws.{forget}
 use Rattle.hir_core.specs.Program.{spot_at, is_unmarked, Way, way, marked, Gives, follow, visit_spot, gives_within, rank, gives}
 use Rattle.hir_core.specs.Pass.{first_of, begins, first_from}
 use Rattle.hir_core.specs.StackSearch.{LiesBefore, IsSound, AllSound}
 use Rattle.hir_core.specs.declared.spot.Spot.{Spot}
 use Rattle.hir_core.specs.declared.spot.Spot.TheVariants as spot
-use Rattle.hir_core.proofs.ListLemmas.{All-append}
+use Rattle.hir_tree.proofs.ListLemmas.{All-append}
 use Rattle.hir_core.proofs.StackLemmas.{past, leads-sound, sound-begin}
 
 -- what the so many groups of a run hold lies before its end

@@ -7,16 +7,16 @@ use Rattle.std.proofs.lemmas.Bool.{cases_lt, cases_eq, or_left, ne_eqb}
 use Rattle.std.proofs.lemmas.Grind.{flat_map-append}
 use Rattle.std.proofs.lemmas.List.{map-append, get_or_past, get_or-set_same, get_or-set_other, set-get_or, set_past, length-set}
 use Rattle.std.proofs.lemmas.List.Sums.{sum_by-set}
-use Rattle.hir_core.specs.Looks.{holds}
-use Rattle.hir_core.specs.Runs.{Run, moved, mark, is_seen, byte_size, char_size, as_list}
-use Rattle.hir_core.specs.RunsLaws.{forget}
+use Rattle.hir_tree.specs.Looks.{holds}
+use Rattle.hir_tree.specs.Runs.{Run, moved, mark, is_seen, byte_size, char_size, as_list}
+use Rattle.hir_tree.specs.RunsLaws.{forget}
 use Rattle.hir_core.specs.Program.{spot_at, is_unmarked, tie, Way, way, marked, closed, follow, gives, ClosesFall}
 use Rattle.hir_core.specs.Trails.{Stop}
 use Rattle.hir_core.specs.Pass.{AllLater, first_of, some_run, taken, leads, leads_on, comes, keeps, was_visited, visiting, stop_gives, stops_give, Spent, TurnedTo}
 use Rattle.hir_core.specs.declared.spot.Spot.{Spot}
 use Rattle.hir_core.specs.declared.spot.Spot.TheVariants as spot
-use Rattle.hir_core.proofs.ListLemmas.{All-append}
-use Rattle.hir_core.proofs.RunsLemmas.{TakesWithin, byte_size-within, char_size-within}
+use Rattle.hir_tree.proofs.ListLemmas.{All-append}
+use Rattle.hir_tree.proofs.RunsLemmas.{TakesWithin, byte_size-within, char_size-within}
 use Rattle.hir_core.proofs.ProgramLemmas.{not_fail}
 use Rattle.hir_core.proofs.ClosureLemmas.{Entry, nonempty, pend, Children}
 use Rattle.hir_core.proofs.WalkLemmas.{entry, led_to}

@@ -5,9 +5,9 @@ use Rattle.std.specs.Prelude.{◌||◌}
 use Rattle.std.specs.List.{flat_map, AllByRecursion}
 use Rattle.std.proofs.lemmas.Bool.{or_left, or_right, cond-true, cond-false}
 use Rattle.std.proofs.lemmas.Grind.{flat_map-append}
-use Rattle.hir_core.specs.Looks.{holds}
-use Rattle.hir_core.specs.Runs.{Run, is_seen, first}
-use Rattle.hir_core.specs.RunsLaws.{forget}
+use Rattle.hir_tree.specs.Looks.{holds}
+use Rattle.hir_tree.specs.Runs.{Run, is_seen, first}
+use Rattle.hir_tree.specs.RunsLaws.{forget}
 use Rattle.hir_core.specs.Program.{spot_at, is_unmarked, Way, marked, opened, closed, follow, gives, ClosesFall}
 use Rattle.hir_core.specs.declared.spot.Spot.{Spot}
 use Rattle.hir_core.specs.declared.spot.Spot.TheVariants as spot

@@ -1,8 +1,8 @@
 -- What a core tree means, and programs that are compiled from it.
 use Rattle.std.specs.Prelude.{◌≡◌, ℕ, ◌+◌, ◌<◌, ◌≤◌, Bool, true, false, List, [], length, option_map}
-use Rattle.hir_core.specs.Core.{Core, empty, byte_in, char_in, look, group, pair, choice, none, plus, numbers}
+use Rattle.hir_tree.specs.Core.{Core, empty, byte_in, char_in, look, group, pair, choice, none, plus, numbers}
 use Rattle.hir_core.specs.Program.{spot_at, way, gives, Placed}
-use Rattle.hir_core.specs.Runs.{begin, first, preferred}
+use Rattle.hir_tree.specs.Runs.{begin, first, preferred}
 use Rattle.hir_core.specs.declared.core_tree.CoreTree.{CoreTree, Empty, Bytes, Chars, Look, Group', Pair', Choice', Nothing, Plus'}
 use Rattle.hir_core.specs.declared.core_tree.Greed.{Greed}
 use Rattle.hir_core.specs.declared.core_tree.Greed.TheVariants.{Greedy, Lazy}

@@ -3,7 +3,7 @@ use Rattle.std.specs.Prelude.{◌≡◌, ℕ, ◌+◌, ◌*◌, ◌/◌, ◌%◌
 use native.Mathlib.Nat.{ℕ_set}
 use Rattle.std.specs.Int.{bit_at}
 use Rattle.std.specs.List.{list_any, Contains}
-use Rattle.hir_core.specs.Runs.{begin, in_set}
+use Rattle.hir_tree.specs.Runs.{begin, in_set}
 use Rattle.hir_core.specs.Program.{Way, way, spot_at, gives_within, gives}
 use Rattle.hir_core.specs.declared.spot.Spot.{Spot}
 use Rattle.hir_core.specs.declared.spot.Spot.TheVariants as spot

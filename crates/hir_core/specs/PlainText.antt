@@ -1,11 +1,11 @@
 -- Patterns that are one text, and where a text stands.
 use Rattle.std.specs.Prelude.{◌≡◌, ℕ, ◌+◌, ◌≤◌, Bool, List, [], ◌∷◌, ◌++◌, length, drop, replicate, slice_set, Option, Some, None, nat_eq, option_map, option_and_then, if◌then◌else◌}
 use Rattle.std.specs.List.{starts_with}
-use Rattle.hir_core.specs.Cores.{core_of}
+use Rattle.hir_tree.specs.Cores.{core_of}
 use Rattle.hir_core.specs.Pass.{groups_found}
-use Rattle.hir_core.specs.Runs.{preferred}
+use Rattle.hir_tree.specs.Runs.{preferred}
 use Rattle.hir_core.specs.declared.spot.Spot.{Spot}
-use Rattle.hir_core.specs.declared.hir.Hir.{Hir, Empty, Literal, ClassChars, ClassBytes, Look, Repetition', Capture', Concat', Alternation', Row_of-Hir, end_of-Hir, more_of-Hir}
+use Rattle.hir_tree.specs.declared.hir.Hir.{Hir, Empty, Literal, ClassChars, ClassBytes, Look, Repetition', Capture', Concat', Alternation', Row_of-Hir, end_of-Hir, more_of-Hir}
 
 -- two texts joined, if both are there
 abbrev pub joined : Option (List ℕ) → Option (List ℕ) → Option (List ℕ)

@@ -1,9 +1,9 @@
 -- A program of spots, and the runs that it gives.
 use Rattle.std.specs.Prelude.{◌≡◌, ℕ, zero, suc, ◌+◌, ◌-◌, ◌*◌, ◌≤◌, Bool, true, false, List, [], ◌∷◌, ◌++◌, length, drop, if◌then◌else◌, slice_index, slice_index_or}
 use Rattle.std.specs.List.{flat_map}
-use Rattle.hir_core.specs.Core.{Core, empty, byte_in, char_in, look, group, pair, choice, none, plus, numbers}
-use Rattle.hir_core.specs.Looks.{holds}
-use Rattle.hir_core.specs.Runs.{Run, mark, set_group, is_seen, byte_size, char_size, take_size}
+use Rattle.hir_tree.specs.Core.{Core, empty, byte_in, char_in, look, group, pair, choice, none, plus, numbers}
+use Rattle.hir_tree.specs.Looks.{holds}
+use Rattle.hir_tree.specs.Runs.{Run, mark, set_group, is_seen, byte_size, char_size, take_size}
 use Rattle.hir_core.specs.declared.spot.Spot.{Spot}
 use Rattle.hir_core.specs.declared.spot.Spot.TheVariants as spot
 

@@ -1,9 +1,9 @@
 -- What the search by a stack of alternatives keeps true.
 use Rattle.std.specs.Prelude.{◌≡◌, ⊤, ℕ, zero, suc, ◌+◌, ◌^◌, ◌<◌, ◌≤◌, Bool, false, List, [], ◌∷◌, ◌++◌, map, reverse, length, Option, Some, None, if◌then◌else◌, slice_index_or}
 use Rattle.std.specs.List.{flat_map, sum_by, AllByRecursion}
-use Rattle.hir_core.specs.Looks.{holds}
-use Rattle.hir_core.specs.Runs.{Run, begin, byte_size, char_size, take_size, first}
-use Rattle.hir_core.specs.RunsLaws.{forget}
+use Rattle.hir_tree.specs.Looks.{holds}
+use Rattle.hir_tree.specs.Runs.{Run, begin, byte_size, char_size, take_size, first}
+use Rattle.hir_tree.specs.RunsLaws.{forget}
 use Rattle.hir_core.specs.Program.{Way, way, opened, closed, rank, gives}
 use Rattle.hir_core.specs.declared.seen.Seen.{Seen}
 use Rattle.hir_core.specs.declared.spot.Spot.{Spot}

@@ -1,9 +1,9 @@
 //! Building the core of a pattern's tree.
 
 ghost use Rattle.std.specs.Prelude.{◌≡◌, IfOk, map};
-ghost use Rattle.hir_core.specs.Core.{at_least, byte_in, char_in, choice, choice_all, copies, literal, one_byte, optional, pair, pair_all, plus, up_to, with_more};
+ghost use Rattle.hir_tree.specs.Core.{at_least, byte_in, char_in, choice, choice_all, copies, literal, one_byte, optional, pair, pair_all, plus, up_to, with_more};
 ghost use Rattle.hir_core.specs.CoreTree.{core_of_tree};
-ghost use Rattle.hir_core.specs.Cores.{core_of};
+ghost use Rattle.hir_tree.specs.Cores.{core_of};
 
 use crate::core_tree::{CoreTree, Greed};
 use crate::{ByteRanges, Bytes, CharRanges, Hir};
@@ -35,8 +35,8 @@ pub fn build(alloc: Global, hir: &Hir) -> Result<CoreTree, NoMemory>
             let body = build(alloc, &group.sub)?;
             Ok(CoreTree::Group(group.index, Box::new(alloc, body)?))
         }
-        Hir::Concat(hirs) => parts_in_a_row(alloc, &hirs.parts),
-        Hir::Alternation(hirs) => one_of_parts(alloc, &hirs.parts),
+        Hir::Concat(hirs) => parts_in_a_row(alloc, hirs.parts()),
+        Hir::Alternation(hirs) => one_of_parts(alloc, hirs.parts()),
     }
 }
 

@@ -6,8 +6,8 @@ ghost use Rattle.hir_core.specs.Trails.{way_of, stops_of, stops_on};
 ghost use Rattle.sd_base.specs.Steps.{IsTicked};
 ghost use Rattle.hir_core.specs.Pass.{leads, taken, some_run, match_of, stops_give, Spent, Turned, Followed, AllLater, AllFrom, stop_gives, was_visited, visiting, is_counted, visit_ticks, CountsVisits};
 
+use crate::holds;
 use crate::later::Later;
-use crate::look::holds;
 use crate::set_size::{byte_size, char_size};
 use crate::spot::Spot;
 use crate::trail::Trail;

@@ -1,7 +1,7 @@
 //! Compiling the core of a pattern to a program of spots.
 
 ghost use Rattle.std.specs.Prelude.{◌≡◌, ◌+◌, ◌^◌, ◌<◌, [], ◌∷◌, ◌++◌, vec_len, OnOk, IfOk, if◌then◌else◌};
-ghost use Rattle.hir_core.specs.Core.{byte_in, char_in, numbers};
+ghost use Rattle.hir_tree.specs.Core.{byte_in, char_in, numbers};
 ghost use Rattle.hir_core.specs.CoreTree.{core_of_tree, is_greedy, Lays, IsProgram, GivesPreferred};
 ghost use Rattle.hir_core.specs.Program.{ClosesFall};
 

@@ -1,7 +1,7 @@
 //! The core of a pattern as a tree.
 
 ghost use Rattle.std.specs.Prelude.{◌≡◌, ◌^◌, ◌-◌, min};
-ghost use Rattle.hir_core.specs.Core.{numbers};
+ghost use Rattle.hir_tree.specs.Core.{numbers};
 ghost use Rattle.hir_core.specs.CoreTree.{core_of_tree};
 
 use crate::Look;

@@ -1,76 +1,39 @@
-//! Patterns as trees, and what they match.
+//! The search for a pattern.
 //!
-//! [`Hir`] is the tree of a pattern, and [`spots`] tells how much it takes to search. [`Look`] names what a pattern asks of a
-//! place between two bytes of a text, and [`holds`] tells whether it holds there. A [`Searcher`] finds a pattern's matches
-//! in texts, and [`Slots`] hold the groups of a match.
-//!
-//! `specs/Core.antt` says to what a pattern is written out, `specs/Cores.antt` to what a tree is, and `specs/Runs.antt` what
-//! that matches; its worked examples and laws are functions here.
+//! A [`Searcher`] finds a pattern's matches in texts, and [`Slots`] hold the groups of a match. What a pattern is, and what it
+//! matches, says the crate `hir_tree`, which is passed on here.
 #![tactic(auto)]
 
 mod build;
-mod byte_ranges;
-mod char_ranges;
 mod closure;
 mod compile;
-mod core_laws;
 mod core_tree;
-mod count;
-mod examples;
-mod hir;
-#[cfg(test)]
-mod hir_tests;
 mod later;
-mod laws;
-#[cfg(test)]
-mod list_tests;
-mod lists;
-mod look;
 mod pass;
 mod plain;
-mod range_laws;
-mod ranges;
-mod runs_examples;
-mod runs_laws;
 mod scan;
 mod searcher;
 mod seen;
 mod set_size;
-mod side;
 mod slots;
 mod spot;
 mod stack_search;
 #[cfg(test)]
 mod table_tests;
-#[cfg(test)]
-mod tests;
 mod trail;
 mod visited;
 
-pub use byte_ranges::ByteRanges;
-pub use char_ranges::CharRanges;
-pub use core_laws::{
+pub use hir_tree::{
+    ByteRanges, Bytes, CharRanges, Group, Hir, Hirs, Look, Repeat,
     a_core_has_fewer_numbers_than_twice_the_spots_of_its_tree,
     a_core_is_made_of_the_cores_of_the_parts, a_core_takes_no_more_than_the_spots_of_its_tree,
+    a_set_has_one_list_of_ranges, ascii_words_stand_as_in_the_examples,
+    broken_sides_count_as_in_the_examples, characters_stand_beside_a_place, choices_join_runs,
+    group_count, groups_match_as_in_the_examples, holds, lines_start_and_end_as_in_the_examples,
+    numbers_do_not_matter, preferred_is_the_first_run, repetitions_match_as_in_the_examples,
+    rounds_are_not_cut_off, runs_go_forward, sets_and_looks_match_as_in_the_examples, spots,
+    words_stand_as_in_the_examples,
 };
-pub use count::{group_count, spots};
-pub use examples::{
-    ascii_words_stand_as_in_the_examples, broken_sides_count_as_in_the_examples,
-    lines_start_and_end_as_in_the_examples, words_stand_as_in_the_examples,
-};
-pub use hir::{Group, Hir, Hirs, Repeat};
-pub use laws::characters_stand_beside_a_place;
-pub use lists::Bytes;
-pub use look::{Look, holds};
 pub use plain::one_text_matches_where_it_stands;
-pub use range_laws::a_set_has_one_list_of_ranges;
-pub use runs_examples::{
-    groups_match_as_in_the_examples, repetitions_match_as_in_the_examples,
-    sets_and_looks_match_as_in_the_examples,
-};
-pub use runs_laws::{
-    choices_join_runs, numbers_do_not_matter, preferred_is_the_first_run, rounds_are_not_cut_off,
-    runs_go_forward,
-};
 pub use searcher::Searcher;
 pub use slots::Slots;

@@ -30,7 +30,7 @@ fn append(hir: &Hir, bytes: &mut Vec<u8>) -> Result<bool, NoMemory>
             append_bytes(literal, bytes)?;
             Ok(true)
         }
-        Hir::Concat(hirs) => append_all(&hirs.parts, bytes),
+        Hir::Concat(hirs) => append_all(hirs.parts(), bytes),
         Hir::ClassChars(_) | Hir::ClassBytes(_) | Hir::Look(_) => Ok(false),
         Hir::Repetition(_) | Hir::Capture(_) | Hir::Alternation(_) => Ok(false),
     }

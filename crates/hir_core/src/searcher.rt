@@ -1,15 +1,15 @@
 //! Searching texts for a pattern.
 
 ghost use Rattle.std.specs.Prelude.{◌≡◌, ℕ, ◌+◌, ◌-◌, ◌*◌, ◌≤◌, List, length, replicate, None, IfOk, IfErr, IfSome};
-ghost use Rattle.hir_core.specs.Cores.{core_of};
+ghost use Rattle.hir_tree.specs.Cores.{core_of};
 ghost use Rattle.hir_core.specs.Found.{IsFound};
 ghost use Rattle.hir_core.specs.PlainText.{FindsText};
 ghost use Rattle.hir_core.specs.Program.{ClosesFall};
-ghost use Rattle.hir_core.specs.Runs.{preferred};
+ghost use Rattle.hir_tree.specs.Runs.{preferred};
 ghost use Rattle.hir_core.specs.Masks.{HasBit-prop};
 ghost use Rattle.hir_core.specs.Scan.{IsFilterOf};
 ghost use Rattle.std.proofs.Props.{props};
-ghost use Rattle.hir_core.specs.Spots.{groups_of, spots_of};
+ghost use Rattle.hir_tree.specs.Spots.{groups_of, spots_of};
 ghost use Rattle.sd_base.specs.Steps.{TicksAtMost};
 
 use crate::build::build;

@@ -1,9 +1,8 @@
 //! How many bytes the members of a set take.
 
 ghost use Rattle.std.specs.Prelude.{◌≡◌, ◌≤◌, length};
-ghost use Rattle.hir_core.specs.Runs.{in_set, byte_size, char_size};
+ghost use Rattle.hir_tree.specs.Runs.{in_set, byte_size, char_size};
 
-use crate::side::byte_after;
 use bstr::decode_utf8;
 
 /// Whether a byte is a member of a set.
@@ -22,18 +21,18 @@ fn has_char(set: &[(char, char)], character: char) -> bool
 }
 
 /// How many bytes a member of a set of bytes takes at a place: one, if it stands there.
-#[tactic(auto, unfolding(crate::specs::Runs::byte_size))]
+#[tactic(auto, unfolding(hir_tree::specs::Runs::byte_size))]
 pub fn byte_size(set: &[(u8, u8)], text: &[u8], at: usize) -> Option<usize>
     ensures { result ≡ byte_size set.now text.now at }
 {
-    match byte_after(text, at) {
+    match text.get(at).copied() {
         Some(byte) if has_byte(set, byte) => Some(1),
         _ => None,
     }
 }
 
 /// How many bytes the UTF-8 of a member of a set of characters takes at a place, if it stands there.
-#[tactic(auto, unfolding(crate::specs::Runs::char_size))]
+#[tactic(auto, unfolding(hir_tree::specs::Runs::char_size))]
 pub fn char_size(set: &[(char, char)], text: &[u8], at: usize) -> Option<usize>
     requires { at ≤ length text.now }
     ensures { result ≡ char_size set.now text.now at }

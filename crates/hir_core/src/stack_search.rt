@@ -5,13 +5,13 @@
 
 ghost use Rattle.std.specs.Prelude.{◌≡◌, ◌+◌, ◌-◌, ◌^◌, ◌<◌, ◌≤◌, [], ◌∷◌, ◌++◌, length, map, reverse, replicate, option_map, MatchOption, IfOk, IfErr, IfSome};
 ghost use Rattle.std.specs.List.{AllByRecursion};
-ghost use Rattle.hir_core.specs.Core.{Core, group, numbers};
+ghost use Rattle.hir_tree.specs.Core.{Core, group, numbers};
 ghost use Rattle.hir_core.specs.Found.{IsOfLeast, IsFound};
 ghost use Rattle.hir_core.specs.Program.{ClosesFall, Placed, spot_at, way, opened, closed};
-ghost use Rattle.hir_core.specs.Runs.{begin, moved, as_list, preferred};
+ghost use Rattle.hir_tree.specs.Runs.{begin, moved, as_list, preferred};
 ghost use Rattle.hir_core.specs.StackSearch.{place_of, run_of, places_of, leads, first_at, LiesBefore, Advances};
 
-use crate::look::holds;
+use crate::holds;
 use crate::seen::Seen;
 use crate::set_size::{byte_size, char_size};
 use crate::slots::Slots;

@@ -2,7 +2,7 @@
 
 ghost use Rattle.std.specs.Prelude.{◌≡◌, ℕ, ◌∷◌, [], IfOk, None, slice_index_or, slice_set};
 ghost use Rattle.hir_core.specs.Program.{opened, closed, way};
-ghost use Rattle.hir_core.specs.Runs as runs;
+ghost use Rattle.hir_tree.specs.Runs as runs;
 ghost use Rattle.hir_core.specs.Trails.{way_of, stops_of, stops_on, undone, ComesBack};
 
 use sd_base::NoMemory;

@@ -2,7 +2,7 @@
 
 ghost use Rattle.std.specs.Prelude.{◌≡◌, ◌<◌, ◌≤◌, ℕ, true, length, slice_index, vec_len, IfOk};
 ghost use Rattle.hir_core.specs.Program.{spot_at};
-ghost use Rattle.hir_core.specs.Runs.{in_set};
+ghost use Rattle.hir_tree.specs.Runs.{in_set};
 ghost use Rattle.hir_core.specs.Masks.{HasBit, Grows, AreTakers, AreAllTakers, SaysWhatTakes, SaysWhichAreWide, is_taker, takes_byte, has_wide, is_wide};
 
 use crate::scan::bits::{masks, with_bit};

@@ -1,7 +1,7 @@
 use Rattle.std.proofs.Common.{◌≡◌, drop, map}
-use Rattle.hir_core.specs.Core.{choice_all, copies, pair_all, up_to}
+use Rattle.hir_tree.specs.Core.{choice_all, copies, pair_all, up_to}
 use Rattle.hir_core.specs.CoreTree.{core_of_tree}
-use Rattle.hir_core.specs.Cores.{core_of}
+use Rattle.hir_tree.specs.Cores.{core_of}
 use Rattle.hir_core.proofs.build.+build.Given as goal
 
 abbrev pub invariant-at_most-loop-i : goal.invariant-at_most-loop-i

@@ -1,6 +1,6 @@
 use Rattle.std.proofs.Common.{◌-◌, sym, arith}
 use Rattle.std.proofs.lemmas.Option.{get_or_from_slice_get}
-use Rattle.hir_core.specs.Core.{one_byte}
+use Rattle.hir_tree.specs.Core.{one_byte}
 use Rattle.hir_core.proofs.BuildLemmas.{pair_last, pair_before}
 use Rattle.hir_core.proofs.build.bytes_in_a_row.Goals as goal
 

@@ -1,5 +1,5 @@
 use Rattle.std.proofs.Common.{◌≡◌, drop}
-use Rattle.hir_core.specs.Core.{literal}
+use Rattle.hir_tree.specs.Core.{literal}
 use Rattle.hir_core.specs.CoreTree.{core_of_tree}
 use Rattle.hir_core.proofs.build.bytes_in_a_row.Given as goal
 

@@ -1,5 +1,5 @@
 use Rattle.std.proofs.Common.{◌≡◌, ◌+◌, ◌-◌, ◌^◌, min, ap, ◌∙◌, arith}
-use Rattle.hir_core.specs.Core.{numbers}
+use Rattle.hir_tree.specs.Core.{numbers}
 use Rattle.hir_core.specs.CoreTree.{core_of_tree, is_greedy}
 use Rattle.hir_core.proofs.CompileLemmas.{waits_pair, waits_choice, waits_plus}
 use Rattle.hir_core.proofs.compile.+compile.Goals as goal

@@ -1,4 +1,4 @@
-use Rattle.hir_core.specs.Core.{numbers}
+use Rattle.hir_tree.specs.Core.{numbers}
 use Rattle.hir_core.specs.CoreTree.{core_of_tree}
 use Rattle.hir_core.proofs.CompileLemmas.{Waits}
 use Rattle.hir_core.proofs.compile.+compile.Given as goal

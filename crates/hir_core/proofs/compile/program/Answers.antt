@@ -1,5 +1,5 @@
 use Rattle.std.proofs.Common.{◌≡◌, ◌+◌, [], ◌∷◌, arith}
-use Rattle.hir_core.specs.Core.{numbers}
+use Rattle.hir_tree.specs.Core.{numbers}
 use Rattle.hir_core.specs.CoreTree.{core_of_tree}
 use Rattle.hir_core.specs.declared.spot.Spot.TheVariants as spot
 use Rattle.hir_core.proofs.CompileLemmas.{program-placed, program-closes, program-preferred}

@@ -1,5 +1,5 @@
 use Rattle.std.proofs.Common.{◌≡◌, ◌+◌, ◌-◌, ◌^◌, ◌≤◌, min}
-use Rattle.hir_core.specs.Core.{numbers}
+use Rattle.hir_tree.specs.Core.{numbers}
 use Rattle.hir_core.specs.CoreTree.{core_of_tree}
 use Rattle.hir_core.proofs.core_tree.+size.Given as goal
 

@@ -4,4 +4,4 @@ use Rattle.hir_core.proofs.PlainTextLemmas.{text_concat}
 use Rattle.hir_core.proofs.plain.+plain.Goals as goal
 
 pub append-returns-in-Concat : goal.append-returns-in-Concat
-append-returns-in-Concat t c = let all = ap text_of c.in-Concat.is ∙ text_concat c.in-Concat.hirs ∙ sym (ap (λ parts. joined_all (map text_of parts)) c.deref.ensures.value) in rw all c.append_all.ensures
+append-returns-in-Concat t c = let all = ap text_of c.in-Concat.is ∙ text_concat c.in-Concat.hirs ∙ sym (ap (λ parts. joined_all (map text_of parts)) c.parts.ensures) in rw all c.append_all.ensures

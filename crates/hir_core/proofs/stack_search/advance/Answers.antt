@@ -1,6 +1,6 @@
 use Rattle.std.proofs.Common.{◌≡◌, false, ◌∷◌, sym, ap, ◌∙◌}
 use Rattle.std.specs.Prelude.{◌||◌, ◌==◌}
-use Rattle.hir_core.specs.Runs.{is_seen}
+use Rattle.hir_tree.specs.Runs.{is_seen}
 use Rattle.hir_core.specs.StackSearch.{members, place_of, places_of}
 use Rattle.hir_core.specs.declared.spot.Spot.TheVariants as spot
 use Rattle.hir_core.proofs.StackLemmas.{SameSeen, seen-members, unmarked_unless, advance-match, advance-past, advance-seen, advance-close, advance-marked}

@@ -1,6 +1,6 @@
 use Rattle.std.proofs.Common.{◌<◌, ◌^◌, length, arith}
-use Rattle.hir_core.specs.Runs.{byte_size, char_size}
-use Rattle.hir_core.proofs.RunsLemmas.{byte_size-within, char_size-within}
+use Rattle.hir_tree.specs.Runs.{byte_size, char_size}
+use Rattle.hir_tree.proofs.RunsLemmas.{byte_size-within, char_size-within}
 use Rattle.hir_core.proofs.StackLemmas.{room}
 use Rattle.hir_core.proofs.stack_search.lead.Goals as goal
 

@@ -1,7 +1,7 @@
 use Rattle.std.proofs.Common.{◌≡◌, ℕ, ◌-◌, None, length, map, replicate, sym, ap, ◌∙◌}
 use Rattle.hir_core.specs.Found.{span_of}
 use Rattle.std.proofs.lemmas.List.{length-replicate}
-use Rattle.hir_core.specs.Runs.{preferred}
+use Rattle.hir_tree.specs.Runs.{preferred}
 use Rattle.hir_core.specs.StackSearch.{first_at, run_of}
 use Rattle.hir_core.proofs.StackLemmas.{first-preferred, least-none, least-some}
 use Rattle.hir_core.proofs.stack_search.search_at.Goals as goal

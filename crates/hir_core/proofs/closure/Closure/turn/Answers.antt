@@ -1,6 +1,6 @@
 use Rattle.std.proofs.Common.{◌≡◌, ℕ, ◌+◌, ◌^◌, ◌<◌, List, length, Option, Some, None, IfSome, sym, arith, rules}
-use Rattle.hir_core.specs.Runs.{byte_size, char_size}
-use Rattle.hir_core.proofs.RunsLemmas.{TakesWithin, byte_size-within, char_size-within}
+use Rattle.hir_tree.specs.Runs.{byte_size, char_size}
+use Rattle.hir_tree.proofs.RunsLemmas.{TakesWithin, byte_size-within, char_size-within}
 use Rattle.hir_core.proofs.closure.Closure.turn.Goals as goal
 
 fits : (text : List ℕ) (size : ℕ → Option ℕ) → TakesWithin text size → (at : ℕ) → length text < 2 ^ 63 → (o : Option ℕ) → o ≡ size at

@@ -1,6 +1,6 @@
 use Rattle.std.proofs.Common.{◌+◌, List, Option, ap, ap₂, ◌∙◌}
 use Rattle.std.specs.Option.{option_or}
-use Rattle.hir_core.specs.Runs.{Run}
+use Rattle.hir_tree.specs.Runs.{Run}
 use Rattle.hir_core.specs.Trails.{Stop}
 use Rattle.hir_core.specs.Pass.{stops_give, match_of, answer, best_in}
 use Rattle.hir_core.proofs.RoundLemmas.{answer-round}

@@ -1,5 +1,5 @@
 use Rattle.std.proofs.Common.{◌≡◌, ℕ, true, take, get_or}
-use Rattle.hir_core.specs.Runs.{in_set}
+use Rattle.hir_tree.specs.Runs.{in_set}
 use Rattle.hir_core.specs.Masks.{HasBit, Grows}
 use Rattle.hir_core.proofs.scan.takes.add_bytes.Given as goal
 

@@ -1,6 +1,6 @@
 use Rattle.std.proofs.Common.{ap, arith}
-use Rattle.hir_core.specs.Cores.{core_spots}
-use Rattle.hir_core.proofs.CoreSpotsLemmas.{core_within}
+use Rattle.hir_tree.specs.Cores.{core_spots}
+use Rattle.hir_tree.proofs.CoreSpotsLemmas.{core_within}
 use Rattle.hir_core.proofs.ProgramVisitsLemmas.{counted-core}
 use Rattle.hir_core.proofs.SearcherLemmas.{finds-text}
 use Rattle.hir_core.proofs.searcher.Searcher.new.Goals as goal

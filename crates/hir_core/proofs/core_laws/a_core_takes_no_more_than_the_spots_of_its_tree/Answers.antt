@@ -1,5 +1,0 @@
-use Rattle.hir_core.proofs.CoreSpotsLemmas.{core_within}
-use Rattle.hir_core.proofs.core_laws.a_core_takes_no_more_than_the_spots_of_its_tree.Goals as goal
-
-pub returns : goal.returns
-returns c = core_within

@@ -1,5 +1,0 @@
-use Rattle.hir_core.proofs.NumbersLemmas.{choice-joined}
-use Rattle.hir_core.proofs.runs_laws.choices_join_runs.Goals as goal
-
-pub returns : goal.returns
-returns c = choice-joined

@@ -1,5 +1,0 @@
-use Rattle.hir_core.proofs.NumbersLemmas.{runs-renumbered}
-use Rattle.hir_core.proofs.runs_laws.numbers_do_not_matter.Goals as goal
-
-pub returns : goal.returns
-returns c = runs-renumbered

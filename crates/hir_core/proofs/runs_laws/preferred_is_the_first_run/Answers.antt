@@ -1,5 +1,0 @@
-use Rattle.hir_core.proofs.NumbersLemmas.{preferred-first}
-use Rattle.hir_core.proofs.runs_laws.preferred_is_the_first_run.Goals as goal
-
-pub returns : goal.returns
-returns c = preferred-first

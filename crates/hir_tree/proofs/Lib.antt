@@ -1,0 +1,14 @@
+pub mod CharRangesLemmas
+pub mod CharacterLemmas
+pub mod Computing
+pub mod CoreNumbersLemmas
+pub mod CoreSpotsLemmas
+pub mod CoresLemmas
+pub mod ListLemmas
+pub mod NumbersLemmas
+pub mod RangesLemmas
+pub mod RunsComputing
+pub mod RunsLemmas
+pub mod SameRangesLemmas
+pub mod SpotsLemmas
+pub mod TicksLemmas

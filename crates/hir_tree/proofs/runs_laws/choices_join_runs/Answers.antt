@@ -1,0 +1,5 @@
+use Rattle.hir_tree.proofs.NumbersLemmas.{choice-joined}
+use Rattle.hir_tree.proofs.runs_laws.choices_join_runs.Goals as goal
+
+pub returns : goal.returns
+returns c = choice-joined

@@ -1,0 +1,13 @@
+pub mod Core
+pub mod Cores
+pub mod Examples
+pub mod Hirs
+pub mod Laws
+pub mod Looks
+pub mod Ranges
+pub mod Runs
+pub mod RunsExamples
+pub mod RunsLaws
+pub mod Sides
+pub mod Sound
+pub mod Spots
