@@ -21,3 +21,5 @@ pub mod MemTreeView
 pub mod MemWalk
 pub mod MemTrail
 pub mod MemDisk
+pub use Rattle.sd_base.specs.Steps
+pub use Rattle.sd_base.specs.StepsView
