@@ -13,10 +13,11 @@ use Rattle.memchr.proofs.lemmas.MatchLemmas.{OccursAt-split, OccursAt-from_part}
 use Rattle.grep_matcher.specs.PlainLemmas.{text_fits}
 use Rattle.grep_matcher.specs.Span.{Span}
 use Rattle.hir_tree.specs.Core.{Core, empty, pair, numbers, one_byte, literal, pair_all}
-use Rattle.hir_tree.specs.Cores.{core_of, cores_of}
+use Rattle.hir_tree.specs.Cores.{core_of, cores_of_trees}
 use Rattle.hir_core.specs.Found.{IsOfLeast, span_of}
 use Rattle.hir_core.specs.PlainText.{joined, joined_all, text_of, texts_of, place_found, stands_at, text_groups, text_found}
 use Rattle.hir_tree.specs.Runs.{Run, Step, begin, moved, mark, is_seen, visit, in_set, byte_size, as_list, take_size, runs, first, preferred}
+use Rattle.hir_tree.specs.Tree.{trees_of}
 use Rattle.hir_tree.specs.declared.hir.Hir.{Hir, Empty, Literal, ClassChars, ClassBytes, Look, Repetition', Capture', Concat', Alternation', Row_of-Hir, end_of-Hir, more_of-Hir, items-the_row-Hir, items_hidden-the_row-Hir-0}
 use Rattle.hir_tree.specs.declared.hir.Hir.TheBlock.{hidden-the_row-Hir-0}
 use Rattle.hir_tree.specs.declared.hir.Hir.TheVariants.{Concat}
@@ -163,10 +164,10 @@ module _ (text : List ℕ) where
     text-takes (Look kind) bytes e = absurd (none-some bytes e)
     text-takes (Repetition' least most greedy at part) bytes e = absurd (none-some bytes e)
     text-takes (Capture' index name at part) bytes e = absurd (none-some bytes e)
-    text-takes (Concat' shape parts) bytes e = pair_all-takes (cores_of parts) bytes (each_text-takes parts bytes e)
+    text-takes (Concat' shape parts) bytes e = pair_all-takes (cores_of_trees (trees_of parts)) bytes (each_text-takes parts bytes e)
     text-takes (Alternation' shape parts) bytes e = absurd (none-some bytes e)
 
-    each_text-takes : {n : _} → (parts : Row_of-Hir n) (bytes : List ℕ) → joined_all (texts_of parts) ≡ Some bytes → EachTakes (cores_of parts) bytes
+    each_text-takes : {n : _} → (parts : Row_of-Hir n) (bytes : List ℕ) → joined_all (texts_of parts) ≡ Some bytes → EachTakes (cores_of_trees (trees_of parts)) bytes
     each_text-takes end_of-Hir bytes e = sym (same_Some _ _ e)
     each_text-takes (more_of-Hir part rest) bytes e =
         let parts = joined-parts (text_of part) (joined_all (texts_of rest)) bytes e in

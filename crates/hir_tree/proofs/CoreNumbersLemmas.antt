@@ -5,11 +5,11 @@ use Rattle.std.proofs.lemmas.Bool.{and_parts}
 use Rattle.std.proofs.lemmas.Bool.Decides.{nat_tests}
 use Rattle.std.proofs.lemmas.List.Sums.{sum_by-cons}
 use Rattle.std.proofs.Math.Nat.{mul-le-mul_left}
-use Rattle.hir_tree.specs.Core.{Core, numbers, pair, pair_all, choice_all, plus, literal, one_byte, optional, copies, up_to, with_more, repeat}
-use Rattle.hir_tree.specs.Cores.{core_of, cores_of}
-use Rattle.hir_tree.specs.Sound.{is_sound, are_sound, is_ordered}
-use Rattle.hir_tree.specs.Spots.{spots_of, spots_of_each, repeated_spots}
-use Rattle.hir_tree.specs.declared.hir.Hir.{Hir, Empty, Literal, ClassChars, ClassBytes, Look, Repetition', Capture', Concat', Alternation', Row_of-Hir, end_of-Hir, more_of-Hir}
+use Rattle.hir_tree.specs.Core.{Core, numbers, pair, pair_all, choice_all, plus, literal as literal_core, one_byte, optional, copies, up_to, with_more, repeat}
+use Rattle.hir_tree.specs.Cores.{core_of_tree, cores_of_trees}
+use Rattle.hir_tree.specs.Sound.{is_sound_tree, are_sound_trees, is_ordered}
+use Rattle.hir_tree.specs.Spots.{spots_of_tree, spots_of_trees, repeated_spots}
+use Rattle.hir_tree.specs.Tree.{Tree, Trees, empty, literal, class_chars, class_bytes, look, repetition, capture, concat, alternation, none, more}
 
 -- the numbers of several cores together, and one more for each
 abbrev total : List Core → ℕ
@@ -94,27 +94,27 @@ room : (n : ℕ) (xs : List ℕ) → n ≤ 2 * sum xs → n + 2 ≤ 2 * max 1 (s
 room n [] le = omega (arith, le)
 room n (x ∷ xs) le = omega (arith, le)
 
-literal_numbers : (bytes : List ℕ) → nat_lt 0 (length bytes) ≡ true → numbers (literal bytes) < 2 * length bytes
+literal_numbers : (bytes : List ℕ) → nat_lt 0 (length bytes) ≡ true → numbers (literal_core bytes) < 2 * length bytes
 literal_numbers bytes sound =
     let some : 0 < length bytes = grind (arith, nat_tests) in
     omega (arith, pair_numbers (map one_byte bytes), bytes_numbers bytes)
 
 mutual
-  pub numbers_within : (tree : Hir) → is_sound tree ≡ true → numbers (core_of tree) < 2 * spots_of tree
-  numbers_within Empty sound = omega arith
-  numbers_within (Literal bytes) sound = literal_numbers bytes sound
-  numbers_within (ClassChars ranges) sound = omega arith
-  numbers_within (ClassBytes ranges) sound = omega arith
-  numbers_within (Look look) sound = omega arith
-  numbers_within (Repetition' least most greedy at part) sound =
-      repeat_numbers greedy (core_of part) (spots_of part) least most (numbers_within part (and_parts (is_ordered least most) (is_sound part) sound).1)
-  numbers_within (Capture' index name at part) sound = omega (arith, numbers_within part sound)
-  numbers_within (Concat' shape parts) sound = omega (arith, pair_numbers (cores_of parts), numbers_of_each parts sound)
-  numbers_within (Alternation' shape parts) sound =
-      omega (arith, choice_numbers (cores_of parts), room (total (cores_of parts)) (spots_of_each parts) (numbers_of_each parts sound))
+  pub numbers_within : (tree : Tree) → is_sound_tree tree ≡ true → numbers (core_of_tree tree) < 2 * spots_of_tree tree
+  numbers_within empty sound = omega arith
+  numbers_within (literal bytes) sound = literal_numbers bytes sound
+  numbers_within (class_chars ranges) sound = omega arith
+  numbers_within (class_bytes ranges) sound = omega arith
+  numbers_within (look kind) sound = omega arith
+  numbers_within (repetition least most greedy part) sound =
+      repeat_numbers greedy (core_of_tree part) (spots_of_tree part) least most (numbers_within part (and_parts (is_ordered least most) (is_sound_tree part) sound).1)
+  numbers_within (capture index name part) sound = omega (arith, numbers_within part sound)
+  numbers_within (concat parts) sound = omega (arith, pair_numbers (cores_of_trees parts), numbers_of_each parts sound)
+  numbers_within (alternation parts) sound =
+      omega (arith, choice_numbers (cores_of_trees parts), room (total (cores_of_trees parts)) (spots_of_trees parts) (numbers_of_each parts sound))
 
-  numbers_of_each : {n : _} → (parts : Row_of-Hir n) → are_sound parts ≡ true → total (cores_of parts) ≤ 2 * sum (spots_of_each parts)
-  numbers_of_each end_of-Hir sound = omega arith
-  numbers_of_each (more_of-Hir part rest) sound =
-      let each = and_parts (is_sound part) (are_sound rest) sound in
-      sum_more _ _ (spots_of part) (spots_of_each rest) (numbers_within part each.0) (numbers_of_each rest each.1)
+  numbers_of_each : (parts : Trees) → are_sound_trees parts ≡ true → total (cores_of_trees parts) ≤ 2 * sum (spots_of_trees parts)
+  numbers_of_each none sound = omega arith
+  numbers_of_each (more part rest) sound =
+      let each = and_parts (is_sound_tree part) (are_sound_trees rest) sound in
+      sum_more _ _ (spots_of_tree part) (spots_of_trees rest) (numbers_within part each.0) (numbers_of_each rest each.1)

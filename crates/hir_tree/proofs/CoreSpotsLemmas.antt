@@ -4,9 +4,9 @@ use Rattle.std.specs.Prelude.{sum}
 use Rattle.std.proofs.lemmas.Bool.Decides.{nat_tests}
 use Rattle.std.proofs.lemmas.List.Sums.{sum_by-cons}
 use Rattle.hir_tree.specs.Core.{Core, pair_all, choice_all, repeat}
-use Rattle.hir_tree.specs.Cores.{core_of, cores_of, core_spots}
-use Rattle.hir_tree.specs.Spots.{spots_of, spots_of_each, repeated_spots}
-use Rattle.hir_tree.specs.declared.hir.Hir.{Hir, Empty, Literal, ClassChars, ClassBytes, Look, Repetition', Capture', Concat', Alternation', Row_of-Hir, end_of-Hir, more_of-Hir}
+use Rattle.hir_tree.specs.Cores.{core_of_tree, cores_of_trees, core_spots}
+use Rattle.hir_tree.specs.Spots.{spots_of_tree, spots_of_trees, repeated_spots}
+use Rattle.hir_tree.specs.Tree.{Tree, Trees, empty, literal, class_chars, class_bytes, look, repetition, capture, concat, alternation, none, more}
 use Rattle.hir_tree.proofs.TicksLemmas.{ticks, ticks-literal, ticks-repeat, repeat_spots}
 
 -- the spots of a core are its counted visits
@@ -53,17 +53,17 @@ sum_le : (a b x : ℕ) (xs : List ℕ) → a ≤ x → b ≤ sum xs → a + b �
 sum_le a b x xs first rest = omega (arith, sum_by-cons (λ n. n) x xs)
 
 mutual
-  pub core_within : (tree : Hir) → core_spots (core_of tree) ≤ spots_of tree
-  core_within Empty = omega arith
-  core_within (Literal bytes) = omega (arith, ticks_spots (core_of (Literal bytes)), ticks-literal bytes)
-  core_within (ClassChars ranges) = omega arith
-  core_within (ClassBytes ranges) = omega arith
-  core_within (Look look) = omega arith
-  core_within (Repetition' least most greedy at part) = repeat_within greedy (core_of part) (spots_of part) least most (core_within part)
-  core_within (Capture' index name at part) = omega (arith, core_within part)
-  core_within (Concat' shape parts) = omega (arith, pair_spots (cores_of parts), (cores_within parts).0)
-  core_within (Alternation' shape parts) = omega (arith, choice_spots (cores_of parts), (cores_within parts).0, (cores_within parts).1)
+  pub core_within : (tree : Tree) → core_spots (core_of_tree tree) ≤ spots_of_tree tree
+  core_within empty = omega arith
+  core_within (literal bytes) = omega (arith, ticks_spots (core_of_tree (literal bytes)), ticks-literal bytes)
+  core_within (class_chars ranges) = omega arith
+  core_within (class_bytes ranges) = omega arith
+  core_within (look kind) = omega arith
+  core_within (repetition least most greedy part) = repeat_within greedy (core_of_tree part) (spots_of_tree part) least most (core_within part)
+  core_within (capture index name part) = omega (arith, core_within part)
+  core_within (concat parts) = omega (arith, pair_spots (cores_of_trees parts), (cores_within parts).0)
+  core_within (alternation parts) = omega (arith, choice_spots (cores_of_trees parts), (cores_within parts).0, (cores_within parts).1)
 
-  cores_within : {n : _} → (parts : Row_of-Hir n) → (total (cores_of parts) ≤ sum (spots_of_each parts)) × (length (cores_of parts) ≡ length (spots_of_each parts))
-  cores_within end_of-Hir = (omega arith, refl)
-  cores_within (more_of-Hir part rest) = (sum_le _ _ (spots_of part) (spots_of_each rest) (core_within part) (cores_within rest).0, omega (arith, (cores_within rest).1))
+  cores_within : (parts : Trees) → (total (cores_of_trees parts) ≤ sum (spots_of_trees parts)) × (length (cores_of_trees parts) ≡ length (spots_of_trees parts))
+  cores_within none = (omega arith, refl)
+  cores_within (more part rest) = (sum_le _ _ (spots_of_tree part) (spots_of_trees rest) (core_within part) (cores_within rest).0, omega (arith, (cores_within rest).1))

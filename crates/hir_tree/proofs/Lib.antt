@@ -12,3 +12,4 @@ pub mod RunsLemmas
 pub mod SameRangesLemmas
 pub mod SpotsLemmas
 pub mod TicksLemmas
+pub mod TreeLemmas

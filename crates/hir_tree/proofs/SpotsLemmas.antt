@@ -1,46 +1,50 @@
--- The parts of a tree as a list.
-use Rattle.std.proofs.Common.{◌≡◌, ℕ, ◌+◌, ◌<◌, max, List, ◌∷◌, map, length, drop, get_or, drop-cons, add-one, refl, ap, ◌∙◌, arith}
+-- The spots and the groups of trees in a row.
+use Rattle.std.proofs.Common.{◌≡◌, ℕ, ◌+◌, max, List, [], ◌∷◌, map, length, refl, ap, ◌∙◌}
 use Rattle.std.specs.Prelude.{sum}
-use Rattle.std.proofs.Common.{Vec, Global}
 use Rattle.std.proofs.lemmas.List.{length-map}
-use mathlib.Core.Former.{Count}
-use Rattle.hir_tree.specs.Spots.{spots_of, spots_of_each, groups_of, groups_of_each, greatest}
-use Rattle.hir_tree.specs.declared.hir.Hir.{Hir, Row_of-Hir, end_of-Hir, more_of-Hir, items-the_row-Hir, items_hidden-the_row-Hir-0}
-use Rattle.hir_tree.specs.declared.hir.Hir.TheBlock.{hidden-the_row-Hir-0}
+use Rattle.hir_tree.specs.Hirs.{parts_of}
+use Rattle.hir_tree.specs.Spots.{spots_of, spots_of_tree, spots_of_trees, groups_of, groups_of_tree, groups_of_trees, greatest}
+use Rattle.hir_tree.specs.Tree.{Tree, concat, alternation, trees, tree_of}
+use Rattle.hir_tree.specs.declared.hir.Hir.{Hir}
 use Rattle.hir_tree.specs.declared.hir.Hir.TheVariants.{Concat, Alternation}
 use Rattle.hir_tree.specs.declared.hir.Hirs.{Hirs}
+use Rattle.hir_tree.proofs.TreeLemmas.{tree_concat, tree_alternation}
 
-groups_of_row : (n : Count) (row : Row_of-Hir n) → groups_of_each row ≡ map groups_of (items-the_row-Hir n row)
-groups_of_row n end_of-Hir = refl
-groups_of_row n (more_of-Hir part rest) = ap (λ gs. groups_of part ∷ gs) (groups_of_row _ rest)
+pub groups_each : (parts : List Tree) → groups_of_trees (trees parts) ≡ map groups_of_tree parts
+groups_each [] = refl
+groups_each (part ∷ rest) = ap (λ groups. groups_of_tree part ∷ groups) (groups_each rest)
 
-groups_of_parts : (parts : Vec Hir Global) → groups_of_each (hidden-the_row-Hir-0 parts) ≡ map groups_of parts.items
-groups_of_parts parts = groups_of_row _ (hidden-the_row-Hir-0 parts) ∙ ap (map groups_of) (items_hidden-the_row-Hir-0 parts)
+pub spots_each : (parts : List Tree) → spots_of_trees (trees parts) ≡ map spots_of_tree parts
+spots_each [] = refl
+spots_each (part ∷ rest) = ap (λ spots. spots_of_tree part ∷ spots) (spots_each rest)
 
-pub groups_concat : (hirs : Hirs) → groups_of (Concat hirs) ≡ greatest (map groups_of hirs.parts.items)
-groups_concat hirs = ap greatest (groups_of_parts hirs.parts)
+pub concat_spots : (parts : List Tree) → spots_of_tree (concat (trees parts)) ≡ max 1 (sum (map spots_of_tree parts))
+concat_spots parts = ap (λ spots. max 1 (sum spots)) (spots_each parts)
 
-pub groups_alternation : (hirs : Hirs) → groups_of (Alternation hirs) ≡ greatest (map groups_of hirs.parts.items)
-groups_alternation hirs = ap greatest (groups_of_parts hirs.parts)
+pub alternation_spots : (parts : List Tree) → spots_of_tree (alternation (trees parts)) ≡ max 1 (sum (map spots_of_tree parts) + length parts)
+alternation_spots parts =
+    ap (λ spots. max 1 (sum spots + length spots)) (spots_each parts)
+    ∙ ap (λ (n : ℕ). max 1 (sum (map spots_of_tree parts) + n)) (length-map parts spots_of_tree)
 
--- one part more is looked at
-pub greatest_next : (parts : List Hir) (i index : ℕ) (d : Hir) → i < length parts
-    → max (max index (groups_of (get_or parts i d))) (greatest (map groups_of (drop (i + 1) parts))) ≡ max index (greatest (map groups_of (drop i parts)))
-greatest_next parts i index d within =
-    let cut : drop i parts ≡ get_or parts i d ∷ drop (i + 1) parts = rw add-one (drop-cons parts i d within) in
-    omega (arith, ap (λ ps. greatest (map groups_of ps)) cut)
+groups_in_memory : (parts : List Hir) → groups_of_trees (trees (map tree_of parts)) ≡ map groups_of parts
+groups_in_memory [] = refl
+groups_in_memory (part ∷ rest) = ap (λ groups. groups_of part ∷ groups) (groups_in_memory rest)
 
-spots_of_row : (n : Count) (row : Row_of-Hir n) → spots_of_each row ≡ map spots_of (items-the_row-Hir n row)
-spots_of_row n end_of-Hir = refl
-spots_of_row n (more_of-Hir part rest) = ap (λ ss. spots_of part ∷ ss) (spots_of_row _ rest)
+spots_in_memory : (parts : List Hir) → spots_of_trees (trees (map tree_of parts)) ≡ map spots_of parts
+spots_in_memory [] = refl
+spots_in_memory (part ∷ rest) = ap (λ spots. spots_of part ∷ spots) (spots_in_memory rest)
 
-spots_of_parts : (parts : Vec Hir Global) → spots_of_each (hidden-the_row-Hir-0 parts) ≡ map spots_of parts.items
-spots_of_parts parts = spots_of_row _ (hidden-the_row-Hir-0 parts) ∙ ap (map spots_of) (items_hidden-the_row-Hir-0 parts)
+pub groups_concat : (hirs : Hirs) → groups_of (Concat hirs) ≡ greatest (map groups_of (parts_of hirs))
+groups_concat hirs = ap groups_of_tree (tree_concat hirs) ∙ ap greatest (groups_in_memory (parts_of hirs))
 
-pub spots_concat : (hirs : Hirs) → spots_of (Concat hirs) ≡ max 1 (sum (map spots_of hirs.parts.items))
-spots_concat hirs = ap (λ ss. max 1 (sum ss)) (spots_of_parts hirs.parts)
+pub groups_alternation : (hirs : Hirs) → groups_of (Alternation hirs) ≡ greatest (map groups_of (parts_of hirs))
+groups_alternation hirs = ap groups_of_tree (tree_alternation hirs) ∙ ap greatest (groups_in_memory (parts_of hirs))
 
-pub spots_alternation : (hirs : Hirs) → spots_of (Alternation hirs) ≡ max 1 (sum (map spots_of hirs.parts.items) + length hirs.parts.items)
+pub spots_concat : (hirs : Hirs) → spots_of (Concat hirs) ≡ max 1 (sum (map spots_of (parts_of hirs)))
+spots_concat hirs = ap spots_of_tree (tree_concat hirs) ∙ ap (λ spots. max 1 (sum spots)) (spots_in_memory (parts_of hirs))
+
+pub spots_alternation : (hirs : Hirs) → spots_of (Alternation hirs) ≡ max 1 (sum (map spots_of (parts_of hirs)) + length (parts_of hirs))
 spots_alternation hirs =
-    ap (λ ss. max 1 (sum ss + length ss)) (spots_of_parts hirs.parts)
-    ∙ ap (λ (n : ℕ). max 1 (sum (map spots_of hirs.parts.items) + n)) (length-map hirs.parts.items spots_of)
+    ap spots_of_tree (tree_alternation hirs)
+    ∙ ap (λ spots. max 1 (sum spots + length spots)) (spots_in_memory (parts_of hirs))
+    ∙ ap (λ (n : ℕ). max 1 (sum (map spots_of (parts_of hirs)) + n)) (length-map (parts_of hirs) spots_of)

@@ -11,3 +11,4 @@ pub mod RunsLaws
 pub mod Sides
 pub mod Sound
 pub mod Spots
+pub mod Tree

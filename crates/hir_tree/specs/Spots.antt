@@ -1,6 +1,7 @@
 -- How many spots the tree of a pattern takes when it is searched, and how many groups it has.
 use Rattle.std.specs.Prelude.{ℕ, ◌+◌, ◌*◌, ◌-◌, ◌==◌, ◌&&◌, max, List, [], ◌∷◌, length, sum, Option, None, Some, if◌then◌else◌}
-use Rattle.hir_tree.specs.declared.hir.Hir.{Hir, Empty, Literal, ClassChars, ClassBytes, Look, Repetition', Capture', Concat', Alternation', Row_of-Hir, end_of-Hir, more_of-Hir}
+use Rattle.hir_tree.specs.Tree.{Tree, Trees, empty, literal, class_chars, class_bytes, look, repetition, capture, concat, alternation, none, more, tree_of}
+use Rattle.hir_tree.specs.declared.hir.Hir.{Hir}
 
 -- the spots of a part of so many spots that is written out from `least` to `most` times
 abbrev pub repeated_spots : ℕ → ℕ → Option ℕ → ℕ
@@ -9,21 +10,25 @@ repeated_spots spots least (Some most) = if least == 0 && most == 0 then 1 else 
 
 abbrev mutual
   -- the spots of a tree
-  pub spots_of : Hir → ℕ
-  spots_of Empty = 1
-  spots_of (Literal bytes) = length bytes
-  spots_of (ClassChars ranges) = 4
-  spots_of (ClassBytes ranges) = 1
-  spots_of (Look look) = 1
-  spots_of (Repetition' least most greedy at part) = repeated_spots (spots_of part) least most
-  spots_of (Capture' index name at part) = spots_of part + 2
-  spots_of (Concat' shape parts) = max 1 (sum (spots_of_each parts))
-  spots_of (Alternation' shape parts) = max 1 (sum (spots_of_each parts) + length (spots_of_each parts))
+  pub spots_of_tree : Tree → ℕ
+  spots_of_tree empty = 1
+  spots_of_tree (literal bytes) = length bytes
+  spots_of_tree (class_chars ranges) = 4
+  spots_of_tree (class_bytes ranges) = 1
+  spots_of_tree (look kind) = 1
+  spots_of_tree (repetition least most greedy part) = repeated_spots (spots_of_tree part) least most
+  spots_of_tree (capture index name part) = spots_of_tree part + 2
+  spots_of_tree (concat parts) = max 1 (sum (spots_of_trees parts))
+  spots_of_tree (alternation parts) = max 1 (sum (spots_of_trees parts) + length (spots_of_trees parts))
 
-  -- the spots of each part
-  pub spots_of_each : {n : _} → Row_of-Hir n → List ℕ
-  spots_of_each end_of-Hir = []
-  spots_of_each (more_of-Hir part rest) = spots_of part ∷ spots_of_each rest
+  -- the spots of each tree
+  pub spots_of_trees : Trees → List ℕ
+  spots_of_trees none = []
+  spots_of_trees (more part rest) = spots_of_tree part ∷ spots_of_trees rest
+
+-- the spots of a tree in memory
+abbrev pub spots_of : Hir → ℕ
+spots_of hir = spots_of_tree (tree_of hir)
 
 -- the greatest of the numbers, 0 where there is none
 abbrev pub greatest : List ℕ → ℕ
@@ -32,18 +37,22 @@ greatest (n ∷ rest) = max n (greatest rest)
 
 abbrev mutual
   -- the greatest index of a group in a tree, 0 where there is none
-  pub groups_of : Hir → ℕ
-  groups_of Empty = 0
-  groups_of (Literal bytes) = 0
-  groups_of (ClassChars ranges) = 0
-  groups_of (ClassBytes ranges) = 0
-  groups_of (Look look) = 0
-  groups_of (Repetition' least most greedy at part) = groups_of part
-  groups_of (Capture' index name at part) = max index (groups_of part)
-  groups_of (Concat' shape parts) = greatest (groups_of_each parts)
-  groups_of (Alternation' shape parts) = greatest (groups_of_each parts)
+  pub groups_of_tree : Tree → ℕ
+  groups_of_tree empty = 0
+  groups_of_tree (literal bytes) = 0
+  groups_of_tree (class_chars ranges) = 0
+  groups_of_tree (class_bytes ranges) = 0
+  groups_of_tree (look kind) = 0
+  groups_of_tree (repetition least most greedy part) = groups_of_tree part
+  groups_of_tree (capture index name part) = max index (groups_of_tree part)
+  groups_of_tree (concat parts) = greatest (groups_of_trees parts)
+  groups_of_tree (alternation parts) = greatest (groups_of_trees parts)
 
-  -- the greatest index in each part
-  pub groups_of_each : {n : _} → Row_of-Hir n → List ℕ
-  groups_of_each end_of-Hir = []
-  groups_of_each (more_of-Hir part rest) = groups_of part ∷ groups_of_each rest
+  -- the greatest index in each tree
+  pub groups_of_trees : Trees → List ℕ
+  groups_of_trees none = []
+  groups_of_trees (more part rest) = groups_of_tree part ∷ groups_of_trees rest
+
+-- the greatest index of a group in a tree in memory, 0 where there is none
+abbrev pub groups_of : Hir → ℕ
+groups_of hir = groups_of_tree (tree_of hir)

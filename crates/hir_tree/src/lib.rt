@@ -27,6 +27,7 @@ mod runs_laws;
 mod side;
 #[cfg(test)]
 mod tests;
+mod tree_laws;
 
 pub use byte_ranges::ByteRanges;
 pub use char_ranges::CharRanges;
@@ -51,4 +52,8 @@ pub use runs_examples::{
 pub use runs_laws::{
     choices_join_runs, numbers_do_not_matter, preferred_is_the_first_run, rounds_are_not_cut_off,
     runs_go_forward,
+};
+pub use tree_laws::{
+    a_tree_is_made_of_the_trees_of_the_parts, trees_in_a_row_are_sound_where_each_is,
+    trees_in_a_row_have_the_groups_of_each, trees_in_a_row_take_the_spots_of_each,
 };

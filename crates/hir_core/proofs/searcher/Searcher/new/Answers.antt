@@ -1,5 +1,6 @@
 use Rattle.std.proofs.Common.{ap, arith}
 use Rattle.hir_tree.specs.Cores.{core_spots}
+use Rattle.hir_tree.specs.Tree.{tree_of}
 use Rattle.hir_tree.proofs.CoreSpotsLemmas.{core_within}
 use Rattle.hir_core.proofs.ProgramVisitsLemmas.{counted-core}
 use Rattle.hir_core.proofs.SearcherLemmas.{finds-text}
@@ -7,7 +8,7 @@ use Rattle.hir_core.proofs.searcher.Searcher.new.Goals as goal
 
 pub returns-clause-visits : goal.returns-clause-visits
 returns-clause-visits c =
-    omega (arith, counted-core _ c.in_ok-spots.spots.items c.in_ok-spots.ensures.stands, ap core_spots c.in_ok-tree.ensures, core_within c.args.hir.now)
+    omega (arith, counted-core _ c.in_ok-spots.spots.items c.in_ok-spots.ensures.stands, ap core_spots c.in_ok-tree.ensures, core_within (tree_of c.args.hir.now))
 
 pub invariant_of-result-clause-is_text : goal.invariant_of-result-clause-is_text
 invariant_of-result-clause-is_text c =
