@@ -175,21 +175,14 @@ module _ {F E D : Type 0} (step : F → Span → Result Bool E → F → Type 0)
   some_last_tried (Err e) v = tt
 
 module _ {F E T D : Type 0} {step : Written F → Span → Result Bool E → Written F → Type 0} {more : Result Bool E} {preferred : ℕ → Option ℕ} {n at : ℕ} {f last : Written F} where
-  -- what a replacing call has written, once the rest is copied
-  pub written_all : (r : Result T D) (out haystack : List ℕ) (end : End (Result Bool E)) → IsAnswered end (Ok tt) → VisitsCover step more preferred n at f end last → OnOk r (out ≡ last.bytes ++ drop last.at haystack)
-      → OnOk r ((last : Written F) × (end : End (Result Bool E)) × IsAnswered end (Ok tt) × VisitsCover step more preferred n at f end last × (out ≡ last.bytes ++ drop last.at haystack))
-  written_all (Ok t) out haystack end answered v same = (last, end, answered, v, same)
-  written_all (Err d) out haystack end answered v same = tt
-
-module _ {F E T D : Type 0} {step : Written F → Span → Result Bool E → Written F → Type 0} {more : Result Bool E} {preferred : ℕ → Option ℕ} {n at : ℕ} {f last : Written F} where
-  -- and in which state it left the closure
+  -- what a replacing call has written, once the rest is copied, and in which state it left the closure
   pub written_by : (r : Result T D) (out haystack : List ℕ) (closure : F) (end : End (Result Bool E)) → IsAnswered end (Ok tt) → VisitsCover step more preferred n at f end last → last.closure ≡ closure → OnOk r (out ≡ last.bytes ++ drop last.at haystack)
       → OnOk r ((last : Written F) × (end : End (Result Bool E)) × IsAnswered end (Ok tt) × VisitsCover step more preferred n at f end last × (out ≡ last.bytes ++ drop last.at haystack) × (last.closure ≡ closure))
   written_by (Ok t) out haystack closure end answered v left same = (last, end, answered, v, same, left)
   written_by (Err d) out haystack closure end answered v left same = tt
 
 module _ {F E T D : Type 0} (step : Written F → Span → Result Bool E → Written F → Type 0) (more : Result Bool E) (preferred : ℕ → Option ℕ) (n at : ℕ) (f : Written F) where
-  -- and without it
+  -- the same without the state
   pub written_forgets : (r : Result T D) (out haystack : List ℕ) (closure : F)
       → OnOk r ((last : Written F) × (end : End (Result Bool E)) × IsAnswered end (Ok tt) × VisitsCover step more preferred n at f end last × (out ≡ last.bytes ++ drop last.at haystack) × (last.closure ≡ closure))
       → OnOk r ((last : Written F) × (end : End (Result Bool E)) × IsAnswered end (Ok tt) × VisitsCover step more preferred n at f end last × (out ≡ last.bytes ++ drop last.at haystack))

@@ -27,7 +27,10 @@ mod visiting;
 
 pub use byte_set::ByteSet;
 pub use captures::{Captures, NoCaptures};
-pub use equality::{equal_spans_hash_alike, equal_terminators_hash_alike};
+pub use equality::{
+    clones_are_always_made, clones_are_their_values, equal_references_say_the_same,
+    equal_spans_hash_alike, equal_terminators_hash_alike,
+};
 pub use fault::{Fault, NoError};
 pub use laws::{a_fair_cover_exists, captures_at_the_same_spans, one_fair_cover, same_bytes_back};
 pub use line_match_kind::LineMatchKind;

@@ -1,6 +1,6 @@
 //! Matchers: what finds spans in a haystack.
 
-ghost use Rattle.std.specs.Prelude.{◌≡◌, ◌⊎◌, ℕ, ◌≤◌, length, Option, Some, None, IfOk, IfErr, OnOk, OnErr, IfSome, Result, Ok, ◌++◌, drop, option_map, is_some, true, false, Bool, List, []};
+ghost use Rattle.std.specs.Prelude.{◌≡◌, ◌⊎◌, ℕ, ◌<◌, ◌≤◌, All, length, Option, Some, None, IfOk, IfErr, OnOk, OnErr, IfSome, Result, Ok, ◌++◌, drop, option_map, is_some, true, false, Bool, List, []};
 ghost use Rattle.sd_base.specs.declared.no_memory.NoMemory.{NoMemory};
 ghost use Rattle.grep_matcher.specs.declared.line_match_kind.LineMatchKind.TheVariants.{Confirmed};
 ghost use Rattle.grep_matcher.specs.ByteSets.{is_in};
@@ -11,7 +11,7 @@ ghost use Rattle.grep_matcher.specs.Groups.{captured, AreGroups, HasFirst};
 ghost use Rattle.grep_matcher.specs.NoMatch.{IsInNoMatch};
 ghost use Rattle.grep_matcher.specs.Replaced.{Written, Replaces, Extends};
 ghost use Rattle.grep_matcher.specs.Span.{Span};
-ghost use Rattle.grep_matcher.specs.Terminators.{terminator_byte};
+ghost use Rattle.grep_matcher.specs.Terminators.{terminator_bytes};
 ghost use Rattle.grep_matcher.specs.Visits.{VisitsCover, IsStopped, IsAnswered, End, broken_off, WithGroups, AppendsWithGroups};
 
 use crate::byte_set::ByteSet;
@@ -116,16 +116,16 @@ pub trait Matcher {
     ///
     /// A searcher may skip from one such byte to the next. `.` matches no line feed, so 10 is in its set.
     fn non_matching_bytes(&self) -> Option<&ByteSet>
-        ensures { IfSome result (λ set. (byte : ℕ) → is_in set.now byte ≡ true → IsInNoMatch (preferred self.now) byte) }
+        ensures { IfSome result (λ set. (byte : ℕ) → byte < 256 → is_in set.now byte ≡ true → IsInNoMatch (preferred self.now) byte) }
     {
         None
     }
 
-    /// The terminator that no match of this matcher reaches over. `None` where the matcher doesn't tell, as by default.
+    /// A terminator of which no byte is in a match of this matcher. `None` where the matcher doesn't tell, as by default.
     ///
-    /// With one, a searcher may go line by line.
+    /// With one, a searcher may go line by line. With `\r\n`, neither `\r` nor `\n` is in a match.
     fn line_terminator(&self) -> Option<LineTerminator>
-        ensures { IfSome result (λ terminator. IsInNoMatch (preferred self.now) (terminator_byte terminator)) }
+        ensures { IfSome result (λ terminator. All (IsInNoMatch (preferred self.now)) (terminator_bytes terminator)) }
     {
         None
     }
@@ -634,6 +634,36 @@ pub trait Matcher {
             (Ok true) (captured (has_groups self.now) (preferred self.now haystack.now)) (length haystack.now) at
             (record { closure = append; at = at; bytes = dst.old.items }) end last
             × (dst.new.items ≡ last.bytes ++ drop last.at haystack.now)) }
+        ensures extended { OnErr result (Extends dst.old.items dst.new.items) }
+        ensures failed { IfErr result (IsCaused (may_fail self.now)) }
+        ensures kept { fits self.now caps.new }
+    {
+        self.replace_with_captures_at_by(haystack, at, caps, dst, &mut append)
+    }
+
+    /// [`replace_with_captures_at`](Matcher::replace_with_captures_at) with a closure that is lent, so that the caller learns what
+    /// it gathered.
+    final fn replace_with_captures_at_by<
+        F: FnMut(&Self::Captures, &mut Vec<u8>) -> Result<bool, NoMemory>,
+    >(
+        &self,
+        haystack: &[u8],
+        at: usize,
+        caps: &mut Self::Captures,
+        dst: &mut Vec<u8>,
+        append: &mut F,
+    ) -> Result<(), Fault<Self::Error>>
+        requires place { at ≤ length haystack.now }
+        requires fit { fits self.now caps.old }
+        requires callable { TakesCaptures (λ f c. (d : _) → F.pre f c d) (λ c. Self.Captures.groups c.now) (length haystack.now) append.old }
+        requires stays { StaysCallable (TakesCaptures (λ f c. (d : _) → F.pre f c d) (λ c. Self.Captures.groups c.now) (length haystack.now))
+            (λ f c r g. (d : _) × (e : _) × F.step f c d r e g) (Ok true) }
+        requires keeps { (f : F) (c : _) (d : _) (r : Result Bool NoMemory) (e : _) (g : F) → F.step f c d r e g → Extends d.now.items e.now.items }
+        ensures replaced { OnOk result ((last : Written F) × (end : End (Result Bool NoMemory)) × IsAnswered end (Ok tt)
+            × VisitsCover (Replaces (AppendsWithGroups F.step (λ c. Self.Captures.groups c.now) (groups_at self.now haystack.now)) (λ d. d.now.items) haystack.now)
+            (Ok true) (captured (has_groups self.now) (preferred self.now haystack.now)) (length haystack.now) at
+            (record { closure = append.old; at = at; bytes = dst.old.items }) end last
+            × (dst.new.items ≡ last.bytes ++ drop last.at haystack.now) × (last.closure ≡ append.new)) }
         ensures extended { OnErr result (Extends dst.old.items dst.new.items) }
         ensures failed { IfErr result (IsCaused (may_fail self.now)) }
         ensures kept { fits self.now caps.new }
