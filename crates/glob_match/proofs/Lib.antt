@@ -1,5 +1,7 @@
 pub mod BackwardLemmas
 pub mod BytesLemmas
+pub mod CaptureRangesLemmas
+pub mod CaptureWalkLemmas
 pub mod CapturesLemmas
 pub mod DerivationLemmas
 pub mod FittingLemmas
@@ -9,7 +11,5 @@ pub mod NestingLemmas
 pub mod OneDerivationLemmas
 pub mod OnwardLemmas
 pub mod PlacesLemmas
-pub mod RangesLemmas
 pub mod ReadingLemmas
 pub mod ValidityLemmas
-pub mod WalkLemmas

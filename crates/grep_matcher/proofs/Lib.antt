@@ -1,4 +1,5 @@
 pub mod ByteSetLemmas
+pub mod CoverCallLemmas
 pub mod CoverLemmas
 pub mod GatheredLemmas
 pub mod GroupLemmas
@@ -6,4 +7,3 @@ pub mod ReachedLemmas
 pub mod ReferenceLemmas
 pub mod ReplacedLemmas
 pub mod SpanLemmas
-pub mod VisitLemmas

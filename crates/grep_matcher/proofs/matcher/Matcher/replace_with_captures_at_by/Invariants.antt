@@ -4,7 +4,7 @@ use Rattle.grep_matcher.specs.Groups.{captured}
 use Rattle.grep_matcher.specs.Replaced.{Extends, Replaces}
 use Rattle.grep_matcher.specs.Visits.{AppendsWithGroups}
 use Rattle.grep_matcher.proofs.GroupLemmas.{captured_lawful}
-use Rattle.grep_matcher.proofs.VisitLemmas.{Leads}
+use Rattle.grep_matcher.proofs.CoverCallLemmas.{Leads}
 use Rattle.grep_matcher.proofs.matcher.Matcher.replace_with_captures_at_by.Given as goal
 
 -- the calls so far, before those to come, are those along the cover
