@@ -13,3 +13,4 @@ pub mod SameRangesLemmas
 pub mod SpotsLemmas
 pub mod TicksLemmas
 pub mod TreeLemmas
+pub mod WholeLemmas

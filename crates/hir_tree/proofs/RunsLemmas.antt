@@ -74,7 +74,7 @@ pub Forward-visit : (text : List ℕ) (n : ℕ) (next : Step) → Forward text n
 Forward-visit text n next f r h =
     visit-All (GoesOn text r) n next r (λ _. All-weaker (GoesOn text (mark n r)) (GoesOn text r) _ (f (mark n r) h) (GoesOn-mark text n r))
 
-All-rounds_or_end : (P : Run → Type 0) (greedy : Bool) (rounds : List Run) (r : Run) → AllByRecursion P rounds → P r → AllByRecursion P (rounds_or_end greedy rounds r)
+pub All-rounds_or_end : (P : Run → Type 0) (greedy : Bool) (rounds : List Run) (r : Run) → AllByRecursion P rounds → P r → AllByRecursion P (rounds_or_end greedy rounds r)
 All-rounds_or_end P true rounds r h k = All-append P rounds (r ∷ []) h (k, tt)
 All-rounds_or_end P false rounds r h k = (k, h)
 

@@ -50,8 +50,8 @@ pub use runs_examples::{
     sets_and_looks_match_as_in_the_examples,
 };
 pub use runs_laws::{
-    choices_join_runs, numbers_do_not_matter, preferred_is_the_first_run, rounds_are_not_cut_off,
-    runs_go_forward,
+    choices_join_runs, numbers_do_not_matter, preferred_is_the_first_run,
+    preferred_matches_are_whole, rounds_are_not_cut_off, runs_go_forward,
 };
 pub use tree_laws::{
     a_tree_is_made_of_the_trees_of_the_parts, trees_in_a_row_are_sound_where_each_is,
