@@ -5,6 +5,7 @@ pub mod CoreNumbersLemmas
 pub mod CoreSpotsLemmas
 pub mod CoresLemmas
 pub mod ListLemmas
+pub mod MemberLemmas
 pub mod NumbersLemmas
 pub mod RangesLemmas
 pub mod RunsComputing
@@ -13,3 +14,4 @@ pub mod SameRangesLemmas
 pub mod SpotsLemmas
 pub mod TicksLemmas
 pub mod TreeLemmas
+pub mod WholeLemmas

@@ -74,7 +74,7 @@ pub Forward-visit : (text : List ℕ) (n : ℕ) (next : Step) → Forward text n
 Forward-visit text n next f r h =
     visit-All (GoesOn text r) n next r (λ _. All-weaker (GoesOn text (mark n r)) (GoesOn text r) _ (f (mark n r) h) (GoesOn-mark text n r))
 
-All-rounds_or_end : (P : Run → Type 0) (greedy : Bool) (rounds : List Run) (r : Run) → AllByRecursion P rounds → P r → AllByRecursion P (rounds_or_end greedy rounds r)
+pub All-rounds_or_end : (P : Run → Type 0) (greedy : Bool) (rounds : List Run) (r : Run) → AllByRecursion P rounds → P r → AllByRecursion P (rounds_or_end greedy rounds r)
 All-rounds_or_end P true rounds r h k = All-append P rounds (r ∷ []) h (k, tt)
 All-rounds_or_end P false rounds r h k = (k, h)
 
@@ -104,20 +104,21 @@ Forward-take_size text size within r h = cases (size r.at) refl
         (record { forward = omega arith; within = b.1; kept = λ e. absurd (omega arith) }, tt)
 
 -- a size is that of a member that stands there
-size_in-parts : (set : List (ℕ × ℕ)) (size : ℕ) (c : Option ℕ) (k : ℕ) → size_in set size c ≡ Some k → (m : ℕ) × ((c ≡ Some m) × (size ≡ k))
+pub size_in-parts : (set : List (ℕ × ℕ)) (size : ℕ) (c : Option ℕ) (k : ℕ) → size_in set size c ≡ Some k
+    → (m : ℕ) × (c ≡ Some m) × (in_set set m ≡ true) × (size ≡ k)
 size_in-parts set size None k e = absurd (none-some k e)
-size_in-parts set size (Some m) k e = cases (in_set set m) e
+size_in-parts set size (Some m) k e = cases (in_set set m) refl e
   where
-    cases : (b : Bool) → (if b then Some size else None) ≡ Some k → (n : ℕ) × ((Some m ≡ Some n) × (size ≡ k))
-    cases true e = (m, (refl, same_Some _ _ e))
-    cases false e = absurd (none-some k e)
+    cases : (b : Bool) → in_set set m ≡ b → (if b then Some size else None) ≡ Some k → (n : ℕ) × (Some m ≡ Some n) × (in_set set n ≡ true) × (size ≡ k)
+    cases true is e = (m, refl, is, same_Some _ _ e)
+    cases false is e = absurd (none-some k e)
 
 pub byte_size-within : (set : List (ℕ × ℕ)) (text : List ℕ) → TakesWithin text (byte_size set text)
 unfolding byte_size
 byte_size-within set text at k e =
     let parts = size_in-parts set 1 (byte_after text at) k e in
-    let one : 1 ≡ k = parts.1.1 in
-    let lt : at < length text = slice_get_within text at parts.0 parts.1.0 in
+    let one : 1 ≡ k = parts.3 in
+    let lt : at < length text = slice_get_within text at parts.0 parts.1 in
     (omega arith, omega arith)
 
 -- the bytes of a character that begins at a place
@@ -131,8 +132,8 @@ pub char_size-within : (set : List (ℕ × ℕ)) (text : List ℕ) → TakesWith
 unfolding char_size
 char_size-within set text at k e =
     let parts = size_in-parts set (decoded (drop at text)).size (char_after text at) k e in
-    let spelt = SpellsChar-decoded (drop at text) parts.0 parts.1.0 in
-    char_within text _ at parts.0 _ k spelt.bytes spelt.width parts.1.1
+    let spelt = SpellsChar-decoded (drop at text) parts.0 parts.1 in
+    char_within text _ at parts.0 _ k spelt.bytes spelt.width parts.3
 
 pub runs-Forward : (text : List ℕ) (core : Core) (n : ℕ) → Forward text (runs text core n)
 unfolding runs

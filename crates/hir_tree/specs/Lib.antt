@@ -1,6 +1,7 @@
 pub mod Core
 pub mod Cores
 pub mod Examples
+pub mod Groups
 pub mod Hirs
 pub mod Laws
 pub mod Looks

@@ -41,17 +41,17 @@ pub use examples::{
     lines_start_and_end_as_in_the_examples, words_stand_as_in_the_examples,
 };
 pub use hir::{Group, Hir, Hirs, Repeat};
-pub use laws::characters_stand_beside_a_place;
+pub use laws::{a_set_takes_the_member_that_begins_at_a_place, characters_stand_beside_a_place};
 pub use lists::Bytes;
 pub use look::{Look, holds};
-pub use range_laws::a_set_has_one_list_of_ranges;
+pub use range_laws::{a_set_has_one_list_of_ranges, a_set_has_what_its_ranges_hold};
 pub use runs_examples::{
     groups_match_as_in_the_examples, repetitions_match_as_in_the_examples,
     sets_and_looks_match_as_in_the_examples,
 };
 pub use runs_laws::{
-    choices_join_runs, numbers_do_not_matter, preferred_is_the_first_run, rounds_are_not_cut_off,
-    runs_go_forward,
+    choices_join_runs, numbers_do_not_matter, preferred_is_the_first_run,
+    preferred_matches_are_whole, rounds_are_not_cut_off, runs_go_forward,
 };
 pub use tree_laws::{
     a_tree_is_made_of_the_trees_of_the_parts, trees_in_a_row_are_sound_where_each_is,

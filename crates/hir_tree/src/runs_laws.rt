@@ -1,5 +1,9 @@
 //! Laws of runs.
 
+ghost use Rattle.std.specs.Prelude.{◌≡◌, ◌≤◌, ◌+◌, ℕ, List, Some, IfSome, length};
+ghost use Rattle.hir_tree.specs.Core.{Core};
+ghost use Rattle.hir_tree.specs.Groups.{EachLiesWithin, start_of};
+ghost use Rattle.hir_tree.specs.Runs.{preferred};
 ghost use Rattle.hir_tree.specs.RunsLaws.{RunsGoForward, RoundsAreNotCutOff, NumbersDoNotMatter, ChoicesJoinRuns, PreferredIsTheFirstRun};
 
 /// Each run of a pattern's core ends at its place or after it, within the text.
@@ -27,4 +31,12 @@ pub fn choices_join_runs()
 /// The preferred match from a place is the first run of the core, with group 0 as the whole.
 pub fn preferred_is_the_first_run()
     ensures { PreferredIsTheFirstRun }
+{}
+
+/// A preferred match begins at its place, each of its groups that is set ends where it begins or later, within the text, and
+/// there is a group for each index.
+pub fn preferred_matches_are_whole()
+    ensures begins { (core : Core) (groups : ℕ) (text : List ℕ) (at : ℕ) → at ≤ length text → IfSome (preferred core groups text at) (λ found. start_of found ≡ Some at) }
+    ensures lies { (core : Core) (groups : ℕ) (text : List ℕ) (at : ℕ) → at ≤ length text → IfSome (preferred core groups text at) (EachLiesWithin (length text)) }
+    ensures slots { (core : Core) (groups : ℕ) (text : List ℕ) (at : ℕ) → at ≤ length text → IfSome (preferred core groups text at) (λ found. length found ≡ groups + 1) }
 {}
