@@ -14,8 +14,9 @@ use Rattle.sd_edge.specs.Files.{path_text, Resolves, Reads, Creates, CannotRenam
 use Rattle.sd_edge.specs.Lists.{ListsDirectory, TellAll}
 use Rattle.std.specs.Borrow.{Bor}
 use Rattle.sd_edge.specs.MemNode.{now_of}
-use Rattle.sd_edge.specs.MemTree.{Adds, tree_of, listing}
+use Rattle.sd_edge.specs.MemTree.{Adds, AddsName, tree_of, listing}
 use Rattle.sd_edge.proofs.ListedLemmas.{listing_tells}
+use Rattle.sd_edge.proofs.OrderLemmas.{orders_added}
 use Rattle.sd_edge.proofs.StandLemmas.{reached_stands}
 
 -- the node of a name list at which something stands
@@ -70,8 +71,8 @@ reads state path found place b bytes leads is held some =
 -- a new file with the mode of another is added
 pub creates : (old new : DiskState) (path like : List ℕ) (found other : Option NameList) (model place : NameList) (m : Option ℕ) (mode ino : ℕ) (bytes : List ℕ) → found ≡ reached old.tree like true → found ≡ Some model
     → m ≡ option_map (λ (f : List ℕ × ℕ). f.1) (file_at old.tree model) → m ≡ Some mode → other ≡ named old.tree path → other ≡ Some place → node_at old.tree place ≡ None
-    → bytes ≡ [] → Adds old.tree place (file bytes mode) ino new.tree → Creates old path like new
-creates old new path like found other model place m mode ino bytes leads is held some names there free none adds =
+    → bytes ≡ [] → Adds old.tree place (file bytes mode) ino new.tree → AddsName old.tree place new.tree → Creates old path like new
+creates old new path like found other model place m mode ino bytes leads is held some names there free none adds order =
     let here = file_with_mode (file_at old.tree model) m mode held some in
     record {
       place = place;
@@ -82,6 +83,7 @@ creates old new path like found other model place m mode ino bytes leads is held
       model = file_where old.tree (reached old.tree like true) model (sym leads ∙ is) ∙ here.1;
       stands = ap file_node adds.stands ∙ ap (λ (held : List ℕ). Some (held, mode)) none;
       others = adds.others;
+      orders = orders_added old.tree new.tree place order;
     }
 
 -- what is something and no file

@@ -9,4 +9,4 @@ pub returns-clause-created : goal.returns-clause-created
 returns-clause-created c =
     let free : node_at (mem_tree c.args.self.now.tree) c.in-Some-2.place ≡ None = search rules in
     creates (mem_state c.args.self.now) _ c.args.path.now c.args.like.now _ _ c.in-Some.model c.in-Some-2.place _ c.in-Some-mode.mode _ _ c.in_ok-model.ensures c.in-Some.is c.mode.ensures c.in-Some-mode.is
-    c.in_ok-place.ensures.answer c.in-Some-2.is free c.new.ensures.items c.in_ok-add.ensures.added
+    c.in_ok-place.ensures.answer c.in-Some-2.is free c.new.ensures.items c.in_ok-add.ensures.added c.in_ok-add.ensures.order
