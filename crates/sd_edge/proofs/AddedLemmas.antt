@@ -130,6 +130,6 @@ adds_name top es fs place next node sound p free number put =
           ∙ ap (λ names. names ++ p.name ∷ []) (sym (order_is top es p.folder));
       others = λ other apart.
           order_is top fs other ∙ ap (λ nodes. map name_of (by_number (entries_below other nodes))) put
-          ∙ ap (λ entries. map name_of (by_number entries)) (added_elsewhere other place node es (no_name p.folder place other p.name p.place_is apart) none)
+          ∙ ap (λ entries. map name_of (by_number entries)) (added_elsewhere other place node es (no_name p.folder place other p.name p.place_is apart.0) none)
           ∙ sym (order_is top es other);
     }

@@ -1,5 +1,5 @@
 -- What a disk with a tree answers, from what its tree answers.
-use Rattle.std.proofs.Common.{◌≡◌, ℕ, List, [], refl, sym, ◌∙◌, ap, subst, reverse, inr, Bool, true, false, cond}
+use Rattle.std.proofs.Common.{◌≡◌, ◌+◌, ℕ, List, [], refl, sym, ◌∙◌, ap, subst, reverse, inr, Bool, true, false, cond}
 use Rattle.std.specs.Prelude.{Option, Some, None, IsSome, is_some, option_map}
 use Rattle.std.specs.List.Sorted.{IsStrictlySortedBy}
 use Rattle.std.specs.Map.{keys_of}
@@ -14,8 +14,11 @@ use Rattle.sd_edge.specs.Files.{path_text, Resolves, Reads, Creates, CannotRenam
 use Rattle.sd_edge.specs.Lists.{ListsDirectory, TellAll}
 use Rattle.std.specs.Borrow.{Bor}
 use Rattle.sd_edge.specs.MemNode.{now_of}
-use Rattle.sd_edge.specs.MemTree.{Adds, tree_of, listing}
+use Rattle.sd_edge.specs.MemTree.{Adds, AddsName, tree_of, listing}
+use Rattle.sd_edge.specs.declared.memory.disk.MemDisk.{MemDisk}
+use Rattle.sd_edge.specs.MemDisk.{mem_state, next_number, BuildsLike}
 use Rattle.sd_edge.proofs.ListedLemmas.{listing_tells}
+use Rattle.sd_edge.proofs.OrderLemmas.{orders_added}
 use Rattle.sd_edge.proofs.StandLemmas.{reached_stands}
 
 -- the node of a name list at which something stands
@@ -67,21 +70,39 @@ reads state path found place b bytes leads is held some =
     let here = file_with_bytes (file_at state.tree place) b bytes held some in
     (here.0, file_where state.tree (reached state.tree path true) place (sym leads ∙ is) ∙ here.1)
 
--- a new file with the mode of another is added
-pub creates : (old new : DiskState) (path like : List ℕ) (found other : Option NameList) (model place : NameList) (m : Option ℕ) (mode ino : ℕ) (bytes : List ℕ) → found ≡ reached old.tree like true → found ≡ Some model
-    → m ≡ option_map (λ (f : List ℕ × ℕ). f.1) (file_at old.tree model) → m ≡ Some mode → other ≡ named old.tree path → other ≡ Some place → node_at old.tree place ≡ None
-    → bytes ≡ [] → Adds old.tree place (file bytes mode) ino new.tree → Creates old path like new
-creates old new path like found other model place m mode ino bytes leads is held some names there free none adds =
-    let here = file_with_mode (file_at old.tree model) m mode held some in
+-- an empty file with the mode of another is added, last in its folder
+pub builds_like : (old new : MemDisk) (path like : List ℕ) (found other : Option NameList) (model place : NameList) (m : Option ℕ) (mode : ℕ) (bytes : List ℕ) → found ≡ reached (mem_state old).tree like true → found ≡ Some model
+    → m ≡ option_map (λ (f : List ℕ × ℕ). f.1) (file_at (mem_state old).tree model) → m ≡ Some mode → other ≡ named (mem_state old).tree path → other ≡ Some place → bytes ≡ []
+    → Adds (mem_state old).tree place (file bytes mode) (next_number old) (mem_state new).tree → AddsName (mem_state old).tree place (mem_state new).tree → next_number new ≡ next_number old + 1 → BuildsLike old path like new
+builds_like old new path like found other model place m mode bytes leads is held some names there none adds order number =
+    let before = (mem_state old).tree in
+    let here = file_with_mode (file_at before model) m mode held some in
     record {
       place = place;
       names = sym names ∙ there;
-      was_free = free;
       bytes = here.0;
       mode = mode;
-      model = file_where old.tree (reached old.tree like true) model (sym leads ∙ is) ∙ here.1;
-      stands = ap file_node adds.stands ∙ ap (λ (held : List ℕ). Some (held, mode)) none;
-      others = adds.others;
+      model = file_where before (reached before like true) model (sym leads ∙ is) ∙ here.1;
+      adds = subst (λ (empty : List ℕ). Adds before place (file empty mode) (next_number old) (mem_state new).tree) none adds;
+      order = order;
+      number = number;
+    }
+
+-- so a new file is created, where nothing stood
+pub creates : (old new : MemDisk) (path like : List ℕ) (other : Option NameList) (place : NameList) → other ≡ named (mem_state old).tree path → other ≡ Some place → node_at (mem_state old).tree place ≡ None → BuildsLike old path like new
+    → Creates (mem_state old) path like (mem_state new)
+creates old new path like other place names there free b =
+    let before = (mem_state old).tree in
+    record {
+      place = b.place;
+      names = b.names;
+      was_free = ap (node_at before) (same_Some b.place place (sym b.names ∙ sym names ∙ there)) ∙ free;
+      bytes = b.bytes;
+      mode = b.mode;
+      model = b.model;
+      stands = ap file_node b.adds.stands;
+      others = b.adds.others;
+      orders = orders_added before (mem_state new).tree b.place b.order;
     }
 
 -- what is something and no file

@@ -38,7 +38,7 @@ followed_by look (suc links) follow at parts =
 -- nor does following links
 followed_alike : (tree : Tree) (links : ℕ) (follow : Bool) (at : NameList) (parts : List Name)
     → followed tree links follow at parts ≡ followed_by (node_at tree) links follow at parts
-unfolding parts_of followed
+unfolding parts_of
 followed_alike tree zero follow at parts = steps_alike tree (λ folder target rest. None) follow at parts
 followed_alike tree (suc links) follow at parts =
     (λ i. steps tree (λ folder target rest. cond (bytes_eq target []) None (followed_alike tree links follow (start_of folder target) (parts_of target ++ rest) i)) follow at parts)

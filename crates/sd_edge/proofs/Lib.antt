@@ -15,6 +15,7 @@ pub mod TrailLemmas
 pub mod WayLemmas
 pub mod ListingLemmas
 pub mod ListedLemmas
+pub mod OrderLemmas
 pub mod SoundLemmas
 pub mod TreeLemmas
 pub mod OpenListsLemmas

@@ -127,7 +127,7 @@ module _ {old new : Tree} (same : SameWays old new) where
 
   -- links lead to the same directory too
   followed_alike : (links : ℕ) (follow : Bool) (at : NameList) (parts : List Name) → directory_in new (followed new links follow at parts) ≡ directory_in old (followed old links follow at parts)
-  unfolding directory_in followed
+  unfolding directory_in
   followed_alike zero follow at parts = walk_alike (λ folder target rest. None) (λ folder target rest. None) (λ folder target rest. refl) follow at parts
   followed_alike (suc links) follow at parts =
       walk_alike _ _ (λ folder target rest. cond_alike (directory_in new) (directory_in old) (bytes_eq target []) (bytes_eq target []) None None _ _ refl refl
@@ -220,7 +220,6 @@ module _ {old new : Tree} (same : SameWays old new) where
 
   -- links still lead there too
   followed_still : (links : ℕ) (q : NameList) → IsSome (node_at new q) → (follow : Bool) (at : NameList) (parts : List Name) → followed old links follow at parts ≡ Some q → followed new links follow at parts ≡ Some q
-  unfolding followed
   followed_still zero q stands follow at parts e = walk_still (λ folder target rest. None) (λ folder target rest. None) q stands (λ folder target rest h. h) follow at parts e
   followed_still (suc links) q stands follow at parts e =
       walk_still _ _ q stands

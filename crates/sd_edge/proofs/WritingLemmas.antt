@@ -2,7 +2,7 @@
 use Rattle.std.proofs.Common.{◌≡◌, ℕ, List, refl, sym, ◌∙◌, ap, Bool, true}
 use Rattle.std.specs.Prelude.{Option, Some, None, is_some, option_map}
 use Rattle.std.proofs.lemmas.Option.{same_Some}
-use Rattle.sd_edge.specs.Tree.{NameList, Content, directory, link, file, other, Node, node_at, file_at, file_node, file_content, identity_of}
+use Rattle.sd_edge.specs.Tree.{NameList, Content, directory, link, file, other, Node, SameOrders, node_at, file_at, file_node, file_content, identity_of}
 use Rattle.sd_edge.specs.Paths.{reached}
 use Rattle.sd_edge.specs.Disk.{DiskState}
 use Rattle.sd_edge.specs.Files.{Writes}
@@ -32,8 +32,8 @@ same_identity (Some node) bytes = refl
 
 -- so a file that is given other bytes is written
 pub writes : (old new : DiskState) (path bytes held : List ℕ) (found : Option NameList) (place : NameList) (test : Bool) → found ≡ reached old.tree path true → found ≡ Some place → test ≡ is_some (file_at old.tree place) → test ≡ true
-    → held ≡ bytes → PutsBytes old.tree place held new.tree → Writes old path bytes new
-writes old new path bytes held found place test leads is asked holds copied puts =
+    → held ≡ bytes → PutsBytes old.tree place held new.tree → SameOrders old.tree new.tree → Writes old path bytes new
+writes old new path bytes held found place test leads is asked holds copied puts orders =
     let here = file_found (file_at old.tree place) test asked holds in
     record {
       place = place;
@@ -44,4 +44,5 @@ writes old new path bytes held found place test leads is asked holds copied puts
       holds = ap file_node puts.holds ∙ file_with (node_at old.tree place) held here.0 here.1 ∙ ap (λ (b : List ℕ). Some (b, here.0.1)) copied;
       identity = ap (option_map identity_of) puts.holds ∙ same_identity (node_at old.tree place) held;
       others = puts.others;
+      orders = orders;
     }

@@ -6,8 +6,8 @@ use Rattle.sd_edge.specs.declared.meta.Kind.{Kind}
 use Rattle.sd_edge.specs.declared.meta.Kind.TheVariants as kind
 use Rattle.sd_edge.specs.declared.meta.Meta.{Meta}
 use Rattle.sd_edge.specs.declared.meta.Ident.{Ident}
-use Rattle.sd_edge.specs.Tree.{NameList, Content, directory, link, file, other, Node, Tree, SameBut, node_at, file_at, identity_at}
-use Rattle.sd_edge.specs.Paths.{reached, named, Leads}
+use Rattle.sd_edge.specs.Tree.{NameList, Content, directory, link, file, other, Node, Tree, SameBut, SameOrders, SameOrdersBut, node_at, file_at, identity_at}
+use Rattle.sd_edge.specs.Paths.{parent_of, reached, named, Leads}
 use Rattle.sd_edge.specs.Disk.{DiskState, SameTree}
 
 -- ---- stat, ident, resolve
@@ -72,7 +72,8 @@ Reads old path bytes = (mode : ℕ) × (file_of old.tree path ≡ Some (bytes, m
 
 -- ---- create_like
 
--- a new empty file stands at the path, with the mode of the file that `like` leads to; nothing stood there
+-- A new empty file stands at the path, with the mode of the file that `like` leads to; nothing stood there. Every other folder
+-- keeps its order.
 pub record Creates (old : DiskState) (path like : List ℕ) (new : DiskState) : Type 0 where
   pub place : NameList
   pub names : named old.tree path ≡ Some place
@@ -82,6 +83,7 @@ pub record Creates (old : DiskState) (path like : List ℕ) (new : DiskState) : 
   pub model : file_of old.tree like ≡ Some (bytes, mode)
   pub stands : file_at new.tree place ≡ Some ([], mode)
   pub others : SameBut place old.tree new.tree
+  pub orders : SameOrdersBut (parent_of place ∷ []) old.tree new.tree
 
 -- the path's folder is no directory, or `like` leads to no regular file
 abbrev pub CannotCreate : DiskState → List ℕ → List ℕ → Type 0
@@ -96,7 +98,7 @@ pub record IsTaken (old : DiskState) (path like : List ℕ) : Type 0 where
 
 -- ---- write_file, sync
 
--- the regular file that the path leads to holds these bytes; its mode, device and inode are kept
+-- the regular file that the path leads to holds these bytes; its mode, device and inode and each folder's order are kept
 pub record Writes (old : DiskState) (path bytes : List ℕ) (new : DiskState) : Type 0 where
   pub place : NameList
   pub leads : reached old.tree path true ≡ Some place
@@ -106,6 +108,7 @@ pub record Writes (old : DiskState) (path bytes : List ℕ) (new : DiskState) : 
   pub holds : file_at new.tree place ≡ Some (bytes, mode)
   pub identity : identity_at new.tree place ≡ identity_at old.tree place
   pub others : SameBut place old.tree new.tree
+  pub orders : SameOrders old.tree new.tree
 
 -- after a failure the file holds any bytes
 abbrev pub MayHaveWritten : DiskState → List ℕ → DiskState → Type 0
@@ -129,7 +132,8 @@ pub record IsOther (old : DiskState) (path : List ℕ) : Type 0 where
   pub stands : IsSome (node_at old.tree place)
   pub no_file : file_at old.tree place ≡ None
 
--- the file at `from` stands at `to`, where nothing or a regular file stood, and `from` is free unless both are one place
+-- The file at `from` stands at `to`, where nothing or a regular file stood, and `from` is free unless both are one place. Every
+-- folder but theirs keeps its order.
 pub record Renames (old : DiskState) (from to : List ℕ) (new : DiskState) : Type 0 where
   pub source : NameList
   pub target : NameList
@@ -140,6 +144,7 @@ pub record Renames (old : DiskState) (from to : List ℕ) (new : DiskState) : Ty
   pub moved : node_at new.tree target ≡ node_at old.tree source
   pub gone : source ≢ target → node_at new.tree source ≡ None
   pub others : (q : NameList) → q ≢ source → q ≢ target → node_at new.tree q ≡ node_at old.tree q
+  pub orders : SameOrdersBut (parent_of source ∷ parent_of target ∷ []) old.tree new.tree
 
 -- no regular file stands at `from` itself, the folder of `to` is no directory, or something else than a regular file stands at `to`
 abbrev pub CannotRename : DiskState → List ℕ → List ℕ → Type 0
@@ -149,13 +154,14 @@ CannotRename old from to = (file_named old.tree from ≡ None) ⊎ (named old.tr
 abbrev pub MayHaveRenamed : DiskState → List ℕ → List ℕ → DiskState → Type 0
 MayHaveRenamed old from to new = SameTree old new ⊎ Renames old from to new
 
--- a regular file stood at the path itself, which is free
+-- a regular file stood at the path itself, which is free; every other folder keeps its order
 pub record Removes (old : DiskState) (path : List ℕ) (new : DiskState) : Type 0 where
   pub place : NameList
   pub names : named old.tree path ≡ Some place
   pub was_file : IsSome (file_at old.tree place)
   pub gone : node_at new.tree place ≡ None
   pub others : SameBut place old.tree new.tree
+  pub orders : SameOrdersBut (parent_of place ∷ []) old.tree new.tree
 
 -- no regular file stands at the path itself
 abbrev pub CannotRemove : DiskState → List ℕ → Type 0

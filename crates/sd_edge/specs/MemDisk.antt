@@ -8,7 +8,9 @@ use Rattle.sd_edge.specs.declared.fault.DiskFault.{DiskFault}
 use Rattle.sd_edge.specs.declared.fault.DiskFault.TheVariants.{Failed}
 use Rattle.sd_edge.specs.Calls.{count_after}
 use Rattle.sd_edge.specs.Lists.{IsUnfinished, IsFull, Passes, Ends, HasNoneLeft}
-use Rattle.sd_edge.specs.Tree.{NameList, Content, directory, Tree, node_at}
+use Rattle.sd_edge.specs.Tree.{NameList, Content, directory, file, Tree, node_at}
+use Rattle.sd_edge.specs.Paths.{named}
+use Rattle.sd_edge.specs.Files.{file_of}
 use Rattle.sd_edge.specs.MemTree.{tree_of, IsFreePlace, Adds, AddsName}
 use Rattle.sd_edge.specs.OpenLists.{state_with}
 use Rattle.sd_edge.specs.declared.memory.disk.MemDisk.{MemDisk}
@@ -70,6 +72,18 @@ pub record Builds (old : MemDisk) (path : List ℕ) (content : Content) (new : M
   pub place : NameList
   pub was_free : IsFreePlace (mem_state old).tree path place
   pub adds : Adds (mem_state old).tree place content (next_number old) (mem_state new).tree
+  pub order : AddsName (mem_state old).tree place (mem_state new).tree
+  pub number : next_number new ≡ next_number old + 1
+
+-- An empty file with the mode of the one that `like` leads to stands at the place that the path names, with its folder's device and the
+-- next inode number; its name comes last.
+pub record BuildsLike (old : MemDisk) (path like : List ℕ) (new : MemDisk) : Type 0 where
+  pub place : NameList
+  pub names : named (mem_state old).tree path ≡ Some place
+  pub bytes : List ℕ
+  pub mode : ℕ
+  pub model : file_of (mem_state old).tree like ≡ Some (bytes, mode)
+  pub adds : Adds (mem_state old).tree place (file [] mode) (next_number old) (mem_state new).tree
   pub order : AddsName (mem_state old).tree place (mem_state new).tree
   pub number : next_number new ≡ next_number old + 1
 

@@ -5,7 +5,7 @@ use Rattle.std.specs.Option.{option_map_or}
 use Rattle.std.specs.Str.{bytes_eq}
 use Rattle.std.specs.FinMap.{from_entries}
 use Rattle.sd_edge.specs.declared.meta.RawEntry.{RawEntry}
-use Rattle.sd_edge.specs.Tree.{Name, NameList, Content, Node, Tree, IsName, SameBut, node_at, is_directory_at}
+use Rattle.sd_edge.specs.Tree.{Name, NameList, Content, Node, Tree, IsName, SameBut, SameOrders, SameOrdersBut, node_at, is_directory_at}
 use Rattle.sd_edge.specs.Paths.{parts_of, parent_of, is_up, reached_plain}
 use Rattle.sd_edge.specs.MemNode.{with_bytes}
 use Rattle.sd_edge.specs.Files.{kind_of}
@@ -79,7 +79,7 @@ pub record AddsName (old : Tree) (place : NameList) (new : Tree) : Type 0 where
   pub name : Name
   pub place_is : place ≡ folder ++ name ∷ []
   pub last : new.order folder ≡ old.order folder ++ name ∷ []
-  pub others : (f : NameList) → f ≢ folder → new.order f ≡ old.order f
+  pub others : SameOrdersBut (folder ∷ []) old new
 
 -- the node at the place has other bytes
 pub record PutsBytes (old : Tree) (place : NameList) (bytes : List ℕ) (new : Tree) : Type 0 where
@@ -101,7 +101,7 @@ pub record Moves (old : Tree) (from to : NameList) (new : Tree) : Type 0 where
 pub record PutsDevice (old : Tree) (place : NameList) (dev : ℕ) (new : Tree) : Type 0 where
   pub within : (rest : NameList) → node_at new (place ++ rest) ≡ option_map (λ (node : Node). record node { dev = dev }) (node_at old (place ++ rest))
   pub others : (q : NameList) → ((rest : NameList) → q ≢ place ++ rest) → node_at new q ≡ node_at old q
-  pub orders : (folder : NameList) → new.order folder ≡ old.order folder
+  pub orders : SameOrders old new
 
 -- the path leads to a node, no link followed; it and all nodes below it have this device
 pub record PutsDeviceAt (old : Tree) (path : List ℕ) (dev : ℕ) (new : Tree) : Type 0 where

@@ -9,8 +9,8 @@ ghost use Rattle.sd_edge.specs.MemNode.{content_of};
 ghost use Rattle.sd_edge.specs.MemTree.{HasNoFreePlace, PutsDeviceAt};
 ghost use Rattle.sd_edge.specs.Disk.{SameTree, SameLists};
 ghost use Rattle.sd_edge.specs.Files.{file_of, LeadsNowhere, Describes, Identifies, Resolves, IsNoFile, Reads, Creates, CannotCreate, IsTaken, Writes, Renames, CannotRename, Removes, CannotRemove};
-ghost use Rattle.sd_edge.specs.Lists.{IsOpen, SameOtherLists, SameOpen, Opens, IsNoDirectory, ListsDirectory, Ends, HasNoneLeft};
-ghost use Rattle.sd_edge.specs.MemDisk.{mem_state, left_entries, TakesLast, failing_calls, calls_of, next_number, IsTopAlone, IsUnused, Builds, KeepsTree, KeepsCounts, IsToFail, FailsToGive, TakesNext, Skips, CountsCall};
+ghost use Rattle.sd_edge.specs.Lists.{IsOpen, SameOtherLists, SameOpen, Opens, IsNoDirectory, ListsDirectory, Ends, HasNoneLeft, Closes};
+ghost use Rattle.sd_edge.specs.MemDisk.{mem_state, left_entries, TakesLast, failing_calls, calls_of, next_number, IsTopAlone, IsUnused, Builds, BuildsLike, KeepsTree, KeepsCounts, IsToFail, FailsToGive, TakesNext, Skips, CountsCall};
 
 use crate::memory::calls::CallCounter;
 use crate::memory::node::MemContent;
@@ -314,7 +314,13 @@ impl Disk for MemDisk {
         Ok(next)
     }
 
-    fn close_dir(&mut self, list: ListId) {
+    fn close_dir(&mut self, list: ListId)
+        ensures closed { Closes (mem_state self.old) list.number (mem_state self.new) }
+        ensures tree { KeepsTree self.old self.new }
+        ensures faults { (mem_state self.new).faults ≡ (mem_state self.old).faults }
+        ensures calls { calls_of self.new ≡ calls_of self.old }
+        ensures failing { failing_calls self.new ≡ failing_calls self.old }
+    {
         self.lists.close(list.number);
     }
 
@@ -341,8 +347,8 @@ impl Disk for MemDisk {
         ensures created { OnOk result (Creates (mem_state self.old) path.now like.now (mem_state self.new)) }
         ensures absent { IsErrOf result DiskFault.Absent → CannotCreate (mem_state self.old) path.now like.now }
         ensures taken { IsErrOf result DiskFault.Taken → IsTaken (mem_state self.old) path.now like.now }
+        ensures added { OnOk result (BuildsLike self.old path.now like.now self.new) }
         ensures refused { OnErr result (KeepsTree self.old self.new) }
-        ensures number { OnOk result (next_number self.new ≡ next_number self.old + 1) }
         ensures lists { SameLists (mem_state self.old) (mem_state self.new) }
         ensures fails { IsErrOf result DiskFault.Failed ↔ IsToFail self.old }
         ensures counts { CountsCall self.old result self.new }

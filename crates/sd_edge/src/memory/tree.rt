@@ -1,7 +1,8 @@
 //! The tree of a disk in memory.
 
-ghost use Rattle.std.specs.Prelude.{◌≡◌, ◌+◌, [], ◌⊎◌, None, option_map, is_some, IfOk, OnOk, OnErr, IsSome};
-ghost use Rattle.sd_edge.specs.Tree.{directory, node_at, is_directory_at, file_at};
+ghost use Rattle.std.specs.Prelude.{◌≡◌, ◌+◌, [], ◌∷◌, ◌⊎◌, None, option_map, is_some, IfOk, OnOk, OnErr, IsSome};
+ghost use Rattle.sd_edge.specs.Tree.{directory, SameOrders, SameOrdersBut, node_at, is_directory_at, file_at};
+ghost use Rattle.sd_edge.specs.Paths.{parent_of};
 ghost use Rattle.sd_edge.specs.MemNode.{content_of, now_of};
 ghost use Rattle.sd_edge.specs.MemTree.{listing, dev_at, IsPlaceIn, Adds, AddsName, PutsBytes, TakesAway, Moves};
 ghost use Rattle.sd_edge.specs.MemSound.{IsSound, IsSound-prop};
@@ -120,6 +121,7 @@ impl MemTree {
     /// Gives the regular file at a place other bytes.
     pub fn put_bytes(&mut self, place: &Place, bytes: Vec<u8>)
         ensures put { PutsBytes (mem_tree self.old) place.now bytes.items (mem_tree self.new) }
+        ensures orders { SameOrders (mem_tree self.old) (mem_tree self.new) }
         ensures number { self.new.next_ino ≡ self.old.next_ino }
     {
         if let Some(node) = self.nodes.get_mut(place) {
@@ -131,6 +133,7 @@ impl MemTree {
     pub fn remove(&mut self, place: &Place)
         requires { IsSome (file_at (mem_tree self.old) place.now) }
         ensures removed { TakesAway (mem_tree self.old) place.now (mem_tree self.new) }
+        ensures orders { SameOrdersBut (parent_of place.now ∷ []) (mem_tree self.old) (mem_tree self.new) }
         ensures number { self.new.next_ino ≡ self.old.next_ino }
     {
         let _node = self.nodes.remove(place);
@@ -142,6 +145,7 @@ impl MemTree {
         requires is_place { IsPlaceIn (mem_tree self.old) to }
         requires may_come { (node_at (mem_tree self.old) to ≡ None) ⊎ IsSome (file_at (mem_tree self.old) to) }
         ensures moved { OnOk result (Moves (mem_tree self.old) from.now to (mem_tree self.new)) }
+        ensures orders { OnOk result (SameOrdersBut (parent_of from.now ∷ parent_of to ∷ []) (mem_tree self.old) (mem_tree self.new)) }
         ensures refused { OnErr result (mem_tree self.new ≡ mem_tree self.old) }
         ensures number { self.new.next_ino ≡ self.old.next_ino }
     {

@@ -1,12 +1,15 @@
 use Rattle.std.proofs.Common.{◌≡◌, None, rules}
 use Rattle.sd_edge.specs.Tree.{node_at}
 use Rattle.sd_edge.specs.MemTreeView.{mem_tree}
-use Rattle.sd_edge.specs.MemDisk.{mem_state}
-use Rattle.sd_edge.proofs.DiskLemmas.{creates}
+use Rattle.sd_edge.proofs.DiskLemmas.{builds_like, creates}
 use Rattle.sd_edge.proofs.memory.disk.MemDiskDisk.create_like.Goals as goal
+
+pub returns-clause-added : goal.returns-clause-added
+returns-clause-added c =
+    builds_like c.args.self.now _ c.args.path.now c.args.like.now _ _ c.in-Some.model c.in-Some-2.place _ c.in-Some-mode.mode _ c.in_ok-model.ensures c.in-Some.is c.mode.ensures c.in-Some-mode.is
+    c.in_ok-place.ensures.answer c.in-Some-2.is c.new.ensures.items c.in_ok-add.ensures.added c.in_ok-add.ensures.order c.in_ok-add.ensures.number
 
 pub returns-clause-created : goal.returns-clause-created
 returns-clause-created c =
     let free : node_at (mem_tree c.args.self.now.tree) c.in-Some-2.place ≡ None = search rules in
-    creates (mem_state c.args.self.now) _ c.args.path.now c.args.like.now _ _ c.in-Some.model c.in-Some-2.place _ c.in-Some-mode.mode _ _ c.in_ok-model.ensures c.in-Some.is c.mode.ensures c.in-Some-mode.is
-    c.in_ok-place.ensures.answer c.in-Some-2.is free c.new.ensures.items c.in_ok-add.ensures.added
+    creates c.args.self.now _ c.args.path.now c.args.like.now _ c.in-Some-2.place c.in_ok-place.ensures.answer c.in-Some-2.is free (returns-clause-added c)

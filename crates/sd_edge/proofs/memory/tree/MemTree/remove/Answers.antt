@@ -1,5 +1,6 @@
 use Rattle.sd_edge.specs.MemTreeView.{mem_tree}
 use Rattle.sd_edge.proofs.SoundLemmas.{file_not_top, takes, sound_taken}
+use Rattle.sd_edge.proofs.OrderLemmas.{orders_taken}
 use Rattle.sd_edge.proofs.memory.tree.MemTree.remove.Goals as goal
 
 pub invariant_of-self : goal.invariant_of-self
@@ -11,3 +12,8 @@ pub returns-clause-removed : goal.returns-clause-removed
 returns-clause-removed c =
     let self = c.args.self.now in
     takes self.top self.nodes.entries _ c.args.place.now (file_not_top (mem_tree self) _ self.sound.is_tree c.requires) c.remove-node.ensures.updates.0
+
+pub returns-clause-orders : goal.returns-clause-orders
+returns-clause-orders c =
+    let self = c.args.self.now in
+    orders_taken self.top self.top self.nodes.entries _ self.sound.ordered c.remove-node.ensures.ordered c.args.place.now (returns-clause-removed c)

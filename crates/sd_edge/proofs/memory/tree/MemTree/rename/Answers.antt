@@ -1,6 +1,7 @@
 use Rattle.std.proofs.Common.{sym, ◌∙◌}
 use Rattle.sd_edge.specs.MemTreeView.{mem_tree}
 use Rattle.sd_edge.proofs.SoundLemmas.{same_places, moves_nowhere, ready, place_kept, file_found, moves, sound_moved, certain}
+use Rattle.sd_edge.proofs.OrderLemmas.{orders_moved}
 use Rattle.sd_edge.proofs.memory.tree.MemTree.rename.Goals as goal
 
 pub returns-then-eq-clause-moved : goal.returns-then-eq-clause-moved
@@ -15,6 +16,12 @@ invariant_of-self-in_default c =
 
 pub returns-in_default-clause-moved : goal.returns-in_default-clause-moved
 returns-in_default-clause-moved c =
+    let self = c.args.self.now in
+    let steps = ready self.nodes.entries _ _ c.args.from.now c.args.to _ _ _ c.eq.ensures c.if-eq.false c.in_ok-try_clone.ensures c.in_ok-insert.ensures.updates.0 c.remove.ensures.updates.0 in
+    absurd (file_found self.top self.nodes.entries _ _ c.args.from.now c.args.to self.sound.is_tree c.requires.is_file steps (sym c.in_default.ensures.value))
+
+pub returns-in_default-clause-orders : goal.returns-in_default-clause-orders
+returns-in_default-clause-orders c =
     let self = c.args.self.now in
     let steps = ready self.nodes.entries _ _ c.args.from.now c.args.to _ _ _ c.eq.ensures c.if-eq.false c.in_ok-try_clone.ensures c.in_ok-insert.ensures.updates.0 c.remove.ensures.updates.0 in
     absurd (file_found self.top self.nodes.entries _ _ c.args.from.now c.args.to self.sound.is_tree c.requires.is_file steps (sym c.in_default.ensures.value))
@@ -38,3 +45,8 @@ returns-clause-moved c =
     let self = c.args.self.now in
     let steps = ready self.nodes.entries _ _ c.args.from.now c.args.to _ _ _ c.eq.ensures c.if-eq.false c.in_ok-try_clone.ensures c.in_ok-insert.ensures.updates.0 c.remove.ensures.updates.0 in
     moves self.top self.nodes.entries _ _ _ c.args.from.now c.args.to _ self.sound.is_tree c.requires.is_file c.requires.is_place steps (sym c.in-Some.ensures.value) c.in_ok-insert-2.ensures.updates.0
+
+pub returns-clause-orders : goal.returns-clause-orders
+returns-clause-orders c =
+    let self = c.args.self.now in
+    orders_moved self.top self.top self.nodes.entries _ self.sound.ordered c.insert-2.ensures.ordered c.args.from.now c.args.to (returns-clause-moved c)
