@@ -14,11 +14,10 @@ use Rattle.sd_edge.specs.Disk.{DiskState, SameTree, SameLists, HasCause}
 use Rattle.sd_edge.specs.Files.{path_text, file_of, Creates, CannotCreate, IsTaken}
 use Rattle.sd_edge.proofs.PathLemmas.{reached_file}
 use Rattle.sd_edge.proofs.PathTextLemmas.{text_names}
-use Rattle.sd_core.specs.declared.error.Error.{Error}
 use Rattle.sd_core.proofs.FillingLemmas.{some_not_none}
-use Rattle.sd_core.specs.Fault.{IsErrorOf}
+use Rattle.sd_core.specs.Causes.{HasCauseOf}
 use Rattle.sd_core.specs.Rewriting.{hex_digit, reserved_name, reserved_names, IsFilePath, NoneFree}
-use Rattle.sd_core.specs.Temporary.{IsReservedPath, CreatesTemporary, HasDiskCause}
+use Rattle.sd_core.specs.Temporary.{IsReservedPath, CreatesTemporary}
 
 -- ---- the file's place
 
@@ -234,35 +233,22 @@ risen_since before middle now low (inl rose) = inl (omega arith)
 risen_since before middle now low (inr last) = inr last
 
 -- where the tree is told, that file is there
-absent_risen : {T : Type 0} (tells : Bool) (s t : DiskState) → HasCause {T = T} tells s t (Err disk.Absent) → (IsTrue tells → ⊥) → s.faults < t.faults
-absent_risen true s t cause there = absurd (there refl)
-absent_risen false s t cause there = cause.absent refl refl
+absent_risen : {T : Type 0} (tells : Bool) (s t : DiskState) (r : Result T DiskFault) → HasCause tells s t r → IsErrOf r disk.Absent → (IsTrue tells → ⊥) → (tells ≡ false) × (s.faults < t.faults)
+absent_risen true s t r cause e there = absurd (there refl)
+absent_risen false s t r cause e there = (refl, cause.absent refl e)
 
--- an error of the disk's fault
-pub disk_cause : {T U : Type 0} (tells : Bool) (old s t : DiskState) (fault : DiskFault) (e : Error) → old.faults ≤ s.faults → HasCause {T = T} tells s t (Err fault) → fault ≢ disk.Taken
-    → (IsTrue tells → fault ≢ disk.Absent) → IsErrorOf fault e → HasDiskCause {T = U} old t (Err e)
-disk_cause tells old s t disk.Absent e low cause not_taken not_absent is = record {
+-- an error of a step that comes after others
+pub step_cause : {T U E : Type 0} {error_of : DiskFault → E} (tells : Bool) (old s t : DiskState) (r : Result T DiskFault) (q : Result U E) → ((f : DiskFault) → IsErrOf q (error_of f) → IsErrOf r f)
+    → old.faults ≤ s.faults → HasCause tells s t r → (IsErrOf r disk.Taken → ⊥) → (IsTrue tells → IsErrOf r disk.Absent → ⊥) → HasCauseOf error_of tells old t q
+step_cause tells old s t r q same low cause not_taken not_absent = record {
   never_falls = omega (arith, cause.never_falls);
-  risen = λ fault at. inl (omega (arith, absent_risen tells s t cause (λ told. not_absent told refl)));
-  fault_is = λ fault at. inr cc;
-  no_job = λ jobs at. cc;
-  no_root = λ at. cc;
-  no_glob = λ place at. cc;
+  failed = λ e. risen_since old.faults s.faults t.faults low (cause.failed (same disk.Failed e));
+  absent = λ e.
+      let risen = absent_risen tells s t r cause (same disk.Absent e) (λ told. not_absent told (same disk.Absent e)) in
+      (risen.0, omega (arith, risen.1));
+  not_taken = λ e. not_taken (same disk.Taken e);
 }
-disk_cause tells old s t disk.Taken e low cause not_taken not_absent is = absurd (not_taken refl)
-disk_cause tells old s t disk.Failed e low cause not_taken not_absent is = record {
-  never_falls = omega (arith, cause.never_falls);
-  risen = λ fault at. risen_since old.faults s.faults t.faults low (cause.failed refl);
-  fault_is = λ fault at. inl cc;
-  no_job = λ jobs at. cc;
-  no_root = λ at. cc;
-  no_glob = λ place at. cc;
-}
-disk_cause tells old s t disk.NoMemory e low cause not_taken not_absent is = record {
-  never_falls = omega (arith, cause.never_falls);
-  risen = λ fault at. cc;
-  fault_is = λ fault at. cc;
-  no_job = λ jobs at. cc;
-  no_root = λ at. cc;
-  no_glob = λ place at. cc;
-}
+
+-- the same error of another call
+pub same_error : {T U : Type 0} (fault f : DiskFault) → IsErrOf {T = U} (Err fault) f → IsErrOf {T = T} (Err fault) f
+same_error fault f e = cc

@@ -14,7 +14,6 @@ use Rattle.sd_edge.proofs.WayLemmas.{same_or_other, named_alike, creates_ways}
 use Rattle.sd_edge.proofs.PathTextLemmas.{text_names}
 use Rattle.sd_core.specs.declared.error.Error.{Error}
 use Rattle.sd_core.specs.declared.error.Error.TheVariants as error
-use Rattle.sd_core.specs.Fault.{IsErrorOf}
 use Rattle.sd_core.specs.Rewriting.{reserved_name, IsFilePath, HasRisenBy, IsCleared}
 use Rattle.sd_core.specs.Temporary.{CreatesTemporary, AreTwoFiles, ChangesOnly, Moves, MayHaveMoved, IsRemoved, Exchanges, LeavesBytes}
 use Rattle.sd_core.proofs.FillingLemmas.{some_not_none}
@@ -148,11 +147,3 @@ module _ (s0 s1 : DiskState) (path text bytes : List ℕ) (is : IsTree s0.tree) 
             let here : o.place ≡ c.temporary = same_Some _ _ (sym o.names ∙ names_temporary) in
             absurd (some_not_none (file_at s2.tree o.place) o.is_file (sym (ap (option_and_then (file_at s2.tree)) (named_still ∙ ap (λ (q : NameList). Some q) (sym here))) ∙ none))
         by (inr (inr again)) = inr (risen_twice risen again)
-
--- an error of a file comes from a fault that was counted
-pub counted : (fault : DiskFault) (e : Error) (f : DiskFault) → (e ≡ error.NoMemory) ⊎ IsErrorOf fault e → e ≡ error.File f → fault ≢ disk.Absent → fault ≢ disk.Taken → fault ≡ disk.Failed
-counted fault e f (inl none) is not_absent not_taken = cc
-counted disk.Absent e f (inr of) is not_absent not_taken = absurd (not_absent refl)
-counted disk.Taken e f (inr of) is not_absent not_taken = absurd (not_taken refl)
-counted disk.Failed e f (inr of) is not_absent not_taken = refl
-counted disk.NoMemory e f (inr of) is not_absent not_taken = cc

@@ -14,4 +14,4 @@ pub mod RunLemmas
 pub mod SearchLemmas
 pub mod StackLemmas
 pub mod SweepLemmas
-pub mod WalkLemmas
+pub mod ListingLemmas

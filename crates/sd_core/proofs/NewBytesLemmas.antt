@@ -1,6 +1,6 @@
 -- A file with its new bytes.
 use Rattle.std.proofs.Common.{◌≤◌, ◌≡◌, ◌≢◌, ◌⊎◌, ℕ, Bool, true, false, not, List, [], length, refl, sym, ◌∙◌, ap, subst, inl, inr, arith}
-use Rattle.std.specs.Prelude.{Option, Some, None, is_some, IsTrue, Result, Ok, Err, IsErrAnd}
+use Rattle.std.specs.Prelude.{Option, Some, None, is_some, IsTrue, Result, Ok, Err, IsErrAnd, IsErrOf}
 use Rattle.std.specs.Option.{option_and_then}
 use Rattle.std.specs.Str.{bytes_eq}
 use Rattle.std.specs.Cmp.Lexicographic.{bytes_decides}
@@ -11,17 +11,17 @@ use Rattle.sd_edge.specs.Tree.{NameList, Tree, IsTree, SameBut, node_at, file_at
 use Rattle.sd_edge.specs.Paths.{parts_of}
 use Rattle.sd_edge.specs.Disk.{DiskState, SameTree, HasCause}
 use Rattle.sd_edge.specs.Files.{Reads, IsNoFile}
-use Rattle.sd_core.specs.declared.error.Error.{Error}
-use Rattle.sd_core.specs.Fault.{IsErrorOf}
-use Rattle.sd_core.specs.Rewriting.{ReplacesCover, NewBytes, IsFilePath, RewritesFile, IsOldOrNew, LeavesFile, IsCleared, HasRewritingCause}
+use Rattle.sd_core.specs.declared.rewriting.RewritingError.{RewritingError}
+use Rattle.sd_core.specs.declared.rewriting.RewritingError.TheVariants.{Disk}
+use Rattle.sd_core.specs.Rewriting.{ReplacesCover, NewBytes, IsFilePath, RewritesFile, IsOldOrNew, LeavesFile, IsCleared}
 use Rattle.grep_matcher.specs.Span.{Span}
 use Rattle.grep_matcher.specs.Cover.{prefers, IsFirst}
 use Rattle.grep_matcher.proofs.CoverLemmas.{cover_from_chain}
 use Rattle.grep_matcher.specs.Plain.{end_of_text}
 use Rattle.grep_matcher.specs.PlainLemmas.{text_lawful}
-use Rattle.sd_core.specs.Temporary.{HasBytes, Exchanges, LeavesBytes, HasDiskCause}
+use Rattle.sd_core.specs.Temporary.{HasBytes, Exchanges, LeavesBytes}
 use Rattle.sd_core.proofs.FillingLemmas.{leads_to_file}
-use Rattle.sd_core.proofs.CreatingLemmas.{placed, disk_cause}
+use Rattle.sd_core.proofs.CreatingLemmas.{placed}
 
 module _ (s0 : DiskState) (path find replacement bytes : List ℕ) (is : IsTree s0.tree) (it : IsFilePath s0.tree path) (reads : Reads s0 path bytes) where
   -- what is read is the file at the place
@@ -111,31 +111,19 @@ same a b test = (bytes_decides a b).0 (by (bytes_eq a b) test)
 
 -- ---- why it is refused
 
--- a cause of the disk's is one of the whole
-pub rewriting_cause : {T : Type 0} (tells : Bool) (old new : DiskState) (path : List ℕ) (r : Result T Error) → HasDiskCause old new r → HasRewritingCause tells old new path r
-rewriting_cause tells old new path r cause = record {
-  never_falls = cause.never_falls;
-  risen = cause.risen;
-  fault_is = cause.fault_is;
-  job = λ jobs e. absurd (cause.no_job jobs e);
-  job_risen = λ jobs untold e. absurd (cause.no_job jobs e);
-  no_root = cause.no_root;
-  no_glob = cause.no_glob;
-}
-
 -- reading counts no fault away
 pub cleared_since : (s0 s1 s2 : DiskState) (place : NameList) → SameTree s0 s1 → s0.faults ≤ s1.faults → IsCleared s1 place s2 → IsCleared s0 place s2
 cleared_since s0 s1 s2 place same low (inl others) = inl (subst (λ (t : Tree). SameBut place t s2.tree) same.tree others)
 cleared_since s0 s1 s2 place same low (inr (inl twice)) = inr (inl (omega arith))
 cleared_since s0 s1 s2 place same low (inr (inr last)) = inr (inr last)
 
--- of the reading
-pub reading_cause : {T U : Type 0} (tells : Bool) (s0 s : DiskState) (path : List ℕ) (fault : DiskFault) (r : Result U Error) → (IsTrue tells → IsTree s0.tree) → (IsTrue tells → IsFilePath s0.tree path)
-    → HasCause {T = T} tells s0 s (Err fault) → fault ≢ disk.Taken → (IsTrue tells → fault ≡ disk.Absent → IsNoFile s0 path) → IsErrAnd r (IsErrorOf fault) → HasRewritingCause tells s0 s path r
-reading_cause tells s0 s path fault (Ok x) is it cause not_taken absent from = absurd from
-reading_cause tells s0 s path fault (Err e) is it cause not_taken absent from =
-    rewriting_cause tells s0 s path (Err e) (disk_cause tells s0 s0 s fault e (omega arith) cause not_taken
-    (λ told e.
-    let at = placed s0.tree path (is told) (it told) in
-    leads_to_file s0.tree path (parts_of path) (record { names = at.names; is_file = (it told).is_file }) (absent told e))
-    from)
+-- the file that is read is there
+pub reads_file : (s : DiskState) (path : List ℕ) → IsTree s.tree → IsFilePath s.tree path → IsNoFile s path → ⊥
+reads_file s path is it none =
+    let at = placed s.tree path is it in
+    leads_to_file s.tree path (parts_of path) (record { names = at.names; is_file = it.is_file }) none
+
+-- an error that is passed on as one of the disk
+pub passed_as : {T U : Type 0} (r : Result U RewritingError) (fault f : DiskFault) → IsErrAnd r (λ e. e ≡ Disk fault) → IsErrOf r (Disk f) → IsErrOf {T = T} (Err fault) f
+passed_as (Ok x) fault f from e = absurd from
+passed_as (Err error) fault f from e = cc

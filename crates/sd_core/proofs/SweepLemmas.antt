@@ -15,6 +15,13 @@ use Rattle.sd_edge.proofs.WayLemmas.{same_or_other}
 use Rattle.sd_edge.proofs.PathTextLemmas.{text_parts, differs}
 use Rattle.sd_core.specs.declared.error.FailedJobs.{FailedJobs}
 use Rattle.sd_core.specs.declared.error.JobFault.TheVariants.{TempName}
+use Rattle.sd_core.specs.declared.error.Error.{Error}
+use Rattle.sd_core.specs.declared.error.Error.TheVariants.{File, FailedProcessing}
+use Rattle.sd_edge.specs.declared.fault.DiskFault.{DiskFault}
+use Rattle.sd_edge.specs.declared.fault.DiskFault.TheVariants as disk
+use Rattle.sd_core.specs.declared.rewriting.RewritingError.{RewritingError}
+use Rattle.sd_core.specs.declared.rewriting.RewritingError.TheVariants.{NoName, Disk}
+use Rattle.sd_core.specs.Errors.{IsErrorOfFile}
 use Rattle.sd_core.specs.declared.report.Report.{Report}
 use Rattle.sd_core.specs.declared.rewriting.Rewrite.{Rewrite}
 use Rattle.sd_core.specs.Rewriting.{IsFilePath, RewritesFile, IsOldOrNew, LeavesFile, Reserved, NoneFree}
@@ -262,14 +269,15 @@ module _ (old : Tree) (find replacement : List ℕ) (places : List NameList) whe
         }
 
     -- no reserved name was free beside the next file
-    pub no_room : (jobs : FailedJobs) → NoneFree mid (parent_of (parts_of path)) → jobs ≡ (path, TempName) ∷ [] → HasNoRoomBeside old places jobs
-    no_room jobs none job = record {
+    pub no_room : (jobs : FailedJobs) (new : Tree) → NoneFree mid (parent_of (parts_of path)) → new ≡ mid → jobs ≡ (path, TempName) ∷ [] → HasNoRoomBeside old places jobs new
+    no_room jobs new none same job = record {
       place = next.place;
       is_one = next.is_one;
       none_free = λ q free. none q (record {
         reserved = subst (λ (p : NameList). Reserved (parent_of p) q) (sym next.parts) free.reserved;
         free = still_free old find replacement (take n places) mid swept.rewritten q free.free;
       });
+      kept = ap (λ (t : Tree). node_at t next.place) same ∙ kept;
       job = job ∙ ap (λ (p : List ℕ). (p, TempName) ∷ []) next.path_is;
     }
 
@@ -335,6 +343,26 @@ module _ (old : Tree) (find replacement : List ℕ) (places : List NameList) whe
     pub left_at : (paths : List (List ℕ)) (new : Tree) → AreFilePaths old places paths → LeavesFile mid (parts_of path) find replacement new → LeavesFiles old find replacement places new
     left_at paths new are left = left_files new (subst (λ (q : NameList). LeavesFile mid q find replacement new) next.parts left) are.are_files
 
+-- ---- a file that isn't rewritten
+
+-- a command ends with a failed job where the file's folder has no free name
+pub failed_job : (path : List ℕ) (why : RewritingError) (e : Error) (jobs : FailedJobs) → IsErrorOfFile path why e → e ≡ FailedProcessing jobs → (why ≡ NoName) × (jobs ≡ (path, TempName) ∷ [])
+failed_job path NoName e jobs (inl job) is = (refl, cc)
+failed_job path NoName e jobs (inr none) is = cc
+failed_job path (Disk disk.Absent) e jobs of is = cc
+failed_job path (Disk disk.Taken) e jobs of is = cc
+failed_job path (Disk disk.Failed) e jobs of is = cc
+failed_job path (Disk disk.NoMemory) e jobs of is = cc
+
+-- and with a fault of the disk where the disk failed
+pub failed_disk : (path : List ℕ) (why : RewritingError) (e : Error) (fault : DiskFault) → IsErrorOfFile path why e → e ≡ File fault → why ≡ Disk fault
+failed_disk path NoName e fault (inl job) is = cc
+failed_disk path NoName e fault (inr none) is = cc
+failed_disk path (Disk disk.Absent) e fault of is = cc
+failed_disk path (Disk disk.Taken) e fault of is = cc
+failed_disk path (Disk disk.Failed) e fault of is = cc
+failed_disk path (Disk disk.NoMemory) e fault of is = cc
+
 -- ---- the chosen files of a command
 
 module _ (old mid : Tree) (order : TreeOrder) (globs : List (List ℕ)) (paths : List (List ℕ)) (same : mid ≡ old) (one : globs ≡ order.globs) (listed : ListsChosen old order.root globs paths) where
@@ -371,11 +399,11 @@ module _ (old mid : Tree) (order : TreeOrder) (globs : List (List ℕ)) (paths :
     left = subst (λ (t : Tree). LeavesFiles t order.find order.replacement listed.places new) same left;
   })
 
-  pub no_room_in_tree : (jobs : FailedJobs) → HasNoRoomBeside mid listed.places jobs → HasNoRoom old order jobs
-  no_room_in_tree jobs none = record {
+  pub no_room_in_tree : (jobs : FailedJobs) (new : Tree) → HasNoRoomBeside mid listed.places jobs new → HasNoRoom old order jobs new
+  no_room_in_tree jobs new none = record {
     top = listed.top;
     leads = listed.leads;
     places = listed.places;
     chosen = chosen_places;
-    no_room = subst (λ (t : Tree). HasNoRoomBeside t listed.places jobs) same none;
+    no_room = subst (λ (t : Tree). HasNoRoomBeside t listed.places jobs new) same none;
   }

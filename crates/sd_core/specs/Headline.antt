@@ -85,17 +85,18 @@ pub record LeavesChosen (old : Tree) (order : TreeOrder) (new : Tree) : Type 0 w
 abbrev pub LeavesTree : Tree → TreeOrder → Tree → Type 0
 LeavesTree old order new = (new ≡ old) ⊎ LeavesChosen old order new
 
--- The one failed job is one of the files, beside which each reserved name is taken.
-pub record HasNoRoomBeside (tree : Tree) (places : List NameList) (jobs : FailedJobs) : Type 0 where
+-- The one failed job is one of the files, beside which each reserved name is taken. The file is its old node.
+pub record HasNoRoomBeside (old : Tree) (places : List NameList) (jobs : FailedJobs) (new : Tree) : Type 0 where
   pub place : NameList
   pub is_one : Contains places place
-  pub none_free : NoneFree tree (parent_of place)
+  pub none_free : NoneFree old (parent_of place)
+  pub kept : node_at new place ≡ node_at old place
   pub job : jobs ≡ (path_text place, TempName) ∷ []
 
--- the one failed job is a chosen file of a tree command, beside which each reserved name is taken
-pub record HasNoRoom (tree : Tree) (order : TreeOrder) (jobs : FailedJobs) : Type 0 where
+-- the one failed job is a chosen file of a tree command, beside which each reserved name is taken, and which is its old node
+pub record HasNoRoom (old : Tree) (order : TreeOrder) (jobs : FailedJobs) (new : Tree) : Type 0 where
   pub top : NameList
-  pub leads : reached tree order.root true ≡ Some top
+  pub leads : reached old order.root true ≡ Some top
   pub places : List NameList
-  pub chosen : Chosen tree top order.globs places
-  pub no_room : HasNoRoomBeside tree places jobs
+  pub chosen : Chosen old top order.globs places
+  pub no_room : HasNoRoomBeside old places jobs new

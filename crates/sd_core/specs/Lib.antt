@@ -1,5 +1,6 @@
+pub mod Causes
 pub mod Chosen
-pub mod Fault
+pub mod Errors
 pub mod Globs
 pub mod Headline
 pub mod Report

@@ -1,17 +1,11 @@
 -- What the rewriting of one file does.
-use Rattle.std.specs.Prelude.{◌≡◌, ◌≢◌, ◌↔◌, ◌<◌, ◌≤◌, ◌+◌, ◌/◌, ◌%◌, ◌⊎◌, ℕ, Bool, false, IsTrue, List, [], ◌∷◌, ◌++◌, length, codes, Option, Some, None, IsSome, Result, Err, IsErrOf, if◌then◌else◌, nat_lt}
-use Rattle.sd_edge.specs.Count.{HasRisen, IsAtLast}
+use Rattle.std.specs.Prelude.{◌≡◌, ◌≢◌, ◌↔◌, ◌<◌, ◌≤◌, ◌+◌, ◌/◌, ◌%◌, ◌⊎◌, ℕ, IsTrue, List, [], ◌∷◌, ◌++◌, length, codes, Option, Some, None, IsSome, if◌then◌else◌, nat_lt}
+use Rattle.sd_edge.specs.Count.{IsAtLast}
 use Rattle.sd_edge.specs.Tree.{Name, NameList, Tree, SameBut, node_at, file_at}
 use Rattle.sd_edge.specs.Paths.{parts_of, parent_of}
 use Rattle.sd_edge.specs.Disk.{DiskState}
 use Rattle.sd_edge.specs.Files.{path_text}
-use Rattle.sd_edge.specs.declared.fault.DiskFault.{DiskFault}
-use Rattle.sd_edge.specs.declared.fault.DiskFault.TheVariants as disk
 use Rattle.sd_core.specs.declared.rewriting.Rewrite.{Rewrite}
-use Rattle.sd_core.specs.declared.error.Error.{Error}
-use Rattle.sd_core.specs.declared.error.Error.TheVariants.{File, RootMissing, FailedProcessing, BadGlob}
-use Rattle.sd_core.specs.declared.error.FailedJobs.{FailedJobs}
-use Rattle.sd_core.specs.declared.error.JobFault.TheVariants.{TempName}
 use Rattle.grep_matcher.specs.Span.{Span}
 use Rattle.grep_matcher.specs.Cover.{IsFairCover}
 use Rattle.grep_matcher.specs.Replaced.{replaced_from}
@@ -96,20 +90,6 @@ HasRisenBy n before now = (before + n ≤ now) ⊎ IsAtLast now
 -- One counted fault leaves no temporary file: every other place is as before, or a second one was counted.
 abbrev pub IsCleared : DiskState → NameList → DiskState → Type 0
 IsCleared old place new = SameBut place old.tree new.tree ⊎ HasRisenBy 2 old.faults new.faults
-
--- ---- why it is refused
-
--- The count of faults never falls. A fault of the disk is `Failed` or `Absent`, and comes only where the count rose or stands at its last
--- value. The one failed job is this path without a free reserved name: on a disk that doesn't tell its tree it comes only where the count rose
--- by the number of reserved names. A root isn't looked for, and no glob is read.
-pub record HasRewritingCause {T : Type 0} (tells : Bool) (old new : DiskState) (path : List ℕ) (result : Result T Error) : Type 0 where
-  pub never_falls : old.faults ≤ new.faults
-  pub risen : (fault : DiskFault) → IsErrOf result (File fault) → HasRisen old.faults new.faults
-  pub fault_is : (fault : DiskFault) → IsErrOf result (File fault) → (fault ≡ disk.Failed) ⊎ (fault ≡ disk.Absent)
-  pub job : (jobs : FailedJobs) → IsErrOf result (FailedProcessing jobs) → jobs ≡ (path, TempName) ∷ []
-  pub job_risen : (jobs : FailedJobs) → tells ≡ false → IsErrOf result (FailedProcessing jobs) → HasRisenBy reserved_names old.faults new.faults
-  pub no_root : result ≢ Err RootMissing
-  pub no_glob : (place : ℕ) → result ≢ Err (BadGlob place)
 
 -- each reserved name of the folder is taken
 abbrev pub NoneFree : Tree → NameList → Type 0

@@ -1,16 +1,10 @@
 -- What the steps of one file's rewriting do.
-use Rattle.std.specs.Prelude.{◌≡◌, ◌≢◌, ◌⊎◌, ◌≤◌, ℕ, List, [], ◌∷◌, ◌++◌, Contains, Some, None, IsSome, Result, Err, IsErrOf}
+use Rattle.std.specs.Prelude.{◌≡◌, ◌≢◌, ◌⊎◌, ℕ, List, [], ◌∷◌, ◌++◌, Contains, Some, None, IsSome}
 use Rattle.sd_edge.specs.Count.{HasRisen}
 use Rattle.sd_edge.specs.Tree.{Name, NameList, Tree, SameBut, node_at, file_at}
 use Rattle.sd_edge.specs.Paths.{parent_of, named}
 use Rattle.sd_edge.specs.Disk.{DiskState}
 use Rattle.sd_edge.specs.Files.{path_text, Removes, CannotRemove}
-use Rattle.sd_edge.specs.declared.fault.DiskFault.{DiskFault}
-use Rattle.sd_edge.specs.declared.fault.DiskFault.TheVariants as disk
-use Rattle.sd_core.specs.declared.error.Error.{Error}
-use Rattle.sd_core.specs.declared.error.Error.TheVariants.{File, RootMissing, FailedProcessing, BadGlob, NoMemory}
-use Rattle.sd_core.specs.declared.error.FailedJobs.{FailedJobs}
-use Rattle.sd_core.specs.declared.error.JobFault.TheVariants.{TempName}
 use Rattle.sd_core.specs.Rewriting.{reserved_name, Free}
 
 -- the text is the path of the reserved name of this number beside the file at a path
@@ -95,23 +89,3 @@ pub record LeavesBytes (old : Tree) (place : NameList) (bytes : List ℕ) (new :
   pub was_free : Free old (parent_of place) temporary ⊎ (temporary ≡ place)
   pub others : (q : NameList) → q ≢ place → q ≢ temporary → node_at new q ≡ node_at old q
   pub old_or_alone : (node_at new place ≡ node_at old place) ⊎ SameBut place old new
-
--- ---- why a step is refused
-
--- The count of faults never falls. A fault of the disk is `Failed` or `Absent`, and comes only where the count rose or
--- stands at its last value. No job fails, no root is looked for, and no glob is read.
-pub record HasDiskCause {T : Type 0} (old new : DiskState) (result : Result T Error) : Type 0 where
-  pub never_falls : old.faults ≤ new.faults
-  pub risen : (fault : DiskFault) → IsErrOf result (File fault) → HasRisen old.faults new.faults
-  pub fault_is : (fault : DiskFault) → IsErrOf result (File fault) → (fault ≡ disk.Failed) ⊎ (fault ≡ disk.Absent)
-  pub no_job : (jobs : FailedJobs) → IsErrOf result (FailedProcessing jobs) → ⊥
-  pub no_root : result ≢ Err RootMissing
-  pub no_glob : (place : ℕ) → result ≢ Err (BadGlob place)
-
--- the one failed job is this path without a free reserved name, or there is no memory to say so
-abbrev pub IsNoName : List ℕ → Error → Type 0
-IsNoName path (File fault) = ⊥
-IsNoName path (FailedProcessing jobs) = jobs ≡ (path, TempName) ∷ []
-IsNoName path RootMissing = ⊥
-IsNoName path (BadGlob place) = ⊥
-IsNoName path NoMemory = Unit {0}

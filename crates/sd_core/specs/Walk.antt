@@ -1,18 +1,12 @@
--- What a listing leaves of a disk, why it is refused, and what its steps do.
-use Rattle.std.specs.Prelude.{◌≡◌, ◌≢◌, ◌<◌, ◌≤◌, ◌⊎◌, ◌+◌, ◌-◌, ◌^◌, ℕ, Bool, false, IsTrue, max, List, [], ◌∷◌, ◌++◌, map, reverse, Some, Result, Err, IsErrOf, if◌then◌else◌, IsPermutation}
+-- What a listing leaves of a disk, and what its steps do.
+use Rattle.std.specs.Prelude.{◌≡◌, ◌≤◌, ◌+◌, ◌-◌, ◌^◌, ℕ, false, IsTrue, max, List, [], ◌∷◌, ◌++◌, map, reverse, Some, if◌then◌else◌, IsPermutation}
 use Rattle.std.specs.List.Sorted.{IsSortedByKey}
 use Rattle.std.specs.Str.{bytes_eq}
-use Rattle.sd_edge.specs.Count.{HasRisen}
 use Rattle.sd_edge.specs.Disk.{DiskState}
 use Rattle.sd_edge.specs.Tree.{NameList, Node, Tree, node_at, is_directory_at, name_cmp}
 use Rattle.sd_edge.specs.Files.{kind_of, path_text}
 use Rattle.sd_edge.specs.Lists.{directory_of, TellAll}
 use Rattle.sd_edge.specs.declared.meta.RawEntry.{RawEntry}
-use Rattle.sd_edge.specs.declared.fault.DiskFault.{DiskFault}
-use Rattle.sd_edge.specs.declared.fault.DiskFault.TheVariants as disk
-use Rattle.sd_core.specs.declared.error.FailedJobs.{FailedJobs}
-use Rattle.sd_core.specs.declared.error.Error.{Error}
-use Rattle.sd_core.specs.declared.error.Error.TheVariants.{File, RootMissing, FailedProcessing, BadGlob}
 use Rattle.sd_core.specs.declared.listing.Pending.{Pending}
 use Rattle.sd_core.specs.Chosen.{Chosen}
 
@@ -31,27 +25,6 @@ pub record LeavesLists (old new : DiskState) : Type 0 where
   pub open_list : (number : ℕ) → new.open_list number ≡ old.open_list number
   pub open_count : new.open_count ≡ old.open_count
   pub open_most : new.open_most ≤ max old.open_most (old.open_count + 1)
-
--- ---- why it is refused
-
--- The count of faults never falls. A fault of the disk is `Failed` or `Absent`, and comes only where the count rose or stands at its last value;
--- on a disk that doesn't tell its tree, a missing root comes only where the count rose. A listing has no failed jobs, and reads no glob.
-pub record HasListingCause {T : Type 0} (tells : Bool) (old new : DiskState) (result : Result T Error) : Type 0 where
-  pub never_falls : old.faults ≤ new.faults
-  pub risen : (fault : DiskFault) → IsErrOf result (File fault) → HasRisen old.faults new.faults
-  pub fault_is : (fault : DiskFault) → IsErrOf result (File fault) → (fault ≡ disk.Failed) ⊎ (fault ≡ disk.Absent)
-  pub root_missing : tells ≡ false → IsErrOf result RootMissing → old.faults < new.faults
-  pub no_jobs : (jobs : FailedJobs) → result ≢ Err (FailedProcessing jobs)
-  pub no_glob : (place : ℕ) → result ≢ Err (BadGlob place)
-
--- a fault is want of memory, or else `Failed` or `Absent` with a counted fault
-abbrev pub IsCounted : DiskFault → DiskState → DiskState → Type 0
-IsCounted fault old new = (fault ≡ disk.NoMemory) ⊎ (((fault ≡ disk.Failed) ⊎ (fault ≡ disk.Absent)) × HasRisen old.faults new.faults)
-
--- why a step of a listing is refused
-pub record HasStepCause {T : Type 0} (old new : DiskState) (result : Result T DiskFault) : Type 0 where
-  pub never_falls : old.faults ≤ new.faults
-  pub counted : (fault : DiskFault) → IsErrOf result fault → IsCounted fault old new
 
 -- ---- what its steps do
 

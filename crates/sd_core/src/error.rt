@@ -1,12 +1,11 @@
 //! Why a command fails.
 
 ghost use Rattle.std.specs.Prelude.{◌≡◌, ◌<◌, ◌↔◌, [], length, slice_get, Some, IsTrue};
-ghost use Rattle.sd_core.specs.declared.error.Error.TheVariants as error;
-ghost use Rattle.sd_core.specs.Fault.{IsErrorOf};
+ghost use Rattle.sd_core.specs.Errors.{IsErrorOf, IsErrorOfGlobs, IsErrorOfListing};
 
-use grep_matcher::Fault;
-use sd_edge::{DiskFault, NoMemory, Text};
-use std::alloc::{AllocError, AllocFailed};
+use crate::globs::GlobsError;
+use crate::listing::ListingError;
+use sd_edge::{DiskFault, Text};
 use std::fmt;
 use std::marker::Model;
 use thiserror::Error;
@@ -53,36 +52,27 @@ impl From<DiskFault> for Error {
     }
 }
 
-impl From<NoMemory> for Error {
-    ghost from_gives = { λ _ e. e ≡ error.NoMemory };
+/// No glob is read where one is invalid.
+impl From<GlobsError> for Error {
+    ghost from_gives = { IsErrorOfGlobs };
 
-    fn from(_error: NoMemory) -> Error {
-        Error::NoMemory
+    fn from(error: GlobsError) -> Error {
+        match error {
+            GlobsError::Invalid(place) => Error::BadGlob(place),
+            GlobsError::NoMemory => Error::NoMemory,
+        }
     }
 }
 
-/// Where the matcher fails for want of memory alone.
-impl From<Fault<NoMemory>> for Error {
-    ghost from_gives = { λ _ e. e ≡ error.NoMemory };
+/// A listing fails by its root or by the disk.
+impl From<ListingError> for Error {
+    ghost from_gives = { IsErrorOfListing };
 
-    fn from(_fault: Fault<NoMemory>) -> Error {
-        Error::NoMemory
-    }
-}
-
-impl From<AllocError> for Error {
-    ghost from_gives = { λ _ e. e ≡ error.NoMemory };
-
-    fn from(_error: AllocError) -> Error {
-        Error::NoMemory
-    }
-}
-
-impl<T: Drop> From<AllocFailed<T>> for Error {
-    ghost from_gives = { λ _ e. e ≡ error.NoMemory };
-
-    fn from(_error: AllocFailed<T>) -> Error {
-        Error::NoMemory
+    fn from(error: ListingError) -> Error {
+        match error {
+            ListingError::RootMissing => Error::RootMissing,
+            ListingError::Disk(fault) => Error::from(fault),
+        }
     }
 }
 

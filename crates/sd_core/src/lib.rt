@@ -5,6 +5,7 @@
 #![tactic(auto)]
 
 mod error;
+mod globs;
 mod laws;
 mod listing;
 mod report;

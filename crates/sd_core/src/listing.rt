@@ -1,6 +1,6 @@
 //! The files that a tree command works on.
 
-ghost use Rattle.std.specs.Prelude.{◌≡◌, ◌↔◌, ◌+◌, ◌≤◌, ℕ, List, false, true, vec_len, IsTrue, IsSome, IsSomeAnd, IfOk, OnOk, IsErrOf, IsPermutation};
+ghost use Rattle.std.specs.Prelude.{◌≡◌, ◌↔◌, ◌+◌, ◌<◌, ◌≤◌, ℕ, List, false, true, vec_len, IsTrue, IsSome, IsSomeAnd, IfOk, OnOk, IsErrOf, IsPermutation};
 ghost use Rattle.std.specs.List.Sorted.{IsSortedByKey};
 ghost use Rattle.sd_edge.specs.Tree.{NameList, name_cmp};
 ghost use Rattle.sd_edge.specs.Paths.{reached};
@@ -8,14 +8,35 @@ ghost use Rattle.sd_edge.specs.Disk.{SameTree, SameLists};
 ghost use Rattle.sd_edge.specs.Files.{LeadsNowhere};
 ghost use Rattle.sd_edge.specs.Lists.{IsOpen, SameOtherLists, SameOpen, directory_of};
 ghost use Rattle.sd_edge.specs.declared.meta.RawEntry.{RawEntry};
+ghost use Rattle.sd_core.specs.declared.listing.ListingError.TheVariants as listing_error;
 ghost use Rattle.sd_core.specs.Globs.{FitsAny};
 ghost use Rattle.sd_core.specs.Chosen.{IsChosen, ListsChosen};
-ghost use Rattle.sd_core.specs.Walk.{listable, TakesEntries, LeavesLists, HasListingCause, HasStepCause, HasLeft, ListsNames, child_text, StacksEntries, IsFolderAt, IsPendingAt, IsWithin, ListsBelow};
+ghost use Rattle.sd_core.specs.Causes.{HasCauseOf};
+ghost use Rattle.sd_core.specs.Walk.{listable, TakesEntries, LeavesLists, HasLeft, ListsNames, child_text, StacksEntries, IsFolderAt, IsPendingAt, IsWithin, ListsBelow};
 
-use crate::{Error, Result};
 use glob_match::Glob;
 use sd_edge::{Disk, DiskFault, Kind, ListId, NoMemory, RawEntry, Text};
 use std::alloc::Global;
+use thiserror::Error;
+
+/// Why the chosen files are not listed.
+#[derive(Clone, Copy, Debug, PartialEq, Eq, Error)]
+pub enum ListingError {
+    /// The root leads to no node.
+    #[error("the root leads to nothing")]
+    RootMissing,
+    /// The disk failed, or there is no memory left.
+    #[error("{0}")]
+    Disk(DiskFault),
+}
+
+impl From<DiskFault> for ListingError {
+    ghost from_gives = { λ fault e. e ≡ listing_error.Disk fault };
+
+    fn from(fault: DiskFault) -> ListingError {
+        ListingError::Disk(fault)
+    }
+}
 
 /// A node below the root that the walk hasn't come to yet.
 #[derive(Drop)]
@@ -32,17 +53,18 @@ pub fn chosen_files<D: Disk>(
     disk: &mut D,
     root: &str,
     globs: &[Glob],
-) -> Result<Vec<Text>>
+) -> Result<Vec<Text>, ListingError>
     ensures chosen { IsTrue D.tells → IfOk result (λ paths. ListsChosen (D.state disk.old).tree root.now globs.now paths.items) }
-    ensures root_missing { IsTrue D.tells → IsErrOf result Error.RootMissing → LeadsNowhere (D.state disk.old) root.now true }
+    ensures root_missing { IsTrue D.tells → IsErrOf result ListingError.RootMissing → LeadsNowhere (D.state disk.old) root.now true }
+    ensures root_untold { D.tells ≡ false → IsErrOf result ListingError.RootMissing → (D.state disk.old).faults < (D.state disk.new).faults }
     ensures tree { SameTree (D.state disk.old) (D.state disk.new) }
     ensures lists { LeavesLists (D.state disk.old) (D.state disk.new) }
-    ensures cause { HasListingCause D.tells (D.state disk.old) (D.state disk.new) result }
+    ensures cause { HasCauseOf ListingError.Disk D.tells (D.state disk.old) (D.state disk.new) result }
 {
     let top = match disk.resolve(alloc, root) {
         Ok(top) => top,
-        Err(DiskFault::Absent) => return Err(Error::RootMissing),
-        Err(fault) => return Err(Error::from(fault)),
+        Err(DiskFault::Absent) => return Err(ListingError::RootMissing),
+        Err(fault) => return Err(ListingError::Disk(fault)),
     };
     let meta = disk.stat(root, true)?;
     if !meta.kind.is_dir() {
@@ -64,7 +86,7 @@ fn walk<D: Disk>(
         → IfOk result (λ paths. ListsBelow (D.state disk.old).tree place globs.now paths.items) }
     ensures tree { SameTree (D.state disk.old) (D.state disk.new) }
     ensures lists { LeavesLists (D.state disk.old) (D.state disk.new) }
-    ensures cause { HasStepCause (D.state disk.old) (D.state disk.new) result }
+    ensures cause { HasCauseOf (λ fault. fault) D.tells (D.state disk.old) (D.state disk.new) result }
 {
     let mut chosen = Vec::new(alloc);
     let mut pending = Vec::new(alloc);
@@ -93,7 +115,7 @@ fn is_chosen<D: Disk>(
         → IfOk result (λ chosen. IsTrue chosen ↔ IsChosen (D.state disk.old).tree root globs.now place) }
     ensures tree { SameTree (D.state disk.old) (D.state disk.new) }
     ensures lists { SameLists (D.state disk.old) (D.state disk.new) }
-    ensures cause { HasStepCause (D.state disk.old) (D.state disk.new) result }
+    ensures cause { HasCauseOf (λ fault. fault) D.tells (D.state disk.old) (D.state disk.new) result }
 {
     if !node.kind.is_file() {
         return Ok(false);
@@ -145,7 +167,7 @@ fn push_entries<D: Disk>(
     ensures counted { OnOk result (vec_len pending.new + listable (D.state disk.new) ≤ vec_len pending.old + listable (D.state disk.old)) }
     ensures tree { SameTree (D.state disk.old) (D.state disk.new) }
     ensures lists { LeavesLists (D.state disk.old) (D.state disk.new) }
-    ensures cause { HasStepCause (D.state disk.old) (D.state disk.new) result }
+    ensures cause { HasCauseOf (λ fault. fault) D.tells (D.state disk.old) (D.state disk.new) result }
 {
     let mut entries = entries_of(alloc, disk, folder)?;
     sort_by_name(&mut entries);
@@ -190,7 +212,7 @@ fn entries_of<D: Disk>(
     ensures taken { IfOk result (λ entries. TakesEntries (vec_len entries) (D.state disk.old) (D.state disk.new)) }
     ensures tree { SameTree (D.state disk.old) (D.state disk.new) }
     ensures lists { LeavesLists (D.state disk.old) (D.state disk.new) }
-    ensures cause { HasStepCause (D.state disk.old) (D.state disk.new) result }
+    ensures cause { HasCauseOf (λ fault. fault) D.tells (D.state disk.old) (D.state disk.new) result }
 {
     let list = disk.open_dir(folder)?;
     let entries = read_list(alloc, disk, list);
@@ -208,7 +230,7 @@ fn read_list<D: Disk>(alloc: Global, disk: &mut D, list: ListId) -> Result<Vec<R
     ensures others { SameOtherLists (D.state disk.old) list.number (D.state disk.new) }
     ensures open { SameOpen (D.state disk.old) (D.state disk.new) }
     ensures tree { SameTree (D.state disk.old) (D.state disk.new) }
-    ensures cause { HasStepCause (D.state disk.old) (D.state disk.new) result }
+    ensures cause { HasCauseOf (λ fault. fault) D.tells (D.state disk.old) (D.state disk.new) result }
 {
     let mut entries = Vec::new(alloc);
     while let Some(entry) = disk.next_entry(alloc, list)? {

@@ -1,16 +1,19 @@
 //! The program, from its words to its status.
 
-ghost use Rattle.std.specs.Prelude.{◌≡◌, ◌≢◌, ◌↔◌, ◌⊎◌, ℕ, true, false, None, Some, IsTrue, IsSome, All};
+ghost use Rattle.std.specs.Prelude.{◌≡◌, ◌↔◌, ◌<◌, ◌≤◌, ◌⊎◌, ℕ, true, false, None, Some, IsTrue, IsSome, All};
 ghost use Rattle.sd_edge.specs.Count.{HasRisen};
 ghost use Rattle.sd_edge.specs.Paths.{reached};
 ghost use Rattle.sd_edge.specs.Files.{LeadsNowhere};
+ghost use Rattle.sd_edge.specs.declared.fault.DiskFault.{DiskFault};
 ghost use Rattle.sd_core.specs.declared.error.Error.{Error};
 ghost use Rattle.sd_core.specs.declared.error.FailedJobs.{FailedJobs};
 ghost use Rattle.sd_core.specs.Words.{TreeOrder, tree_order};
 ghost use Rattle.sd_core.specs.Globs.{IsValid, IsFirstInvalid};
 ghost use Rattle.sd_core.specs.Walk.{LeavesLists};
 ghost use Rattle.sd_core.specs.Headline.{LeavesTree, HasNoRoom};
-ghost use Rattle.sd_core.specs.Run.{IsStatusOf, DoesOrder, FailsToPrint, HasRoom, HasRunCause};
+ghost use Rattle.sd_core.specs.Rewriting.{HasRisenBy, reserved_names};
+ghost use Rattle.sd_core.specs.Sweep.{IsOneJob};
+ghost use Rattle.sd_core.specs.Run.{IsStatusOf, DoesOrder, FailsToPrint, HasRoom};
 
 use crate::Error;
 use crate::report::{print_error, print_report};
@@ -54,35 +57,60 @@ pub fn run<D: Disk, S: Source, O: Sink, E: Sink>(
     err: &mut E,
 ) -> Ended
     ensures not_yet { result.why ≡ Why.NotYet ↔ (tree_order words.now ≡ None) }
-    ensures untouched { result.why ≡ Why.NotYet → (D.state disk.new ≡ D.state disk.old) × (O.state out.new ≡ O.state out.old) }
+    ensures untouched { result.why ≡ Why.NotYet → (disk.new ≡ disk.old) × (out.new ≡ out.old) }
     ensures status { IsStatusOf result.why result.status }
     ensures headline { IsTrue D.tells → (order : TreeOrder) → tree_order words.now ≡ Some order → result.status ≡ 0
         → DoesOrder (D.state disk.old).tree order (D.state disk.new).tree O.tells (O.state out.old) (O.state out.new) }
-    ensures err_kept { result.status ≡ 0 → E.state err.new ≡ E.state err.old }
-    ensures input_kept { S.state input.new ≡ S.state input.old }
-    ensures out_kept { (error : Error) → result.why ≡ Why.Fault error → (O.state out.new ≡ O.state out.old)
+    ensures err_kept { result.status ≡ 0 → err.new ≡ err.old }
+    ensures input_kept { input.new ≡ input.old }
+    ensures out_kept { (error : Error) → result.why ≡ Why.Fault error → (out.new ≡ out.old)
         ⊎ ((error ≡ Error.File DiskFault.Failed) × HasRisen (O.state out.old).faults (O.state out.new).faults) }
     ensures leaves { IsTrue D.tells → (order : TreeOrder) → tree_order words.now ≡ Some order
         → LeavesTree (D.state disk.old).tree order (D.state disk.new).tree }
     ensures lists { LeavesLists (D.state disk.old) (D.state disk.new) }
     ensures refused { IsTrue D.tells → (order : TreeOrder) → tree_order words.now ≡ Some order → (error : Error) → result.why ≡ Why.Fault error
-        → (O.state out.new ≡ O.state out.old)
+        → (out.new ≡ out.old)
         ⊎ ((error ≡ Error.File DiskFault.Failed) × FailsToPrint (D.state disk.old).tree order (D.state disk.new).tree O.tells (O.state out.old) (O.state out.new)) }
     ensures root_missing { IsTrue D.tells → (order : TreeOrder) → tree_order words.now ≡ Some order → result.why ≡ Why.Fault Error.RootMissing
         → LeadsNowhere (D.state disk.old) order.root true × ((D.state disk.new).tree ≡ (D.state disk.old).tree) }
     ensures bad_glob { (order : TreeOrder) → tree_order words.now ≡ Some order → (place : ℕ) → result.why ≡ Why.Fault (Error.BadGlob place)
-        → IsFirstInvalid order.globs place × (D.state disk.new ≡ D.state disk.old) × (O.state out.new ≡ O.state out.old) }
+        → IsFirstInvalid order.globs place × (disk.new ≡ disk.old) × (out.new ≡ out.old) }
     ensures invalid { (order : TreeOrder) → tree_order words.now ≡ Some order → (place : ℕ) → IsFirstInvalid order.globs place
         → (result.why ≡ Why.Fault (Error.BadGlob place)) ⊎ (result.why ≡ Why.Fault Error.NoMemory) }
     ensures no_room { IsTrue D.tells → (order : TreeOrder) → tree_order words.now ≡ Some order → (jobs : FailedJobs)
-        → result.why ≡ Why.Fault (Error.FailedProcessing jobs) → HasNoRoom (D.state disk.old).tree order jobs }
-    ensures cause { HasRunCause D.tells (D.state disk.old) (D.state disk.new) (O.state out.old) (O.state out.new) result.why }
+        → result.why ≡ Why.Fault (Error.FailedProcessing jobs) → HasNoRoom (D.state disk.old).tree order jobs (D.state disk.new).tree }
+    ensures never_fall { ((D.state disk.old).faults ≤ (D.state disk.new).faults) × ((O.state out.old).faults ≤ (O.state out.new).faults) }
+    ensures failed { result.why ≡ Why.Fault (Error.File DiskFault.Failed)
+        → HasRisen (D.state disk.old).faults (D.state disk.new).faults ⊎ HasRisen (O.state out.old).faults (O.state out.new).faults }
+    ensures absent { result.why ≡ Why.Fault (Error.File DiskFault.Absent) → (D.tells ≡ false) × ((D.state disk.old).faults < (D.state disk.new).faults) }
+    ensures no_other { (fault : DiskFault) → result.why ≡ Why.Fault (Error.File fault) → (fault ≡ DiskFault.Failed) ⊎ (fault ≡ DiskFault.Absent) }
+    ensures one_job { (jobs : FailedJobs) → result.why ≡ Why.Fault (Error.FailedProcessing jobs) → IsOneJob jobs }
+    ensures no_room_untold { D.tells ≡ false → (jobs : FailedJobs) → result.why ≡ Why.Fault (Error.FailedProcessing jobs)
+        → HasRisenBy reserved_names (D.state disk.old).faults (D.state disk.new).faults }
+    ensures root_untold { D.tells ≡ false → result.why ≡ Why.Fault Error.RootMissing → (D.state disk.old).faults < (D.state disk.new).faults }
     ensures complete { IsTrue D.tells → (order : TreeOrder) → tree_order words.now ≡ Some order
         → IsSome (reached (D.state disk.old).tree order.root true) → All IsValid order.globs → HasRoom (D.state disk.old).tree order
         → (HasRisen (D.state disk.old).faults (D.state disk.new).faults → ⊥) → (HasRisen (O.state out.old).faults (O.state out.new).faults → ⊥)
         → (result.why ≡ Why.Done) ⊎ (result.why ≡ Why.Fault Error.NoMemory) }
 {
-    let why = why_ended(alloc, words, disk, out);
+    let Some(command) = tree_command(words) else {
+        return end_with(err, Why::NotYet);
+    };
+    match sweep(alloc, disk, &command) {
+        Err(error) => end_with(err, Why::Fault(error)),
+        Ok(report) => match print_report(out, &report) {
+            Ok(()) => end_with(err, Why::Done),
+            Err(_) => end_with(err, Why::Fault(Error::File(DiskFault::Failed))),
+        },
+    }
+}
+
+/// Prints what went wrong, and gives the status.
+fn end_with<E: Sink>(err: &mut E, why: Why) -> Ended
+    ensures why { result.why ≡ why }
+    ensures status { IsStatusOf why result.status }
+    ensures err_kept { why ≡ Why.Done → err.new ≡ err.old }
+{
     let status = match &why {
         Why::Done => 0,
         Why::Fault(error) => {
@@ -95,42 +123,6 @@ pub fn run<D: Disk, S: Source, O: Sink, E: Sink>(
         }
     };
     Ended { status, why }
-}
-
-/// Does what the words ask for, and tells how that ended.
-fn why_ended<D: Disk, O: Sink>(alloc: Global, words: &Words, disk: &mut D, out: &mut O) -> Why
-    ensures not_yet { result ≡ Why.NotYet ↔ (tree_order words.now ≡ None) }
-    ensures untouched { result ≡ Why.NotYet → (D.state disk.new ≡ D.state disk.old) × (O.state out.new ≡ O.state out.old) }
-    ensures done { IsTrue D.tells → (order : TreeOrder) → tree_order words.now ≡ Some order → result ≡ Why.Done
-        → DoesOrder (D.state disk.old).tree order (D.state disk.new).tree O.tells (O.state out.old) (O.state out.new) }
-    ensures leaves { IsTrue D.tells → (order : TreeOrder) → tree_order words.now ≡ Some order
-        → LeavesTree (D.state disk.old).tree order (D.state disk.new).tree }
-    ensures out_kept { (error : Error) → result ≡ Why.Fault error → (O.state out.new ≡ O.state out.old)
-        ⊎ ((error ≡ Error.File DiskFault.Failed) × HasRisen (O.state out.old).faults (O.state out.new).faults) }
-    ensures lists { LeavesLists (D.state disk.old) (D.state disk.new) }
-    ensures refused { IsTrue D.tells → (order : TreeOrder) → tree_order words.now ≡ Some order → (error : Error) → result ≡ Why.Fault error
-        → (O.state out.new ≡ O.state out.old)
-        ⊎ ((error ≡ Error.File DiskFault.Failed) × FailsToPrint (D.state disk.old).tree order (D.state disk.new).tree O.tells (O.state out.old) (O.state out.new)) }
-    ensures root_missing { IsTrue D.tells → (order : TreeOrder) → tree_order words.now ≡ Some order → result ≡ Why.Fault Error.RootMissing
-        → LeadsNowhere (D.state disk.old) order.root true × ((D.state disk.new).tree ≡ (D.state disk.old).tree) }
-    ensures bad_glob { (order : TreeOrder) → tree_order words.now ≡ Some order → (place : ℕ) → result ≡ Why.Fault (Error.BadGlob place)
-        → IsFirstInvalid order.globs place × (D.state disk.new ≡ D.state disk.old) × (O.state out.new ≡ O.state out.old) }
-    ensures invalid { (order : TreeOrder) → tree_order words.now ≡ Some order → (place : ℕ) → IsFirstInvalid order.globs place
-        → (result ≡ Why.Fault (Error.BadGlob place)) ⊎ (result ≡ Why.Fault Error.NoMemory) }
-    ensures no_room { IsTrue D.tells → (order : TreeOrder) → tree_order words.now ≡ Some order → (jobs : FailedJobs)
-        → result ≡ Why.Fault (Error.FailedProcessing jobs) → HasNoRoom (D.state disk.old).tree order jobs }
-    ensures cause { HasRunCause D.tells (D.state disk.old) (D.state disk.new) (O.state out.old) (O.state out.new) result }
-{
-    let Some(command) = tree_command(words) else {
-        return Why::NotYet;
-    };
-    match sweep(alloc, disk, &command) {
-        Err(error) => Why::Fault(error),
-        Ok(report) => match print_report(out, &report) {
-            Ok(()) => Why::Done,
-            Err(_) => Why::Fault(Error::File(DiskFault::Failed)),
-        },
-    }
 }
 
 #[cfg(test)]

@@ -116,7 +116,7 @@ fn a_root_that_leads_to_nothing_is_missing(rt: HostRuntime) -> Result<(), Fail> 
     for root in ["/none", "/broken_link", "", "/t/a.b/c"] {
         let globs = globs_of(alloc, &["*"])?;
         let missing = chosen_files(alloc, &mut disk, root, &globs);
-        assert!(rt; matches!(missing, Err(Error::RootMissing)), "{root}");
+        assert!(rt; matches!(missing, Err(ListingError::RootMissing)), "{root}");
     }
     Ok(())
 }

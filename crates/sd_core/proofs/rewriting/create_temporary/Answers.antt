@@ -2,7 +2,7 @@ use Rattle.std.proofs.Common.{◌≡◌, ◌≢◌, rules, Err, subst, sym, ap, 
 use Rattle.sd_edge.specs.declared.fault.DiskFault.{DiskFault}
 use Rattle.sd_edge.specs.declared.fault.DiskFault.TheVariants as disk
 use Rattle.sd_core.specs.Temporary.{IsReservedPath}
-use Rattle.sd_core.proofs.CreatingLemmas.{created, none_absent, one_more, none_free, disk_cause}
+use Rattle.sd_core.proofs.CreatingLemmas.{created, none_absent, one_more, none_free, same_error, step_cause}
 use Rattle.sd_core.proofs.rewriting.create_temporary.Goals as goal
 use Rattle.sd_core.proofs.rewriting.create_temporary.Goals.{else-loop-number-test, then-loop-number-test+in_ok-temporary+in-Err+else-ne+else-number-lt65535}
 
@@ -24,8 +24,8 @@ pub returns-in-Err-clause-cause : goal.returns-in-Err-clause-cause
 returns-in-Err-clause-cause g c =
     let reserved = subst (IsReservedPath c.args.path.now c.loop-number.number) (sym c.as_str.ensures.same) c.in_ok-temporary.ensures.path in
     let not_taken : c.in-Err.fault ≢ disk.Taken = search rules in
-    disk_cause _ _ _ _ c.in-Err.fault _ c.loop-number.invariant.never_falls c.in-Err.ensures.cause not_taken
-    (λ told absent. none_absent _ _ _ _ _ (c.loop-number.invariant.same told) (g.met.D.Disk.is_tree c.loop-number.disk told) (c.requires told) reserved (c.in-Err.ensures.absent told (ap (λ (f : DiskFault). Err f) absent))) c.from.ensures
+    step_cause _ _ _ _ _ _ (same_error c.in-Err.fault) c.loop-number.invariant.never_falls c.in-Err.ensures.cause (λ taken. not_taken (cc))
+    (λ told absent. none_absent _ _ _ _ _ (c.loop-number.invariant.same told) (g.met.D.Disk.is_tree c.loop-number.disk told) (c.requires told) reserved (c.in-Err.ensures.absent told absent))
 
 pub returns-clause-none_free : goal.returns-clause-none_free
 returns-clause-none_free g c =

@@ -1,9 +1,8 @@
-use Rattle.std.proofs.Common.{◌≡◌, ◌≢◌, ap, Err}
+use Rattle.std.proofs.Common.{◌≡◌, ◌≢◌, ◌∙◌, inl, inr, sym, ap, Err}
 use Rattle.sd_edge.specs.declared.fault.DiskFault.{DiskFault}
 use Rattle.sd_edge.specs.declared.fault.DiskFault.TheVariants as disk
-use Rattle.sd_core.specs.declared.error.Error.TheVariants as error
 use Rattle.sd_core.proofs.CreatingLemmas.{risen_since}
-use Rattle.sd_core.proofs.ExchangeLemmas.{are_two, exchanged, left, cleared, counted}
+use Rattle.sd_core.proofs.ExchangeLemmas.{are_two, exchanged, left, cleared}
 use Rattle.sd_core.proofs.rewriting.exchange.Goals as goal
 
 pub fill_and_rename-requires : goal.fill_and_rename-requires
@@ -30,14 +29,12 @@ returns-clause-refused g c =
 
 pub returns-clause-cleared : goal.returns-clause-cleared
 returns-clause-cleared g c =
-    λ told fault is.
+    λ told is.
     let created = rw c.in-Some.is at (c.in_ok-temporary.ensures.created told) in
-    let e : c.clear.result ≡ error.File fault = cc in
-    let not_absent : c.in-Err.fault ≢ disk.Absent = λ same. c.in-Err.ensures.not_absent told (ap (λ (f : DiskFault). Err f) same) in
-    let not_taken : c.in-Err.fault ≢ disk.Taken = λ same. c.in-Err.ensures.not_taken (ap (λ (f : DiskFault). Err f) same) in
-    let failed = counted c.in-Err.fault c.clear.result fault c.clear.ensures.error e not_absent not_taken in
-    let some : c.clear.result ≢ error.NoMemory = λ none. cc in
-    let risen = risen_since _ _ _ c.in_ok-temporary.ensures.cause.never_falls (c.in-Err.ensures.cause.failed (ap (λ (f : DiskFault). Err f) failed)) in
+    let failed : c.clear.result ≡ disk.Failed = cc in
+    let some : c.clear.result ≢ disk.NoMemory = λ none. cc in
+    let fault : c.in-Err.fault ≡ disk.Failed = elim c.clear.ensures.fault [ inl none ↦ absurd (some none) | inr same ↦ sym same ∙ failed ] in
+    let risen = risen_since _ _ _ c.in_ok-temporary.ensures.cause.never_falls (c.in-Err.ensures.cause.failed (ap (λ (f : DiskFault). Err f) fault)) in
     cleared (g.D.Disk.state c.args.disk.now) (g.D.Disk.state c.create_temporary.new.disk) _ _ _ (g.met.D.Disk.is_tree c.args.disk.now told) (c.requires told) created
     (g.D.Disk.state c.fill_and_rename.new.disk) (g.D.Disk.state c.clear.new.disk) (c.in-Err.ensures.ways told)
     (rw c.as_str-temporary.ensures.same at (c.in-Err.ensures.refused told)) (rw c.as_str-temporary.ensures.same at (c.clear.ensures.tree told))

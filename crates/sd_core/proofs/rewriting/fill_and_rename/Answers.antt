@@ -1,5 +1,6 @@
-use Rattle.std.proofs.Common.{inl}
+use Rattle.std.proofs.Common.{inl, arith}
 use Rattle.sd_edge.proofs.WayLemmas.{same_ways, writes_ways, may_write_ways}
+use Rattle.sd_core.proofs.CreatingLemmas.{step_cause}
 use Rattle.sd_core.proofs.FillingLemmas.{at_err, at_ok, passed_on, then_ways, renaming_ways, after_refusal, leads_to_file, at_source, filled, synced, filled_only, wrote_only, moved, after_renaming, can_rename}
 use Rattle.sd_core.proofs.rewriting.fill_and_rename.Goals as goal
 
@@ -8,21 +9,23 @@ returns-in_err-write_file-clause-refused g c =
     λ told. at_err c.from_residual.result (inl (wrote_only _ _ _ c.args.bytes.now (c.requires told) _
     (after_refusal c.in_err-write_file.field-0.0 _ _ (c.in_err-write_file.ensures.failed told) c.in_err-write_file.ensures.refused)))
 
-pub returns-in_err-write_file-clause-not_absent : goal.returns-in_err-write_file-clause-not_absent
-returns-in_err-write_file-clause-not_absent g c =
-    λ told is. leads_to_file _ _ _ (at_source _ _ _ (c.requires told))
-    (c.in_err-write_file.ensures.absent told (passed_on c.from_residual.result _ _ c.from_residual.ensures.1 is))
+pub returns-in_err-write_file-clause-cause : goal.returns-in_err-write_file-clause-cause
+returns-in_err-write_file-clause-cause g c =
+    step_cause _ _ _ _ _ _ (λ f is. passed_on c.from_residual.result _ _ c.from_residual.ensures.1 is) (omega arith) c.in_err-write_file.ensures.cause c.in_err-write_file.ensures.not_taken
+    (λ told is. leads_to_file _ _ _ (at_source _ _ _ (c.requires told)) (c.in_err-write_file.ensures.absent told is))
 
 pub returns-in_err-sync-clause-refused : goal.returns-in_err-sync-clause-refused
 returns-in_err-sync-clause-refused g c =
     λ told. at_err c.from_residual-in_err-sync.result (inl (filled_only _ _ _ _ (c.requires told) _ _ (filled _ _ _ _ (c.requires told) _ (c.in_ok-write_file.ensures.written told))
     (after_refusal c.in_err-sync.field-0.0 _ _ (c.in_err-sync.ensures.failed told) c.in_err-sync.ensures.refused)))
 
-pub returns-in_err-sync-clause-not_absent : goal.returns-in_err-sync-clause-not_absent
-returns-in_err-sync-clause-not_absent g c =
-    λ told is.
+pub returns-in_err-sync-clause-cause : goal.returns-in_err-sync-clause-cause
+returns-in_err-sync-clause-cause g c =
+    step_cause _ _ _ _ _ _ (λ f is. passed_on c.from_residual-in_err-sync.result _ _ c.from_residual-in_err-sync.ensures.1 is) c.in_ok-write_file.ensures.cause.never_falls
+    c.in_err-sync.ensures.cause c.in_err-sync.ensures.not_taken
+    (λ told is.
     let full = filled _ _ _ _ (c.requires told) _ (c.in_ok-write_file.ensures.written told) in
-    leads_to_file _ _ _ full.leaves (c.in_err-sync.ensures.absent told (passed_on c.from_residual-in_err-sync.result _ _ c.from_residual-in_err-sync.ensures.1 is))
+    leads_to_file _ _ _ full.leaves (c.in_err-sync.ensures.absent told is))
 
 pub returns-clause-moved : goal.returns-clause-moved
 returns-clause-moved g c =
@@ -38,12 +41,13 @@ returns-clause-refused g c =
     let full = synced _ _ _ _ two _ _ (filled _ _ _ _ two _ (c.in_ok-write_file.ensures.written told)) (c.in_ok-sync.ensures.synced told) in
     after_renaming _ _ _ _ two c.rename.result _ _ full (c.rename.ensures.failed told) c.rename.ensures.refused
 
-pub returns-clause-not_absent : goal.returns-clause-not_absent
-returns-clause-not_absent g c =
-    λ told is.
+pub returns-clause-cause : goal.returns-clause-cause
+returns-clause-cause g c =
+    step_cause _ _ _ _ _ _ (λ f is. is) (omega (arith, c.in_ok-write_file.ensures.cause.never_falls, c.in_ok-sync.ensures.cause.never_falls)) c.rename.ensures.cause c.rename.ensures.not_taken
+    (λ told is.
     let two = c.requires told in
     let full = synced _ _ _ _ two _ _ (filled _ _ _ _ two _ (c.in_ok-write_file.ensures.written told)) (c.in_ok-sync.ensures.synced told) in
-    can_rename _ _ _ _ two _ full (c.rename.ensures.absent told is)
+    can_rename _ _ _ _ two _ full (c.rename.ensures.absent told is))
 
 pub returns-in_err-write_file-clause-ways : goal.returns-in_err-write_file-clause-ways
 returns-in_err-write_file-clause-ways g c =

@@ -1,15 +1,15 @@
-use Rattle.std.proofs.Common.{◌∙◌, ap, subst, List, ℕ, Err}
-use Rattle.sd_edge.specs.declared.fault.DiskFault.{DiskFault}
+use Rattle.std.proofs.Common.{◌∙◌, arith, subst, List, ℕ}
 use Rattle.sd_core.specs.Rewriting.{NewBytes}
+use Rattle.sd_core.proofs.CreatingLemmas.{step_cause}
 use Rattle.sd_core.proofs.FillingLemmas.{at_err, passed_on}
-use Rattle.sd_core.proofs.NewBytesLemmas.{same_file, changed_file, left_file, reading_cause, cleared_since, none_found, new_bytes, differ, same}
+use Rattle.sd_core.proofs.NewBytesLemmas.{reads_file, passed_as, same_file, changed_file, left_file, cleared_since, none_found, new_bytes, differ, same}
 use Rattle.sd_core.proofs.rewriting.rewrite_file.Goals as goal
 use Rattle.sd_core.proofs.rewriting.rewrite_file.Goals.{then-changed+in_ok-exchange, else-changed}
 
 pub returns-in_err-bytes-clause-cause : goal.returns-in_err-bytes-clause-cause
 returns-in_err-bytes-clause-cause g c =
-    reading_cause _ _ _ _ c.in_err-bytes.field-0.0 c.from_residual.result (g.met.D.Disk.is_tree c.args.disk.now) c.requires.file c.in_err-bytes.ensures.cause
-    (λ e. c.in_err-bytes.ensures.not_taken (ap (λ (f : DiskFault). Err f) e)) (λ told e. c.in_err-bytes.ensures.absent told (ap (λ (f : DiskFault). Err f) e)) c.from_residual.ensures.1
+    step_cause _ _ _ _ _ _ (λ f is. passed_as c.from_residual.result c.in_err-bytes.field-0.0 f c.from_residual.ensures.1 is) (omega arith) c.in_err-bytes.ensures.cause c.in_err-bytes.ensures.not_taken
+    (λ told absent. reads_file (g.D.Disk.state c.args.disk.now) _ (g.met.D.Disk.is_tree c.args.disk.now told) (c.requires.file told) (c.in_err-bytes.ensures.absent told absent))
 
 pub returns-then-not-branch-clause-rewritten : goal.returns-then-not-branch-clause-rewritten
 returns-then-not-branch-clause-rewritten g c =
@@ -27,16 +27,11 @@ returns-in_err-exchange-clause-refused g c =
     at_err c.from_residual-in_err-exchange.result
     (left_file (g.D.Disk.state c.args.disk.now) _ _ _ _ (g.met.D.Disk.is_tree c.args.disk.now told) (c.requires.file told) (c.in_ok-bytes.ensures.bytes told) _ _ _ left is_new)
 
-pub returns-in_err-exchange-clause-none_free : goal.returns-in_err-exchange-clause-none_free
-returns-in_err-exchange-clause-none_free g c =
-    λ told jobs is.
-    rw c.in_ok-bytes.ensures.tree.tree at (c.in_err-exchange.ensures.none_free told jobs (passed_on c.from_residual-in_err-exchange.result _ _ c.from_residual-in_err-exchange.ensures.1 is))
-
 pub returns-in_err-exchange-clause-cleared : goal.returns-in_err-exchange-clause-cleared
 returns-in_err-exchange-clause-cleared g c =
-    λ told fault is.
+    λ told is.
     cleared_since _ _ (g.D.Disk.state c.exchange.new.disk) _ c.in_ok-bytes.ensures.tree c.in_ok-bytes.ensures.cause.never_falls
-    (c.in_err-exchange.ensures.cleared told fault (passed_on c.from_residual-in_err-exchange.result _ _ c.from_residual-in_err-exchange.ensures.1 is))
+    (c.in_err-exchange.ensures.cleared told (passed_on c.from_residual-in_err-exchange.result _ _ c.from_residual-in_err-exchange.ensures.1 is))
 
 pub returns-clause-rewritten : goal.returns-clause-rewritten
 returns-clause-rewritten g c =

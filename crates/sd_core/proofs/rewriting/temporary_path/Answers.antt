@@ -2,7 +2,8 @@ use Rattle.std.proofs.Common.{◌∙◌, arith}
 use Rattle.sd_core.proofs.ReservedPathLemmas.{written_beside}
 use Rattle.sd_core.proofs.rewriting.temporary_path.Goals as goal
 
-pub returns-clause-path : goal.returns-clause-path
-returns-clause-path c =
-    written_beside c.args.path.now c.folder_of-folder.result.now c.from.result c.args.number (omega arith)
-    (c.from.ensures ∙ (rw (c.in_radix.ensures, c.laid_out.ensures) at c.in_ok-format.ensures.ok)) c.folder_of-folder.ensures
+pub returns : goal.returns
+returns c = record {
+  path = written_beside c.args.path.now c.folder_of-folder.result.now c.from.result c.args.number (omega arith)
+      (c.from.ensures ∙ (rw (c.in_radix.ensures, c.laid_out.ensures) at c.in_ok-format.ensures.ok)) c.folder_of-folder.ensures;
+}

@@ -2,8 +2,12 @@ use Rattle.std.proofs.Common.{◌∙◌, sym, subst}
 use Rattle.std.proofs.lemmas.Result.{IfOk-weaker, on_err_weaker}
 use Rattle.sd_core.specs.Chosen.{ListsChosen}
 use Rattle.sd_core.specs.WordsRead.{order_of}
+use Rattle.sd_core.proofs.GlobsLemmas.{invalid_told}
 use Rattle.sd_core.proofs.SweepLemmas.{file_paths, rewrites_tree, leaves_tree, no_room_in_tree}
 use Rattle.sd_core.proofs.sweep.sweep.Goals as goal
+
+pub returns-in_err-globs-clause-invalid : goal.returns-in_err-globs-clause-invalid
+returns-in_err-globs-clause-invalid g c = invalid_told (order_of c.args.command.now).globs _ _ c.in_err-globs.ensures.invalid c.from_residual.ensures.1
 
 pub rewrite_all-requires-clause-files : goal.rewrite_all-requires-clause-files
 rewrite_all-requires-clause-files g c = λ told.
@@ -29,5 +33,5 @@ pub returns-clause-no_room : goal.returns-clause-no_room
 returns-clause-no_room g c = λ told jobs is.
     let globs = c.deref.ensures.value ∙ c.in_ok-globs.ensures.read in
     let listed = subst (ListsChosen (g.D.Disk.state c.args.disk.now).tree c.args.command.now.root.now c.deref.result.now) (sym c.deref-2.ensures.value) (c.in_ok-chosen.ensures.chosen told) in
-    no_room_in_tree _ _ (order_of c.args.command.now) _ _ c.in_ok-chosen.ensures.tree.tree globs listed jobs
+    no_room_in_tree _ _ (order_of c.args.command.now) _ _ c.in_ok-chosen.ensures.tree.tree globs listed jobs _
     (c.rewrite_all.ensures.no_room told listed.places (file_paths _ _ (order_of c.args.command.now) _ _ c.in_ok-chosen.ensures.tree.tree globs listed) jobs is)

@@ -1,18 +1,45 @@
-use Rattle.std.proofs.Common.{rules, ◌⊎◌, inl, inr}
+use Rattle.std.proofs.Common.{◌≡◌, ◌∙◌, refl, sym, subst, ap, Err}
+use Rattle.std.proofs.lemmas.Option.{same_Some}
 use Rattle.sd_edge.specs.Count.{HasRisen}
-use Rattle.sd_core.proofs.RunLemmas.{completes}
+use Rattle.sd_edge.specs.Paths.{reached}
+use Rattle.std.specs.Prelude.{None, true}
+use Rattle.sd_core.specs.Globs.{IsFirstInvalid}
+use Rattle.sd_core.specs.Headline.{HasNoRoom}
+use Rattle.sd_core.specs.Words.{TreeOrder}
+use Rattle.sd_core.specs.WordsRead.{order_of}
+use Rattle.sd_core.proofs.OrderLemmas.{order_finds, rewritten_leave}
+use Rattle.sd_core.proofs.RunLemmas.{completes, same_fault, risen_by, no_other}
 use Rattle.sd_core.proofs.top.run.Goals as goal
-use Rattle.sd_core.proofs.top.run.Goals.{in-Done, in-Fault, in-NotYet}
 
-pub returns-clause-status : goal.returns-clause-status
-returns-clause-status g c = search rules
+pub sweep-requires : goal.sweep-requires
+sweep-requires g c = order_finds c.args.words.now (order_of c.in-Some.command) c.in-Some.ensures
 
-pub returns-clause-complete : goal.returns-clause-complete
-returns-clause-complete g c = λ told order is leads valid room calm_disk calm_out.
-    completes c.args.words.now order _ (HasRisen (g.D.Disk.state c.args.disk.now).faults (g.D.Disk.state c.why_ended-why.new.disk).faults ⊎ HasRisen (g.O.Sink.state c.args.out.now).faults (g.O.Sink.state c.why_ended-why.new.out).faults) c.why_ended-why.result
-    is leads valid room (λ risen. elim risen [ inl d ↦ calm_disk d | inr o ↦ calm_out o ])
-    (c.why_ended-why.ensures.not_yet.0)
-    (λ e. (c.why_ended-why.ensures.root_missing told order is e).0)
-    (λ jobs e. c.why_ended-why.ensures.no_room told order is jobs e)
-    (λ place e. (c.why_ended-why.ensures.bad_glob order is place e).0)
-    (c.why_ended-why.ensures.cause.risen)
+pub returns-in-Err-clause-bad_glob : goal.returns-in-Err-clause-bad_glob
+returns-in-Err-clause-bad_glob g c = λ order is place e.
+    let same : order_of c.in-Some.command ≡ order = same_Some _ _ (sym c.in-Some.ensures ∙ is) in
+    let bad = c.in-Err.ensures.bad_glob place (ap Err (same_fault _ _ _ c.end_with-in-Err.ensures.why e)) in
+    (subst (λ (o : TreeOrder). IsFirstInvalid o.globs place) same bad.0, bad.1, refl)
+
+pub returns-in-Err-clause-no_other : goal.returns-in-Err-clause-no_other
+returns-in-Err-clause-no_other g c = λ fault e.
+    no_other _ _ _ _ c.in-Err.ensures.cause c.in-Err.ensures.own_answer fault (ap Err (same_fault _ _ _ c.end_with-in-Err.ensures.why e))
+
+pub returns-in-Err-clause-complete : goal.returns-in-Err-clause-complete
+returns-in-Err-clause-complete g c = λ told order is leads valid room calm_disk calm_out.
+    let same : order_of c.in-Some.command ≡ order = same_Some _ _ (sym c.in-Some.ensures ∙ is) in
+    let old = (g.D.Disk.state c.args.disk.now).tree in
+    let new = (g.D.Disk.state c.sweep.new.disk).tree in
+    let why = c.end_with-in-Err.ensures.why in
+    completes c.args.words.now order old new (HasRisen (g.D.Disk.state c.args.disk.now).faults (g.D.Disk.state c.sweep.new.disk).faults) c.end_with-in-Err.result.why
+    is leads valid room calm_disk
+    (λ e. cc)
+    (λ e. subst (λ (o : TreeOrder). reached old o.root true ≡ None) same (c.in-Err.ensures.root_missing told (ap Err (same_fault _ _ _ why e))))
+    (λ jobs e. subst (λ (o : TreeOrder). HasNoRoom old o jobs new) same (c.in-Err.ensures.no_room told jobs (ap Err (same_fault _ _ _ why e))))
+    (λ place e. subst (λ (o : TreeOrder). IsFirstInvalid o.globs place) same (c.in-Err.ensures.bad_glob place (ap Err (same_fault _ _ _ why e))).0)
+    (λ fault e. risen_by _ _ _ _ c.in-Err.ensures.cause c.in-Err.ensures.own_answer fault (ap Err (same_fault _ _ _ why e)))
+
+pub returns-in-Ok-print_report-clause-leaves : goal.returns-in-Ok-print_report-clause-leaves
+returns-in-Ok-print_report-clause-leaves g c = λ told order is. rewritten_leave c.args.words.now (order_of c.in-Some.command) order _ _ c.in-Ok.report c.in-Some.ensures is (c.in-Ok.ensures.rewritten told)
+
+pub returns-in-Err-print_report-clause-leaves : goal.returns-in-Err-print_report-clause-leaves
+returns-in-Err-print_report-clause-leaves g c = λ told order is. rewritten_leave c.args.words.now (order_of c.in-Some.command) order _ _ c.in-Ok.report c.in-Some.ensures is (c.in-Ok.ensures.rewritten told)
