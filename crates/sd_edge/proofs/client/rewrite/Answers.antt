@@ -1,5 +1,5 @@
 use Rattle.std.proofs.Common.{ap, Err}
-use Rattle.sd_edge.proofs.RewritingLemmas.{begun, on_write, on_same, ended, still_after, keeps_same, keeps_old, keeps_new, keeps_after}
+use Rattle.sd_edge.proofs.client.RewritingLemmas.{begun, on_write, on_same, ended, still_after, keeps_same, keeps_old, keeps_new, keeps_after}
 use Rattle.sd_edge.proofs.client.rewrite.Goals as goal
 
 pub returns-in_err-create_like-clause-never_lost : goal.returns-in_err-create_like-clause-never_lost

@@ -1,6 +1,6 @@
 use Rattle.std.proofs.Common.{refl}
 use Rattle.sd_edge.specs.Examples.{chain_nodes, small_nodes}
-use Rattle.sd_edge.proofs.ExampleLemmas.{chained, looping, reached_in}
+use Rattle.sd_edge.proofs.examples.ExampleLemmas.{chained, looping, reached_in}
 use Rattle.sd_edge.proofs.examples.links_lead_as_in_the_examples.Goals as goal
 
 pub returns-clause-followed : goal.returns-clause-followed

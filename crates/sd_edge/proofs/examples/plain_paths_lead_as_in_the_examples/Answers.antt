@@ -1,6 +1,6 @@
 use Rattle.std.proofs.Common.{refl}
 use Rattle.sd_edge.specs.Examples.{small_nodes}
-use Rattle.sd_edge.proofs.ExampleLemmas.{plain_in}
+use Rattle.sd_edge.proofs.examples.ExampleLemmas.{plain_in}
 use Rattle.sd_edge.proofs.examples.plain_paths_lead_as_in_the_examples.Goals as goal
 
 pub returns-clause-file : goal.returns-clause-file

@@ -1,6 +1,6 @@
 use Rattle.std.proofs.Common.{lit<, Some, None}
 use Rattle.std.proofs.lemmas.Str.Pattern.{split_once_first}
-use Rattle.sd_edge.proofs.PieceLemmas.{uncut, cut_here}
+use Rattle.sd_edge.proofs.memory.path.PieceLemmas.{uncut, cut_here}
 use Rattle.sd_edge.proofs.memory.path.cut.Goals as goal
 
 pub returns-in-None-clause-pieces : goal.returns-in-None-clause-pieces

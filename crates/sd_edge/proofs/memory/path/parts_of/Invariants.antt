@@ -1,7 +1,7 @@
 use Rattle.std.proofs.Common.{◌≡◌, length, ◌++◌}
 use Rattle.sd_edge.specs.MemNode.{now_of}
 use Rattle.sd_edge.specs.Paths.{parts_of, pieces_left, kept}
-use Rattle.sd_edge.proofs.TextLemmas.{texts}
+use Rattle.sd_edge.proofs.memory.path.TextLemmas.{texts}
 use Rattle.sd_edge.proofs.memory.path.parts_of.Given as goal
 
 -- the parts so far, and those of the text that is left

@@ -1,6 +1,6 @@
 use Rattle.std.proofs.Common.{◌≡◌, reverse, ◌++◌, vec_len}
 use Rattle.sd_edge.specs.Paths.{parts_of}
-use Rattle.sd_edge.proofs.TextLemmas.{texts}
+use Rattle.sd_edge.proofs.memory.path.TextLemmas.{texts}
 use Rattle.sd_edge.proofs.memory.path.push_parts.Given as goal
 
 -- the parts of the path that are left stand above those on the stack

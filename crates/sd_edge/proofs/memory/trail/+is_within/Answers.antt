@@ -2,7 +2,7 @@ use Rattle.std.proofs.Common.{refl, sym, ap, ◌∙◌}
 use Rattle.std.proofs.lemmas.Bool.{false≢true}
 use Rattle.std.proofs.lemmas.List.{nil_from_length}
 use Rattle.sd_edge.specs.MemTrail.{names_of, begins_with}
-use Rattle.sd_edge.proofs.DeviceLemmas.{begins_same, begins_top, begins_front}
+use Rattle.sd_edge.proofs.memory.trail.DeviceLemmas.{begins_same, begins_top, begins_front}
 use Rattle.sd_edge.proofs.memory.trail.+is_within.Goals as goal
 
 pub returns-then-is_at : goal.returns-then-is_at

@@ -1,6 +1,6 @@
 use Rattle.std.proofs.Common.{sym}
 use Rattle.sd_edge.specs.MemTrail.{names_of}
-use Rattle.sd_edge.proofs.TrailLemmas.{parent_of-append}
+use Rattle.sd_edge.proofs.memory.trail.TrailLemmas.{parent_of-append}
 use Rattle.sd_edge.proofs.memory.trail.above.Goals as goal
 
 pub returns-in-Below : goal.returns-in-Below

@@ -1,7 +1,7 @@
 use Rattle.std.proofs.Common.{sym, ap, cond}
 use Rattle.sd_edge.specs.MemTrail.{names_of}
-use Rattle.sd_edge.proofs.TrailLemmas.{below_top}
-use Rattle.sd_edge.proofs.DeviceLemmas.{begins_top}
+use Rattle.sd_edge.proofs.memory.trail.TrailLemmas.{below_top}
+use Rattle.sd_edge.proofs.memory.trail.DeviceLemmas.{begins_top}
 use Rattle.sd_edge.proofs.memory.trail.put_dev_of_top.Goals as goal
 
 pub returns-in_default : goal.returns-in_default

@@ -1,6 +1,6 @@
 use Rattle.std.proofs.Common.{inl, inr, sym}
 use Rattle.std.proofs.lemmas.Bool.{false≢true}
-use Rattle.sd_edge.proofs.OpenListsLemmas.{unfinished_told, keeps_told, told_each, put_at_end, others_told, counted_told, ends, gives}
+use Rattle.sd_edge.proofs.open_lists.OpenListsLemmas.{unfinished_told, keeps_told, told_each, put_at_end, others_told, counted_told, ends, gives}
 use Rattle.sd_edge.proofs.host.disk.HostDiskDisk.next_entry.Goals as goal
 
 pub returns-then-is_full-clause-failed : goal.returns-then-is_full-clause-failed

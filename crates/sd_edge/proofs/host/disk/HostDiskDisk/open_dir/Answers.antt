@@ -1,4 +1,4 @@
-use Rattle.sd_edge.proofs.OpenListsLemmas.{holds_on_err, same_lists, opens}
+use Rattle.sd_edge.proofs.open_lists.OpenListsLemmas.{holds_on_err, same_lists, opens}
 use Rattle.sd_edge.proofs.host.disk.HostDiskDisk.open_dir.Goals as goal
 
 pub returns-in_err-open-clause-refused : goal.returns-in_err-open-clause-refused

@@ -1,4 +1,4 @@
-use Rattle.sd_edge.proofs.AloneLemmas.{top_is_alone}
+use Rattle.sd_edge.proofs.memory.disk.AloneLemmas.{top_is_alone}
 use Rattle.sd_edge.proofs.memory.disk.MemDisk.new.Goals as goal
 
 pub returns-clause-tree : goal.returns-clause-tree

@@ -1,7 +1,7 @@
 use Rattle.std.proofs.Common.{◌≡◌, None, rules}
 use Rattle.sd_edge.specs.Tree.{node_at}
 use Rattle.sd_edge.specs.MemTreeView.{mem_tree}
-use Rattle.sd_edge.proofs.DiskLemmas.{builds_like, creates}
+use Rattle.sd_edge.proofs.memory.disk.DiskLemmas.{builds_like, creates}
 use Rattle.sd_edge.proofs.memory.disk.MemDiskDisk.create_like.Goals as goal
 
 pub returns-clause-added : goal.returns-clause-added

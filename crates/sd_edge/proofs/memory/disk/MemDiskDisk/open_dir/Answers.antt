@@ -2,8 +2,8 @@ use Rattle.std.proofs.Common.{refl, ap}
 use Rattle.std.specs.Option.{option_map}
 use Rattle.sd_edge.specs.OpenLists.{told_list}
 use Rattle.sd_edge.specs.MemDisk.{mem_state, left_entries}
-use Rattle.sd_edge.proofs.OpenListsLemmas.{holds_on_err, same_lists}
-use Rattle.sd_edge.proofs.DiskLemmas.{lists_directory}
+use Rattle.sd_edge.proofs.open_lists.OpenListsLemmas.{holds_on_err, same_lists}
+use Rattle.sd_edge.proofs.memory.disk.DiskLemmas.{lists_directory}
 use Rattle.sd_edge.proofs.memory.disk.MemDiskDisk.open_dir.Goals as goal
 
 pub returns-in_err-open-clause-refused : goal.returns-in_err-open-clause-refused

@@ -1,7 +1,7 @@
 use Rattle.std.proofs.Common.{◌≡◌, Some, sym, ap, ◌∙◌, rules}
 use Rattle.sd_edge.specs.MemNode.{now_of}
 use Rattle.sd_edge.specs.MemDisk.{mem_state}
-use Rattle.sd_edge.proofs.DiskLemmas.{reads}
+use Rattle.sd_edge.proofs.memory.disk.DiskLemmas.{reads}
 use Rattle.sd_edge.proofs.memory.disk.MemDiskDisk.read_file.Goals as goal
 
 pub returns-clause-bytes : goal.returns-clause-bytes

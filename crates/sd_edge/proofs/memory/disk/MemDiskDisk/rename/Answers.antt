@@ -1,6 +1,6 @@
 use Rattle.std.proofs.Common.{◌∙◌}
 use Rattle.sd_edge.specs.MemDisk.{mem_state}
-use Rattle.sd_edge.proofs.DiskLemmas.{stands_in_the_way, found_stands}
+use Rattle.sd_edge.proofs.memory.disk.DiskLemmas.{stands_in_the_way, found_stands}
 use Rattle.sd_edge.proofs.memory.disk.MemDiskDisk.rename.Goals as goal
 
 pub returns-then-not-is_file-2-clause-absent : goal.returns-then-not-is_file-2-clause-absent

@@ -1,5 +1,5 @@
 use Rattle.sd_edge.specs.MemDisk.{mem_state}
-use Rattle.sd_edge.proofs.DiskLemmas.{resolves}
+use Rattle.sd_edge.proofs.memory.disk.DiskLemmas.{resolves}
 use Rattle.sd_edge.proofs.memory.disk.MemDiskDisk.resolve.Goals as goal
 
 pub returns-in_ok-path-in-Some-clause-answer : goal.returns-in_ok-path-in-Some-clause-answer

@@ -1,7 +1,7 @@
 use Rattle.std.proofs.Common.{sym, ap, ◌∙◌}
 use Rattle.sd_edge.specs.MemNode.{now_of}
 use Rattle.sd_edge.specs.MemTreeView.{mem_tree}
-use Rattle.sd_edge.proofs.DiskLemmas.{leads_to_something}
+use Rattle.sd_edge.proofs.memory.disk.DiskLemmas.{leads_to_something}
 use Rattle.sd_edge.proofs.memory.disk.MemDiskDisk.stat.Goals as goal
 
 pub returns-in-None-clause-absent : goal.returns-in-None-clause-absent

@@ -1,6 +1,6 @@
 use Rattle.std.proofs.Common.{◌≡◌, rules}
 use Rattle.sd_edge.specs.MemDisk.{mem_state}
-use Rattle.sd_edge.proofs.WritingLemmas.{writes}
+use Rattle.sd_edge.proofs.memory.disk.WritingLemmas.{writes}
 use Rattle.sd_edge.proofs.memory.disk.MemDiskDisk.write_file.Goals as goal
 
 pub returns-clause-written : goal.returns-clause-written

@@ -1,6 +1,6 @@
 use Rattle.std.proofs.Common.{ap, ◌∙◌, ◌-◌, take}
 use Rattle.sd_edge.specs.Paths.{parent_of}
-use Rattle.sd_edge.proofs.ParentLemmas.{parent_of-take}
+use Rattle.sd_edge.proofs.memory.place.ParentLemmas.{parent_of-take}
 use Rattle.sd_edge.proofs.memory.place.Place.leave.Goals as goal
 
 pub returns : goal.returns

@@ -3,7 +3,7 @@ use Rattle.std.specs.Str.{bytes_eq}
 use Rattle.std.specs.Cmp.Lexicographic.{pointwise}
 use Rattle.std.proofs.lemmas.List.{nil_from_length}
 use Rattle.sd_edge.specs.MemTree.{name_below}
-use Rattle.sd_edge.proofs.PlaceLemmas.{name_below_last, name_below_top}
+use Rattle.sd_edge.proofs.memory.place.PlaceLemmas.{name_below_last, name_below_top}
 use Rattle.sd_edge.proofs.memory.place.Place.name_in.Goals as goal
 
 pub returns-in_err-name : goal.returns-in_err-name

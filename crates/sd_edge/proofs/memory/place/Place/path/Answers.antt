@@ -1,6 +1,6 @@
 use Rattle.std.proofs.Common.{◌∙◌, ◌++◌, ap, lit<}
 use Rattle.std.specs.Prelude.{string_bytes}
-use Rattle.sd_edge.proofs.PlaceLemmas.{path_text_first, path_text_next}
+use Rattle.sd_edge.proofs.memory.place.PlaceLemmas.{path_text_first, path_text_next}
 use Rattle.sd_edge.proofs.memory.place.Place.path.Goals as goal
 use Rattle.sd_edge.proofs.memory.place.Place.path.Goals.{then-i-gt0+in_ok-push-2, else-i-gt0}
 

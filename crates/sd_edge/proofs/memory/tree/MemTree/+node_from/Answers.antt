@@ -2,7 +2,7 @@ use Rattle.std.proofs.Common.{◌∙◌, sym, ap}
 use Rattle.sd_edge.specs.MemTreeView.{mem_tree}
 use Rattle.sd_edge.specs.MemNode.{now_of}
 use Rattle.sd_edge.specs.MemTrail.{names_of, plain_node}
-use Rattle.sd_edge.proofs.TrailLemmas.{less_left, plain_down, next_part}
+use Rattle.sd_edge.proofs.memory.trail.TrailLemmas.{less_left, plain_down, next_part}
 use Rattle.sd_edge.proofs.memory.tree.MemTree.+node_from.Goals as goal
 
 pub node_from-requires : goal.node_from-requires

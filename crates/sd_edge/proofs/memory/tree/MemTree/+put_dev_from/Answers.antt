@@ -2,8 +2,8 @@ use Rattle.std.proofs.Common.{sym, ap}
 use Rattle.sd_edge.specs.MemTreeView.{mem_tree}
 use Rattle.sd_edge.specs.MemNode.{now_of}
 use Rattle.sd_edge.specs.MemTrail.{names_of}
-use Rattle.sd_edge.proofs.TrailLemmas.{next_part}
-use Rattle.sd_edge.proofs.DeviceLemmas.{device_down}
+use Rattle.sd_edge.proofs.memory.trail.TrailLemmas.{next_part}
+use Rattle.sd_edge.proofs.memory.trail.DeviceLemmas.{device_down}
 use Rattle.sd_edge.proofs.memory.tree.MemTree.+put_dev_from.Goals as goal
 
 pub returns-clause-put : goal.returns-clause-put

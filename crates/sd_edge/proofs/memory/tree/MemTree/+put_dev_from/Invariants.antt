@@ -1,5 +1,5 @@
 use Rattle.sd_edge.specs.MemNode.{now_of}
-use Rattle.sd_edge.proofs.TrailLemmas.{left_of}
+use Rattle.sd_edge.proofs.memory.trail.TrailLemmas.{left_of}
 use Rattle.sd_edge.proofs.memory.tree.MemTree.+put_dev_from.Given as goal
 
 -- the bytes that are left, and one

@@ -2,8 +2,8 @@ use Rattle.std.proofs.Common.{◌∙◌, ap}
 use Rattle.sd_edge.specs.Tree.{Node}
 use Rattle.sd_edge.specs.Paths.{parent_of}
 use Rattle.sd_edge.specs.MemTreeView.{mem_tree}
-use Rattle.sd_edge.proofs.SoundLemmas.{added_node, adds, sound_added}
-use Rattle.sd_edge.proofs.AddedLemmas.{adds_name}
+use Rattle.sd_edge.proofs.memory.tree.SoundLemmas.{added_node, adds, sound_added}
+use Rattle.sd_edge.proofs.memory.tree.AddedLemmas.{adds_name}
 use Rattle.sd_edge.proofs.memory.tree.MemTree.add.Goals as goal
 
 pub invariant_of-self-2 : goal.invariant_of-self-2

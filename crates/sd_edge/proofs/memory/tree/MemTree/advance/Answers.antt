@@ -1,8 +1,8 @@
 use Rattle.std.proofs.Common.{sym, ◌∙◌, ap}
 use Rattle.sd_edge.specs.Paths.{steps}
 use Rattle.sd_edge.specs.MemTreeView.{mem_tree}
-use Rattle.sd_edge.proofs.TextLemmas.{next_part}
-use Rattle.sd_edge.proofs.StepLemmas.{no_end, step_link}
+use Rattle.sd_edge.proofs.memory.path.TextLemmas.{next_part}
+use Rattle.sd_edge.proofs.memory.walk.StepLemmas.{no_end, step_link}
 use Rattle.sd_edge.proofs.memory.tree.MemTree.advance.Goals as goal
 
 pub returns-in-Some-target : goal.returns-in-Some-target

@@ -1,7 +1,7 @@
 use Rattle.std.proofs.Common.{◌≡◌, reverse, vec_len}
 use Rattle.sd_edge.specs.Paths.{Linking, steps}
 use Rattle.sd_edge.specs.MemTreeView.{mem_tree}
-use Rattle.sd_edge.proofs.TextLemmas.{texts}
+use Rattle.sd_edge.proofs.memory.path.TextLemmas.{texts}
 use Rattle.sd_edge.proofs.memory.tree.MemTree.advance.Given as goal
 
 -- the parts that are left lead on from here as all parts do from the start

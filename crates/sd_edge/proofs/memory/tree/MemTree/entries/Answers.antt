@@ -2,7 +2,7 @@ use Rattle.std.proofs.Common.{◌++◌, sym, ◌∙◌, ap, rules, append-nil}
 use Rattle.std.proofs.lemmas.List.Sorted.{IsNonDecreasingBy-from_sort_by_key, answers_always}
 use Rattle.sd_edge.specs.declared.meta.RawEntry.{RawEntry}
 use Rattle.sd_edge.specs.MemTree.{entries_below}
-use Rattle.sd_edge.proofs.ListingLemmas.{sorted_listing}
+use Rattle.sd_edge.proofs.memory.tree.ListingLemmas.{sorted_listing}
 use Rattle.sd_edge.proofs.memory.tree.MemTree.entries.Goals as goal
 
 pub returns : goal.returns

@@ -1,7 +1,7 @@
 use Rattle.std.proofs.Common.{◌∙◌, sym, None}
 use Rattle.sd_edge.specs.Tree.{file_content}
 use Rattle.sd_edge.specs.MemTreeView.{mem_tree}
-use Rattle.sd_edge.proofs.TrailLemmas.{no_file, empty_path, plain_file_is, both_parts, no_bytes}
+use Rattle.sd_edge.proofs.memory.trail.TrailLemmas.{no_file, empty_path, plain_file_is, both_parts, no_bytes}
 use Rattle.sd_edge.proofs.memory.tree.MemTree.file.Goals as goal
 use Rattle.sd_edge.proofs.memory.tree.MemTree.file.Goals.{After-node_from}
 

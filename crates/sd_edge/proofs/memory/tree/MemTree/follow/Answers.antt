@@ -1,5 +1,5 @@
 use Rattle.std.proofs.Common.{lit<, ◌∙◌, ap, arith, [], sym, cond, ◌≡◌, ◌<◌}
-use Rattle.sd_edge.proofs.RoundLemmas.{arrives, leads_nowhere, ends_at_empty_link, goes_on, starts}
+use Rattle.sd_edge.proofs.memory.walk.RoundLemmas.{arrives, leads_nowhere, ends_at_empty_link, goes_on, starts}
 use Rattle.sd_edge.specs.MemTreeView.{mem_tree}
 use Rattle.sd_edge.proofs.memory.tree.MemTree.follow.Goals as goal
 use Rattle.sd_edge.proofs.memory.tree.MemTree.follow.Goals.{then-starts_with, else-starts_with}

@@ -1,8 +1,8 @@
 use Rattle.std.proofs.Common.{◌≡◌, ◌-◌, [], reverse}
 use Rattle.sd_edge.specs.Paths.{followed, links_most}
 use Rattle.sd_edge.specs.MemTreeView.{mem_tree}
-use Rattle.sd_edge.proofs.TextLemmas.{texts}
-use Rattle.sd_edge.proofs.RoundLemmas.{followed_in}
+use Rattle.sd_edge.proofs.memory.path.TextLemmas.{texts}
+use Rattle.sd_edge.proofs.memory.walk.RoundLemmas.{followed_in}
 use Rattle.sd_edge.proofs.memory.tree.MemTree.follow.Given as goal
 
 -- the parts that are left lead on from here, in the rounds that are left, as all parts do from the top

@@ -1,7 +1,7 @@
 use Rattle.std.proofs.Common.{◌∙◌}
 use Rattle.sd_edge.specs.MemTreeView.{mem_tree}
-use Rattle.sd_edge.proofs.EntryLemmas.{node_at_name}
-use Rattle.sd_edge.proofs.FreePlaceLemmas.{nothing, up_before, up_last, no_directory, stands_there, is_free}
+use Rattle.sd_edge.proofs.memory.tree.EntryLemmas.{node_at_name}
+use Rattle.sd_edge.proofs.memory.walk.FreePlaceLemmas.{nothing, up_before, up_last, no_directory, stands_there, is_free}
 use Rattle.sd_edge.proofs.memory.tree.MemTree.free_place.Goals as goal
 use Rattle.sd_edge.proofs.memory.tree.MemTree.free_place.Goals.{then-eq-2-via-then-eq-2, then-eq-2-via-else-eq-2+then-not-is_directory}
 

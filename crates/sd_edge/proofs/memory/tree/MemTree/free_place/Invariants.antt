@@ -1,7 +1,7 @@
 use Rattle.std.proofs.Common.{◌≡◌, take, false}
 use Rattle.std.specs.List.{list_any}
 use Rattle.sd_edge.specs.Paths.{is_up}
-use Rattle.sd_edge.proofs.TextLemmas.{texts}
+use Rattle.sd_edge.proofs.memory.path.TextLemmas.{texts}
 use Rattle.sd_edge.proofs.memory.tree.MemTree.free_place.Given as goal
 
 -- the place has the parts so far, none of them `..`

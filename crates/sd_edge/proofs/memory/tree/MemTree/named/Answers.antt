@@ -1,7 +1,7 @@
 use Rattle.std.proofs.Common.{sym, ◌∙◌}
 use Rattle.std.proofs.lemmas.List.{nil_from_length}
 use Rattle.sd_edge.specs.MemTreeView.{mem_tree}
-use Rattle.sd_edge.proofs.NamedLemmas.{names_none, names_up, names_nowhere, names_in_none, names_child, names_a_place}
+use Rattle.sd_edge.proofs.memory.walk.NamedLemmas.{names_none, names_up, names_nowhere, names_in_none, names_child, names_a_place}
 use Rattle.sd_edge.proofs.memory.tree.MemTree.named.Goals as goal
 
 pub returns-in_default-clause-answer : goal.returns-in_default-clause-answer

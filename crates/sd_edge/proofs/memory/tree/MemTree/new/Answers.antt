@@ -1,6 +1,6 @@
 use Rattle.std.proofs.Common.{arith, ap, ◌<◌}
 use Rattle.sd_edge.specs.Tree.{Node}
-use Rattle.sd_edge.proofs.SoundLemmas.{sound_new}
+use Rattle.sd_edge.proofs.memory.tree.SoundLemmas.{sound_new}
 use Rattle.sd_edge.proofs.memory.tree.MemTree.new.Goals as goal
 
 pub invariant_of-result : goal.invariant_of-result

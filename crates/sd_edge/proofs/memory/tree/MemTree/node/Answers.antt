@@ -1,6 +1,6 @@
 use Rattle.std.proofs.Common.{refl, sym, ◌∙◌}
 use Rattle.std.proofs.lemmas.Bool.{false≢true}
-use Rattle.sd_edge.proofs.EntryLemmas.{node_at_top, node_at_below}
+use Rattle.sd_edge.proofs.memory.tree.EntryLemmas.{node_at_top, node_at_below}
 use Rattle.sd_edge.proofs.memory.tree.MemTree.node.Goals as goal
 
 pub returns-then-is_top : goal.returns-then-is_top

@@ -4,8 +4,8 @@ use Rattle.std.specs.Map.{lookup}
 use Rattle.std.specs.BTreeMap.{is_at}
 use Rattle.sd_edge.specs.Tree.{name_list_cmp}
 use Rattle.sd_edge.specs.MemTrail.{names_of}
-use Rattle.sd_edge.proofs.EntryLemmas.{node_at_top, node_at_below}
-use Rattle.sd_edge.proofs.TrailLemmas.{below_top, found_here, passed_over}
+use Rattle.sd_edge.proofs.memory.tree.EntryLemmas.{node_at_top, node_at_below}
+use Rattle.sd_edge.proofs.memory.trail.TrailLemmas.{below_top, found_here, passed_over}
 use Rattle.sd_edge.proofs.memory.tree.MemTree.node_on.Goals as goal
 
 pub returns-in-Top : goal.returns-in-Top

@@ -1,7 +1,7 @@
 use Rattle.std.proofs.Common.{sym, ap}
 use Rattle.std.specs.Prelude.{is_some}
-use Rattle.sd_edge.proofs.SoundLemmas.{found_not_top, puts, puts_nowhere, sound_put}
-use Rattle.sd_edge.proofs.OrderLemmas.{orders_put}
+use Rattle.sd_edge.proofs.memory.tree.SoundLemmas.{found_not_top, puts, puts_nowhere, sound_put}
+use Rattle.sd_edge.proofs.memory.tree.OrderLemmas.{orders_put}
 use Rattle.sd_edge.proofs.memory.tree.MemTree.put_bytes.Goals as goal
 
 pub invariant_of-self : goal.invariant_of-self

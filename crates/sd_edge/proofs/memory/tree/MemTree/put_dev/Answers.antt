@@ -1,7 +1,7 @@
 use Rattle.std.proofs.Common.{◌∙◌}
 use Rattle.sd_edge.specs.MemTreeView.{mem_tree}
-use Rattle.sd_edge.proofs.TrailLemmas.{empty_path}
-use Rattle.sd_edge.proofs.DeviceLemmas.{empty_nowhere, device_at, leads_nowhere}
+use Rattle.sd_edge.proofs.memory.trail.TrailLemmas.{empty_path}
+use Rattle.sd_edge.proofs.memory.trail.DeviceLemmas.{empty_nowhere, device_at, leads_nowhere}
 use Rattle.sd_edge.proofs.memory.tree.MemTree.put_dev.Goals as goal
 
 pub returns-then-is_empty-clause-nowhere : goal.returns-then-is_empty-clause-nowhere

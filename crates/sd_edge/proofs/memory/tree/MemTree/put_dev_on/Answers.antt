@@ -1,6 +1,6 @@
 use Rattle.std.proofs.Common.{rules}
 use Rattle.sd_edge.specs.MemTrail.{names_of, dev_within}
-use Rattle.sd_edge.proofs.DeviceLemmas.{written_pairs, puts_device, sound_device}
+use Rattle.sd_edge.proofs.memory.trail.DeviceLemmas.{written_pairs, puts_device, sound_device}
 use Rattle.sd_edge.proofs.memory.tree.MemTree.put_dev_on.Goals as goal
 
 pub invariant_of-self : goal.invariant_of-self

@@ -1,7 +1,7 @@
 use Rattle.std.proofs.Common.{◌≡◌, subst, IfOk, Option}
 use Rattle.sd_edge.specs.Tree.{NameList}
 use Rattle.sd_edge.specs.MemTreeView.{mem_tree}
-use Rattle.sd_edge.proofs.NamedLemmas.{reached_none, reached_by}
+use Rattle.sd_edge.proofs.memory.walk.NamedLemmas.{reached_none, reached_by}
 use Rattle.sd_edge.proofs.memory.tree.MemTree.reached.Goals as goal
 
 pub returns-then-is_empty : goal.returns-then-is_empty

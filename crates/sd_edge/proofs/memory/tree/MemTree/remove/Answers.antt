@@ -1,6 +1,6 @@
 use Rattle.sd_edge.specs.MemTreeView.{mem_tree}
-use Rattle.sd_edge.proofs.SoundLemmas.{file_not_top, takes, sound_taken}
-use Rattle.sd_edge.proofs.OrderLemmas.{orders_taken}
+use Rattle.sd_edge.proofs.memory.tree.SoundLemmas.{file_not_top, takes, sound_taken}
+use Rattle.sd_edge.proofs.memory.tree.OrderLemmas.{orders_taken}
 use Rattle.sd_edge.proofs.memory.tree.MemTree.remove.Goals as goal
 
 pub invariant_of-self : goal.invariant_of-self

@@ -1,7 +1,7 @@
 use Rattle.std.proofs.Common.{sym, ◌∙◌}
 use Rattle.sd_edge.specs.MemTreeView.{mem_tree}
-use Rattle.sd_edge.proofs.SoundLemmas.{same_places, moves_nowhere, ready, place_kept, file_found, moves, sound_moved, certain}
-use Rattle.sd_edge.proofs.OrderLemmas.{orders_moved}
+use Rattle.sd_edge.proofs.memory.tree.SoundLemmas.{same_places, moves_nowhere, ready, place_kept, file_found, moves, sound_moved, certain}
+use Rattle.sd_edge.proofs.memory.tree.OrderLemmas.{orders_moved}
 use Rattle.sd_edge.proofs.memory.tree.MemTree.rename.Goals as goal
 
 pub returns-then-eq-clause-moved : goal.returns-then-eq-clause-moved

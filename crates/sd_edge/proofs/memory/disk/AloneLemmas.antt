@@ -4,9 +4,9 @@ use Rattle.std.specs.Prelude.{Some, map}
 use Rattle.sd_edge.specs.Tree.{NameList, Node, directory, node_at}
 use Rattle.sd_edge.specs.MemTree.{tree_of, listing}
 use Rattle.sd_edge.specs.MemDisk.{IsTopAlone}
-use Rattle.sd_edge.proofs.EntryLemmas.{node_at_top, node_at_below}
-use Rattle.sd_edge.proofs.ListingLemmas.{name_of}
-use Rattle.sd_edge.proofs.ListedLemmas.{order_is}
+use Rattle.sd_edge.proofs.memory.tree.EntryLemmas.{node_at_top, node_at_below}
+use Rattle.sd_edge.proofs.memory.tree.ListingLemmas.{name_of}
+use Rattle.sd_edge.proofs.memory.tree.ListedLemmas.{order_is}
 
 -- without entries no folder has a listing
 no_listing : (folder : NameList) → map name_of (listing folder []) ≡ []

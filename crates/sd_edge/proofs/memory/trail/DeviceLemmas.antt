@@ -20,12 +20,12 @@ use Rattle.sd_edge.specs.Paths.{Linking, through_node, steps, is_up, kept, piece
 use Rattle.sd_edge.specs.MemTree.{name_below, raw_entry, entries_below, by_number, listing, tree_of, PutsDevice, PutsDeviceAt}
 use Rattle.sd_edge.specs.MemSound.{IsNumbered, IsSound}
 use Rattle.sd_edge.specs.MemTrail.{begins_with, dev_within, plain_node, PutsDeviceFrom}
-use Rattle.sd_edge.proofs.EntryLemmas.{name_list_exact, find-lookup, node_at_top, node_at_below}
-use Rattle.sd_edge.proofs.TreeLemmas.{IsRooted, same_or_other}
-use Rattle.sd_edge.proofs.ListingLemmas.{name_of}
-use Rattle.sd_edge.proofs.ListedLemmas.{order_is}
-use Rattle.sd_edge.proofs.StandLemmas.{plain_stands}
-use Rattle.sd_edge.proofs.SoundLemmas.{rooted_tree, sound_from}
+use Rattle.sd_edge.proofs.memory.tree.EntryLemmas.{name_list_exact, find-lookup, node_at_top, node_at_below}
+use Rattle.sd_edge.proofs.memory.tree.TreeLemmas.{IsRooted, same_or_other}
+use Rattle.sd_edge.proofs.memory.tree.ListingLemmas.{name_of}
+use Rattle.sd_edge.proofs.memory.tree.ListedLemmas.{order_is}
+use Rattle.sd_edge.proofs.memory.walk.StandLemmas.{plain_stands}
+use Rattle.sd_edge.proofs.memory.tree.SoundLemmas.{rooted_tree, sound_from}
 
 -- ---- places that begin with the names of another
 

@@ -16,9 +16,9 @@ use Rattle.sd_edge.specs.Paths.{parent_of}
 use Rattle.sd_edge.specs.MemTree.{tree_of, dev_at, IsPlaceIn, Adds, PutsBytes, TakesAway, Moves}
 use Rattle.sd_edge.specs.MemNode.{with_bytes, content_with}
 use Rattle.sd_edge.specs.MemSound.{IsNumbered, IsSound}
-use Rattle.sd_edge.proofs.EntryLemmas.{name_list_total, name_list_exact, find-lookup, node_at_top, node_at_below}
-use Rattle.sd_edge.proofs.TreeLemmas.{IsRooted, below_top, file_or_directory, same_or_other, rooted_added, rooted_put, rooted_taken, rooted_moved, numbered_added, numbered_put, numbered_taken, numbered_moved}
-use Rattle.sd_edge.proofs.ListingLemmas.{listing_all, listing_once}
+use Rattle.sd_edge.proofs.memory.tree.EntryLemmas.{name_list_total, name_list_exact, find-lookup, node_at_top, node_at_below}
+use Rattle.sd_edge.proofs.memory.tree.TreeLemmas.{IsRooted, below_top, file_or_directory, same_or_other, rooted_added, rooted_put, rooted_taken, rooted_moved, numbered_added, numbered_put, numbered_taken, numbered_moved}
+use Rattle.sd_edge.proofs.memory.tree.ListingLemmas.{listing_all, listing_once}
 
 -- in a tree parents are directories and names are names
 pub rooted_tree : (tree : Tree) → IsTree tree → IsRooted tree

@@ -10,7 +10,7 @@ use Rattle.std.proofs.lemmas.Slice.Eq.{bytes_eq-Decides}
 use Rattle.sd_edge.specs.Tree.{Name, NameList, Tree, IsName, is_directory_at}
 use Rattle.sd_edge.specs.Paths.{is_dropped, is_up, pieces_of, parts_of, folder_and_name, child_in, followed, links_most, reached, named}
 use Rattle.sd_edge.specs.MemTree.{IsPlaceIn}
-use Rattle.sd_edge.proofs.TextLemmas.{no_bytes, texts, turned_back, last_part}
+use Rattle.sd_edge.proofs.memory.path.TextLemmas.{no_bytes, texts, turned_back, last_part}
 
 -- ---- where a path leads
 

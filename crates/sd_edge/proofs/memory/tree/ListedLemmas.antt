@@ -14,9 +14,9 @@ use Rattle.sd_edge.specs.declared.meta.RawEntry.{RawEntry}
 use Rattle.sd_edge.specs.Tree.{Name, NameList, Node, name_list_cmp}
 use Rattle.sd_edge.specs.Lists.{Tells, TellAll}
 use Rattle.sd_edge.specs.MemTree.{name_below, raw_entry, entries_below, insert_by_number, by_number, listing, tree_of}
-use Rattle.sd_edge.proofs.EntryLemmas.{name_list_total, name_list_exact, find-lookup, node_at_below}
-use Rattle.sd_edge.proofs.TreeLemmas.{below_top}
-use Rattle.sd_edge.proofs.ListingLemmas.{not_found, place_below, name_of}
+use Rattle.sd_edge.proofs.memory.tree.EntryLemmas.{name_list_total, name_list_exact, find-lookup, node_at_below}
+use Rattle.sd_edge.proofs.memory.tree.TreeLemmas.{below_top}
+use Rattle.sd_edge.proofs.memory.tree.ListingLemmas.{not_found, place_below, name_of}
 
 -- the entry tells of the node that is found under its name in the folder
 pub record IsFound (nodes : List (NameList × Node)) (folder : NameList) (entry : RawEntry) : Type 0 where

@@ -6,8 +6,8 @@ use Rattle.std.proofs.lemmas.List.{length-reverse, length-map}
 use Rattle.sd_edge.specs.Tree.{Name, NameList, Node, Tree, Content, directory, link, file, other, node_at, is_directory_at}
 use Rattle.sd_edge.specs.Paths.{Linking, is_up, parent_of, ends_at_link, through_node, steps}
 use Rattle.sd_edge.specs.MemNode.{link_target}
-use Rattle.sd_edge.proofs.TextLemmas.{texts}
-use Rattle.sd_edge.proofs.ParentLemmas.{parent_of-last}
+use Rattle.sd_edge.proofs.memory.path.TextLemmas.{texts}
+use Rattle.sd_edge.proofs.memory.place.ParentLemmas.{parent_of-last}
 
 no_end_followed : (parts : List Name) → ends_at_link true parts ≡ false
 no_end_followed [] = refl

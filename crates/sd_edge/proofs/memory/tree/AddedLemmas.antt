@@ -14,11 +14,11 @@ use Rattle.sd_edge.specs.declared.meta.RawEntry.{RawEntry}
 use Rattle.sd_edge.specs.Tree.{Name, NameList, Node, name_list_cmp, node_at}
 use Rattle.sd_edge.specs.MemTree.{name_below, raw_entry, entries_below, insert_by_number, by_number, listing, tree_of, IsPlaceIn, AddsName}
 use Rattle.sd_edge.specs.MemSound.{IsSound}
-use Rattle.sd_edge.proofs.EntryLemmas.{find-lookup, node_at_below, node_at_name}
-use Rattle.sd_edge.proofs.TreeLemmas.{below_top, same_ends}
-use Rattle.sd_edge.proofs.PlaceLemmas.{name_below_last}
-use Rattle.sd_edge.proofs.ListingLemmas.{name_of, place_below}
-use Rattle.sd_edge.proofs.ListedLemmas.{IsFound, all_found, all_by_number, order_is}
+use Rattle.sd_edge.proofs.memory.tree.EntryLemmas.{find-lookup, node_at_below, node_at_name}
+use Rattle.sd_edge.proofs.memory.tree.TreeLemmas.{below_top, same_ends}
+use Rattle.sd_edge.proofs.memory.place.PlaceLemmas.{name_below_last}
+use Rattle.sd_edge.proofs.memory.tree.ListingLemmas.{name_of, place_below}
+use Rattle.sd_edge.proofs.memory.tree.ListedLemmas.{IsFound, all_found, all_by_number, order_is}
 
 -- all numbers are below this one
 abbrev AllBelow : ℕ → List RawEntry → Type 0

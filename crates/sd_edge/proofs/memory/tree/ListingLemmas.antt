@@ -21,8 +21,8 @@ use Rattle.std.proofs.lemmas.Map.Keys.{IsDistinct-IsPermutation, sorted_head, so
 use Rattle.sd_edge.specs.declared.meta.RawEntry.{RawEntry}
 use Rattle.sd_edge.specs.Tree.{Name, NameList, Node, name_cmp, name_list_cmp, node_at}
 use Rattle.sd_edge.specs.MemTree.{name_below, raw_entry, entries_below, insert_by_number, by_number, listing, tree_of}
-use Rattle.sd_edge.proofs.EntryLemmas.{name_list_exact, find-lookup, node_at_below}
-use Rattle.sd_edge.proofs.TreeLemmas.{below_top}
+use Rattle.sd_edge.proofs.memory.tree.EntryLemmas.{name_list_exact, find-lookup, node_at_below}
+use Rattle.sd_edge.proofs.memory.tree.TreeLemmas.{below_top}
 
 -- ---- a stable sort by numbers is the only one
 

@@ -5,8 +5,8 @@ use Rattle.std.specs.Str.{bytes_eq}
 use Rattle.std.proofs.lemmas.Option.{same_Some}
 use Rattle.sd_edge.specs.Tree.{Name, NameList, Content, directory, link, file, other, Node, Tree, IsTree, node_at, is_directory_node, is_directory_at}
 use Rattle.sd_edge.specs.Paths.{Linking, through_node, ends_at_link, steps, followed, links_most, start_of, is_absolute, parts_of, is_up, parent_of, reached}
-use Rattle.sd_edge.proofs.ParentLemmas.{parent_of-last}
-use Rattle.sd_edge.proofs.WayLemmas.{by_way, cond_some_then, through_some}
+use Rattle.sd_edge.proofs.memory.place.ParentLemmas.{parent_of-last}
+use Rattle.sd_edge.proofs.laws.WayLemmas.{by_way, cond_some_then, through_some}
 
 -- a name list that isn't the top's has a last name
 last_name : (name : Name) (names : NameList) → (folder : NameList) × (last : Name) × (folder ++ last ∷ [] ≡ name ∷ names)

@@ -9,9 +9,9 @@ use Rattle.std.proofs.lemmas.List.Folds.{list_any-append, list_any_at}
 use Rattle.sd_edge.specs.Tree.{NameList, Tree, Node, node_at, is_directory_at}
 use Rattle.sd_edge.specs.Paths.{is_up, parent_of, parts_of}
 use Rattle.sd_edge.specs.MemTree.{IsFreePlace, HasNoFreePlace}
-use Rattle.sd_edge.proofs.ParentLemmas.{parent_of-last}
-use Rattle.sd_edge.proofs.TextLemmas.{texts, last_part}
-use Rattle.sd_edge.proofs.NamedLemmas.{last_is_name}
+use Rattle.sd_edge.proofs.memory.place.ParentLemmas.{parent_of-last}
+use Rattle.sd_edge.proofs.memory.path.TextLemmas.{texts, last_part}
+use Rattle.sd_edge.proofs.memory.walk.NamedLemmas.{last_is_name}
 
 -- a test that fails says that nothing is there
 pub nothing : (found : Option Node) (test : Bool) → test ≡ is_some found → test ≡ false → found ≡ None

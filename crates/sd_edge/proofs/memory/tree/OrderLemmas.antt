@@ -18,11 +18,11 @@ use Rattle.sd_edge.specs.Paths.{parent_of}
 use Rattle.sd_edge.specs.Files.{kind_of}
 use Rattle.sd_edge.specs.MemNode.{content_with, with_bytes}
 use Rattle.sd_edge.specs.MemTree.{name_below, raw_entry, entries_below, by_number, listing, tree_of, AddsName, PutsBytes, TakesAway, Moves}
-use Rattle.sd_edge.proofs.EntryLemmas.{name_list_total, name_list_exact, find-lookup, node_at_below}
-use Rattle.sd_edge.proofs.ParentLemmas.{parent_of-last}
-use Rattle.sd_edge.proofs.TreeLemmas.{below_top, same_or_other}
-use Rattle.sd_edge.proofs.ListingLemmas.{name_of, place_below}
-use Rattle.sd_edge.proofs.ListedLemmas.{order_is}
+use Rattle.sd_edge.proofs.memory.tree.EntryLemmas.{name_list_total, name_list_exact, find-lookup, node_at_below}
+use Rattle.sd_edge.proofs.memory.place.ParentLemmas.{parent_of-last}
+use Rattle.sd_edge.proofs.memory.tree.TreeLemmas.{below_top, same_or_other}
+use Rattle.sd_edge.proofs.memory.tree.ListingLemmas.{name_of, place_below}
+use Rattle.sd_edge.proofs.memory.tree.ListedLemmas.{order_is}
 
 -- ---- the entries of a folder, each with its place
 

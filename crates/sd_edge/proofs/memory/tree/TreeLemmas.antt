@@ -9,7 +9,7 @@ use Rattle.sd_edge.specs.Tree.{Name, NameList, Content, directory, link, file, o
 use Rattle.sd_edge.specs.MemNode.{with_bytes, content_with}
 use Rattle.sd_edge.specs.MemTree.{IsPlaceIn, Adds, PutsBytes, TakesAway, Moves}
 use Rattle.sd_edge.specs.MemSound.{IsNumbered}
-use Rattle.sd_edge.proofs.EntryLemmas.{name_list_total, name_list_exact}
+use Rattle.sd_edge.proofs.memory.tree.EntryLemmas.{name_list_total, name_list_exact}
 
 -- ---- places
 

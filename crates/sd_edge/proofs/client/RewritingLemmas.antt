@@ -10,8 +10,8 @@ use Rattle.sd_edge.specs.declared.fault.DiskFault.TheVariants.{Absent, Taken, Fa
 use Rattle.sd_edge.specs.Disk.{DiskState, SameTree}
 use Rattle.sd_edge.specs.Files.{file_of, Creates, Writes, MayHaveWritten, Renames, MayHaveRenamed}
 use Rattle.sd_edge.specs.Rewriting.{IsPlainPath, Rewrites, KeepsFile}
-use Rattle.sd_edge.proofs.WayLemmas.{same_or_other, named_alike, creates_ways, writes_ways, renames_ways}
-use Rattle.sd_edge.proofs.PathLemmas.{reached_file}
+use Rattle.sd_edge.proofs.laws.WayLemmas.{same_or_other, named_alike, creates_ways, writes_ways, renames_ways}
+use Rattle.sd_edge.proofs.laws.PathLemmas.{reached_file}
 
 -- The temporary file stands with these bytes, the file at the path is as it was, and so is all else.
 pub record IsBegun (old : DiskState) (path temp before bytes : List ℕ) (mode : ℕ) (now : DiskState) : Type 0 where

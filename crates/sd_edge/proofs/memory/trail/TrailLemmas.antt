@@ -13,7 +13,7 @@ use Rattle.sd_edge.specs.Tree.{NameList, Name, Content, directory, link, file, o
 use Rattle.sd_edge.specs.Paths.{Linking, through_node, steps, parent_of, is_up, is_dropped, kept, pieces_of, pieces_left, parts_of, reached_plain, plain_file}
 use Rattle.sd_edge.specs.declared.memory.trail.Trail.{Trail, Top, Below'}
 use Rattle.sd_edge.specs.MemTrail.{names_of, plain_node}
-use Rattle.sd_edge.proofs.PathLemmas.{no_last}
+use Rattle.sd_edge.proofs.laws.PathLemmas.{no_last}
 
 -- without its last name a place is its folder
 pub parent_of-append : (folder : NameList) (name : Name) → parent_of (folder ++ name ∷ []) ≡ folder

@@ -17,9 +17,9 @@ use Rattle.sd_edge.specs.MemNode.{now_of}
 use Rattle.sd_edge.specs.MemTree.{Adds, AddsName, tree_of, listing}
 use Rattle.sd_edge.specs.declared.memory.disk.MemDisk.{MemDisk}
 use Rattle.sd_edge.specs.MemDisk.{mem_state, next_number, BuildsLike}
-use Rattle.sd_edge.proofs.ListedLemmas.{listing_tells}
-use Rattle.sd_edge.proofs.OrderLemmas.{orders_added}
-use Rattle.sd_edge.proofs.StandLemmas.{reached_stands}
+use Rattle.sd_edge.proofs.memory.tree.ListedLemmas.{listing_tells}
+use Rattle.sd_edge.proofs.memory.tree.OrderLemmas.{orders_added}
+use Rattle.sd_edge.proofs.memory.walk.StandLemmas.{reached_stands}
 
 -- the node of a name list at which something stands
 node_of : (o : Option Node) → IsSome o → (node : Node) × (o ≡ Some node)

@@ -8,7 +8,7 @@ use Rattle.sd_edge.specs.Paths.{Linking, steps, followed, is_absolute, start_of,
 use Rattle.sd_edge.specs.declared.memory.walk.Stop.{Stop}
 use Rattle.sd_edge.specs.declared.memory.walk.Stop.TheVariants as stop
 use Rattle.sd_edge.specs.MemWalk.{led_to}
-use Rattle.sd_edge.proofs.TextLemmas.{no_bytes}
+use Rattle.sd_edge.proofs.memory.path.TextLemmas.{no_bytes}
 
 -- where parts lead in so many rounds, one more than the links that may be followed
 abbrev pub followed_in : Tree → ℕ → Bool → NameList → List Name → Option NameList

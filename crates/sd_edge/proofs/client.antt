@@ -1,0 +1,2 @@
+-- What the proof about a file that is replaced uses.
+pub mod RewritingLemmas

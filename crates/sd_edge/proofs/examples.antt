@@ -1,0 +1,2 @@
+-- What the proofs of the worked examples use.
+pub mod ExampleLemmas

@@ -1,0 +1,3 @@
+-- What the laws of paths use.
+pub mod WayLemmas
+pub mod PathLemmas

@@ -1,0 +1,4 @@
+-- What the proofs about the disk in memory use.
+pub mod DiskLemmas
+pub mod WritingLemmas
+pub mod AloneLemmas

@@ -1,0 +1,3 @@
+-- What the proofs about the parts of a path use.
+pub mod PieceLemmas
+pub mod TextLemmas

@@ -1,0 +1,3 @@
+-- What the proofs about places use.
+pub mod PlaceLemmas
+pub mod ParentLemmas

@@ -1,0 +1,3 @@
+-- What the proofs about walks on the stack use.
+pub mod TrailLemmas
+pub mod DeviceLemmas

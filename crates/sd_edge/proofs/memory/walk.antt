@@ -1,0 +1,6 @@
+-- What the proofs about where paths lead in memory use.
+pub mod StepLemmas
+pub mod RoundLemmas
+pub mod NamedLemmas
+pub mod FreePlaceLemmas
+pub mod StandLemmas

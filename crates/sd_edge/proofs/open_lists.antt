@@ -1,0 +1,2 @@
+-- What the proofs about open lists use.
+pub mod OpenListsLemmas

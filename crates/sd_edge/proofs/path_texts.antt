@@ -1,0 +1,2 @@
+-- What the laws of the texts of places use.
+pub mod PathTextLemmas
