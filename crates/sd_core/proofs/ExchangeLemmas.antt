@@ -7,10 +7,10 @@ use Rattle.sd_edge.specs.declared.fault.DiskFault.{DiskFault}
 use Rattle.sd_edge.specs.declared.fault.DiskFault.TheVariants as disk
 use Rattle.sd_edge.specs.Count.{HasRisen}
 use Rattle.sd_edge.specs.Tree.{NameList, Tree, IsTree, SameBut, node_at, file_node, file_at}
-use Rattle.sd_edge.specs.Paths.{parts_of, parent_of, named, SameWays}
+use Rattle.sd_edge.specs.Paths.{parts_of, parent_of, named, SameWays, way_of_node}
 use Rattle.sd_edge.specs.Disk.{DiskState, SameTree}
 use Rattle.sd_edge.specs.Files.{path_text, Removes, CannotRemove}
-use Rattle.sd_edge.proofs.WayLemmas.{same_or_other, named_alike, creates_ways}
+use Rattle.sd_edge.proofs.WayLemmas.{same_or_other, named_alike, file_has_no_way, ways_kept}
 use Rattle.sd_edge.proofs.PathTextLemmas.{text_names}
 use Rattle.sd_core.specs.declared.error.Error.{Error}
 use Rattle.sd_core.specs.declared.error.Error.TheVariants as error
@@ -37,16 +37,7 @@ module _ (s0 s1 : DiskState) (path text bytes : List ℕ) (is : IsTree s0.tree) 
       ap (named s0.tree) (c.path_is ∙ ap path_text place) ∙ text_names s0.tree is (parent_of (parts_of path)) (reserved_name n) at.folder (reserved_is_name n) ∙ ap (λ (q : NameList). Some q) (sym place)
 
   ways : SameWays s0.tree s1.tree
-  ways = creates_ways s0 text path s1 (record {
-    place = c.temporary;
-    names = temporary_named;
-    was_free = c.was_free.free;
-    bytes = c.bytes;
-    mode = c.mode;
-    model = ap (option_and_then (file_at s0.tree)) at.leads ∙ c.model;
-    stands = c.stands;
-    others = c.others;
-  })
+  ways = ways_kept c.temporary s0.tree s1.tree c.others (ap way_of_node c.was_free.free) (file_has_no_way (node_at s1.tree c.temporary) (ap is_some c.stands))
 
   apart : c.temporary ≢ parts_of path
   apart e = some_not_none (file_at s0.tree (parts_of path)) it.is_file (ap (file_at s0.tree) (sym e) ∙ ap file_node c.was_free.free)
