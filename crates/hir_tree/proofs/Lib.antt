@@ -1,4 +1,4 @@
-pub mod CharRangesLemmas
+mod CharRangesLemmas
 pub mod CharacterLemmas
 pub mod Computing
 pub mod CoreNumbersLemmas
@@ -7,11 +7,10 @@ pub mod CoresLemmas
 pub mod ListLemmas
 pub mod MemberLemmas
 pub mod NumbersLemmas
-pub mod RangesLemmas
+mod RangesLemmas
 pub mod RunsComputing
 pub mod RunsLemmas
 pub mod SameRangesLemmas
 pub mod SpotsLemmas
-pub mod TicksLemmas
 pub mod TreeLemmas
 pub mod WholeLemmas

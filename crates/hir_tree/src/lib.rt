@@ -13,11 +13,7 @@ mod core_laws;
 mod count;
 mod examples;
 mod hir;
-#[cfg(test)]
-mod hir_tests;
 mod laws;
-#[cfg(test)]
-mod list_tests;
 mod lists;
 mod look;
 mod range_laws;
@@ -25,8 +21,6 @@ mod ranges;
 mod runs_examples;
 mod runs_laws;
 mod side;
-#[cfg(test)]
-mod tests;
 mod tree_laws;
 
 pub use byte_ranges::ByteRanges;

@@ -1,6 +1,6 @@
 //! What the trees of some patterns count up to.
 
-use crate::{ByteRanges, Bytes, CharRanges, Group, Hir, Hirs, Look, Repeat, group_count, spots};
+use hir_tree::{ByteRanges, Bytes, CharRanges, Group, Hir, Hirs, Look, Repeat, group_count, spots};
 use sd_base::{NoMemory, Text};
 use std::alloc::Global;
 use std::process::Abort;

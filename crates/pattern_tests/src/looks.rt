@@ -1,6 +1,6 @@
 //! Looks at each place of small texts: `+` where one holds, and `-` where it doesn't.
 
-use crate::{Look, holds};
+use hir_tree::{Look, holds};
 use std::process::Abort;
 
 fn check(rt: &impl Abort, text: &[u8], rows: &[(Look, &[u8])]) {

@@ -1,6 +1,6 @@
 //! What the lists of a pattern's tree hold after some calls.
 
-use crate::{ByteRanges, Bytes, CharRanges};
+use hir_tree::{ByteRanges, Bytes, CharRanges};
 use std::process::Abort;
 use std::test::Fail;
 

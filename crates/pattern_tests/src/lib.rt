@@ -1,0 +1,11 @@
+//! Tests of patterns by public calls alone: trees, their lists, and looks.
+//!
+//! They stand apart from the crates that they test, so that a check of those reads no test.
+#![tactic(auto)]
+
+#[cfg(test)]
+mod lists;
+#[cfg(test)]
+mod looks;
+#[cfg(test)]
+mod trees;
