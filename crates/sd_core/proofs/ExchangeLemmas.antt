@@ -3,8 +3,6 @@ use Rattle.std.proofs.Common.{◌≡◌, ◌≢◌, ◌⊎◌, ℕ, ◌≤◌, L
 use Rattle.std.specs.Prelude.{Some, IsSome, is_some}
 use Rattle.std.specs.Option.{option_and_then}
 use Rattle.std.proofs.lemmas.Option.{same_Some}
-use Rattle.sd_edge.specs.declared.fault.DiskFault.{DiskFault}
-use Rattle.sd_edge.specs.declared.fault.DiskFault.TheVariants as disk
 use Rattle.sd_edge.specs.Count.{HasRisen}
 use Rattle.sd_edge.specs.Tree.{NameList, Tree, IsTree, SameBut, node_at, file_node, file_at}
 use Rattle.sd_edge.specs.Paths.{parts_of, parent_of, named, SameWays, way_of_node}
@@ -12,8 +10,6 @@ use Rattle.sd_edge.specs.Disk.{DiskState, SameTree}
 use Rattle.sd_edge.specs.Files.{path_text, Removes, CannotRemove}
 use Rattle.sd_edge.proofs.WayLemmas.{same_or_other, named_alike, file_has_no_way, ways_kept}
 use Rattle.sd_edge.proofs.PathTextLemmas.{text_names}
-use Rattle.sd_core.specs.declared.error.Error.{Error}
-use Rattle.sd_core.specs.declared.error.Error.TheVariants as error
 use Rattle.sd_core.specs.Rewriting.{reserved_name, IsFilePath, HasRisenBy, IsCleared}
 use Rattle.sd_core.specs.Temporary.{CreatesTemporary, AreTwoFiles, ChangesOnly, Moves, MayHaveMoved, IsRemoved, Exchanges, LeavesBytes}
 use Rattle.sd_core.proofs.FillingLemmas.{some_not_none}

@@ -1,15 +1,14 @@
 -- A file with its new bytes.
 use Rattle.std.proofs.Common.{◌≤◌, ◌≡◌, ◌≢◌, ◌⊎◌, ℕ, Bool, true, false, not, List, [], length, refl, sym, ◌∙◌, ap, subst, inl, inr, arith}
-use Rattle.std.specs.Prelude.{Option, Some, None, is_some, IsTrue, Result, Ok, Err, IsErrAnd, IsErrOf}
+use Rattle.std.specs.Prelude.{Option, Some, None, is_some, Result, Ok, Err, IsErrAnd, IsErrOf}
 use Rattle.std.specs.Option.{option_and_then}
 use Rattle.std.specs.Str.{bytes_eq}
 use Rattle.std.specs.Cmp.Lexicographic.{bytes_decides}
 use Rattle.std.proofs.lemmas.Option.{same_Some}
 use Rattle.sd_edge.specs.declared.fault.DiskFault.{DiskFault}
-use Rattle.sd_edge.specs.declared.fault.DiskFault.TheVariants as disk
 use Rattle.sd_edge.specs.Tree.{NameList, Tree, IsTree, SameBut, node_at, file_at}
 use Rattle.sd_edge.specs.Paths.{parts_of}
-use Rattle.sd_edge.specs.Disk.{DiskState, SameTree, HasCause}
+use Rattle.sd_edge.specs.Disk.{DiskState, SameTree}
 use Rattle.sd_edge.specs.Files.{Reads, IsNoFile}
 use Rattle.sd_core.specs.declared.rewriting.RewritingError.{RewritingError}
 use Rattle.sd_core.specs.declared.rewriting.RewritingError.TheVariants.{Disk}

@@ -16,8 +16,7 @@ use Rattle.sd_edge.proofs.PathTextLemmas.{text_parts, differs}
 use Rattle.sd_core.specs.declared.error.FailedJobs.{FailedJobs}
 use Rattle.sd_core.specs.declared.error.JobFault.TheVariants.{TempName}
 use Rattle.sd_core.specs.declared.error.Error.{Error}
-use Rattle.sd_core.specs.declared.error.Error.TheVariants.{File, FailedProcessing}
-use Rattle.sd_edge.specs.declared.fault.DiskFault.{DiskFault}
+use Rattle.sd_core.specs.declared.error.Error.TheVariants.{FailedProcessing}
 use Rattle.sd_edge.specs.declared.fault.DiskFault.TheVariants as disk
 use Rattle.sd_core.specs.declared.rewriting.RewritingError.{RewritingError}
 use Rattle.sd_core.specs.declared.rewriting.RewritingError.TheVariants.{NoName, Disk}
@@ -346,22 +345,14 @@ module _ (old : Tree) (find replacement : List ℕ) (places : List NameList) whe
 -- ---- a file that isn't rewritten
 
 -- a command ends with a failed job where the file's folder has no free name
-pub failed_job : (path : List ℕ) (why : RewritingError) (e : Error) (jobs : FailedJobs) → IsErrorOfFile path why e → e ≡ FailedProcessing jobs → (why ≡ NoName) × (jobs ≡ (path, TempName) ∷ [])
+pub failed_job : (path : List ℕ) (why : RewritingError) (e : Error) (jobs : FailedJobs) → IsErrorOfFile path why e → e ≡ FailedProcessing jobs
+    → (why ≡ NoName) × (jobs ≡ (path, TempName) ∷ [])
 failed_job path NoName e jobs (inl job) is = (refl, cc)
 failed_job path NoName e jobs (inr none) is = cc
 failed_job path (Disk disk.Absent) e jobs of is = cc
 failed_job path (Disk disk.Taken) e jobs of is = cc
 failed_job path (Disk disk.Failed) e jobs of is = cc
 failed_job path (Disk disk.NoMemory) e jobs of is = cc
-
--- and with a fault of the disk where the disk failed
-pub failed_disk : (path : List ℕ) (why : RewritingError) (e : Error) (fault : DiskFault) → IsErrorOfFile path why e → e ≡ File fault → why ≡ Disk fault
-failed_disk path NoName e fault (inl job) is = cc
-failed_disk path NoName e fault (inr none) is = cc
-failed_disk path (Disk disk.Absent) e fault of is = cc
-failed_disk path (Disk disk.Taken) e fault of is = cc
-failed_disk path (Disk disk.Failed) e fault of is = cc
-failed_disk path (Disk disk.NoMemory) e fault of is = cc
 
 -- ---- the chosen files of a command
 

@@ -1,6 +1,6 @@
 -- Why steps are refused.
-use Rattle.std.specs.Prelude.{◌≡◌, ◌<◌, ◌≤◌, ◌+◌, ◌⊎◌, ℕ, Bool, false, Result, IsErrOf}
-use Rattle.sd_edge.specs.Count.{HasRisen, IsAtLast}
+use Rattle.std.specs.Prelude.{◌≡◌, ◌<◌, ◌≤◌, Bool, false, Result, IsErrOf}
+use Rattle.sd_edge.specs.Count.{HasRisen}
 use Rattle.sd_edge.specs.Disk.{DiskState}
 use Rattle.sd_edge.specs.declared.fault.DiskFault.{DiskFault}
 use Rattle.sd_edge.specs.declared.fault.DiskFault.TheVariants as disk

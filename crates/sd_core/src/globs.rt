@@ -38,7 +38,8 @@ impl<T: Drop> From<AllocFailed<T>> for GlobsError {
     }
 }
 
-/// Reads the globs of a command. Refuses `Invalid` with the place of the first invalid one, and else for want of memory.
+/// Reads the globs of a command. Refuses `Invalid` with the place of the first invalid one, and
+/// else for want of memory.
 pub fn read_globs(alloc: Global, command: &TreeCommand<'_>) -> Result<Vec<Glob>, GlobsError>
     ensures read { IfOk result (λ globs. globs.items ≡ (order_of command.now).globs) }
     ensures valid { OnOk result (All IsValid (order_of command.now).globs) }

@@ -134,7 +134,8 @@ fn exchange<D: Disk>(
     }
 }
 
-/// Removes the temporary file after a fault. Answers with the fault, or with want of memory where the removal has it.
+/// Removes the temporary file after a fault. Answers with the fault, or with want of memory where
+/// the removal has it.
 fn clear<D: Disk>(disk: &mut D, temporary: &str, fault: DiskFault) -> DiskFault
     ensures tree { IsTrue D.tells → SameTree (D.state disk.old) (D.state disk.new) ⊎ Removes (D.state disk.old) temporary.now (D.state disk.new) }
     ensures cleared { IsTrue D.tells → result ≢ DiskFault.NoMemory → IsRemoved (D.state disk.old) temporary.now (D.state disk.new) }

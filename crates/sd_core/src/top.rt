@@ -44,10 +44,12 @@ pub enum Why {
 
 /// Runs the program on the words after its name.
 ///
-/// `--root DIR -- FIND REPLACE_WITH GLOB` replaces FIND by REPLACE_WITH in the files below DIR whose path from there
-/// fits GLOB, and prints how many files were chosen and changed and how many texts were replaced. An invalid glob is told
-/// before the disk is asked for anything. The tree is listed whole before the first file is written. A file is written under a reserved name beside it and then renamed. However
-/// the run ends, each file is then old or new. Whatever goes wrong is printed to `err`, after `error: `.
+/// `--root DIR -- FIND REPLACE_WITH GLOB` replaces FIND by REPLACE_WITH in the files below DIR
+/// whose path from there fits GLOB, and prints how many files were chosen and changed and how many
+/// texts were replaced. An invalid glob is told before the disk is asked for anything. The tree is
+/// listed whole before the first file is written. A file is written under a reserved name beside
+/// it and then renamed. However the run ends, each file is then old or new. Whatever goes wrong is
+/// printed to `err`, after `error: `.
 pub fn run<D: Disk, S: Source, O: Sink, E: Sink>(
     alloc: Global,
     words: &Words,

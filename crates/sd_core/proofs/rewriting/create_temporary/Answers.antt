@@ -1,5 +1,4 @@
-use Rattle.std.proofs.Common.{◌≡◌, ◌≢◌, rules, Err, subst, sym, ap, arith, ◌+◌}
-use Rattle.sd_edge.specs.declared.fault.DiskFault.{DiskFault}
+use Rattle.std.proofs.Common.{◌≡◌, ◌≢◌, rules, subst, sym, arith, ◌+◌}
 use Rattle.sd_edge.specs.declared.fault.DiskFault.TheVariants as disk
 use Rattle.sd_core.specs.Temporary.{IsReservedPath}
 use Rattle.sd_core.proofs.CreatingLemmas.{created, none_absent, one_more, none_free, same_error, step_cause}
