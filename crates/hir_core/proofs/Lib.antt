@@ -1,4 +1,3 @@
-mod BuildLemmas
 mod ClosureLemmas
 mod CompileLemmas
 mod DeadLemmas
@@ -15,6 +14,8 @@ mod RoundLemmas
 mod RowsLemmas
 mod ScanLemmas
 mod SearcherLemmas
+mod SetLemmas
+mod SizeLemmas
 mod SkipLemmas
 mod SoundRunsLemmas
 mod StackLemmas

@@ -14,8 +14,8 @@ Same old new q n = (p : ℕ) → q ≤ p → p < q + n → spot_at new p ≡ spo
 -- where its spots are the same, a core stands in one program as in the other
 pub Placed-same : (old new : List Spot) (core : Core) (n f : ℕ) → Same old new n (numbers core) → Placed old n f core → Placed new n f core
 Placed-same old new empty n f same p = same n (omega arith) (omega arith) ∙ p
-Placed-same old new (byte_in set) n f same p = (p.0, same n (omega arith) (omega arith) ∙ p.1, p.2)
-Placed-same old new (char_in set) n f same p = (p.0, same n (omega arith) (omega arith) ∙ p.1, p.2)
+Placed-same old new (byte_in set) n f same p = same n (omega arith) (omega arith) ∙ p
+Placed-same old new (char_in set) n f same p = same n (omega arith) (omega arith) ∙ p
 Placed-same old new (look l) n f same p = same n (omega arith) (omega arith) ∙ p
 Placed-same old new (group i a) n f same p = (
   same n (omega arith) (omega arith) ∙ p.0,
@@ -42,8 +42,8 @@ Placed-same old new (plus greedy a) n f same p = (
 -- the first spot of a core isn't the end of a group
 pub entry_open : (spots : List Spot) (core : Core) (n f : ℕ) → Placed spots n f core → is_close (spot_at spots n) ≡ false
 entry_open spots empty n f p = ap is_close p
-entry_open spots (byte_in set) n f p = ap is_close p.1
-entry_open spots (char_in set) n f p = ap is_close p.1
+entry_open spots (byte_in set) n f p = ap is_close p
+entry_open spots (char_in set) n f p = ap is_close p
 entry_open spots (look l) n f p = ap is_close p
 entry_open spots (group i a) n f p = ap is_close p.0
 entry_open spots (pair a b) n f p = ap is_close p.0
@@ -84,8 +84,8 @@ close_to s i j f g e h = cc
 
 pub placed-falls : (spots : List Spot) (core : Core) (n f : ℕ) → Placed spots n f core → FallsBut spots n (numbers core) f
 placed-falls spots empty n f p = FallsBut-one spots n f (ap is_close p)
-placed-falls spots (byte_in set) n f p = FallsBut-one spots n f (ap is_close p.1)
-placed-falls spots (char_in set) n f p = FallsBut-one spots n f (ap is_close p.1)
+placed-falls spots (byte_in set) n f p = FallsBut-one spots n f (ap is_close p)
+placed-falls spots (char_in set) n f p = FallsBut-one spots n f (ap is_close p)
 placed-falls spots (look l) n f p = FallsBut-one spots n f (ap is_close p)
 placed-falls spots (group i a) n f p =
     λ q j g lo hi is.

@@ -159,9 +159,9 @@ module _ (text : List ℕ) (spots : List Spot) where
           let low = falls q i f e in
           let mine : tie (spot_at spots q) q ≡ q + 1 = ap (λ x. tie x q) e in
           same f (closed i t) (rw mine (omega (arith, low)))
-      cases (spot.Bytes set f) e = seen_or (spot.Bytes set f) (λ new. take (byte_size set.items text) (byte_size-within set.items text) f (untied q _ e refl)) _ refl
+      cases (spot.Bytes set f) e = seen_or (spot.Bytes set f) (λ new. take (byte_size set text) (byte_size-within set text) f (untied q _ e refl)) _ refl
       cases (spot.Chars set f) e =
-          seen_or (spot.Chars set f) (λ new. take (char_size set.items text) (char_size-within set.items text) f (untied q _ e refl)) _ refl
+          seen_or (spot.Chars set f) (λ new. take (char_size set text) (char_size-within set text) f (untied q _ e refl)) _ refl
       cases (spot.Look l f) e =
           seen_or (spot.Look l f) (λ new. ap (λ xs. cond (holds l text t.run.at) xs []) (lower _ e refl (λ x. cc) new f (marked q t) refl refl)) _ refl
       cases (spot.Jump f) e = seen_or (spot.Jump f) (λ new. lower _ e refl (λ x. cc) new f (marked q t) refl refl) _ refl

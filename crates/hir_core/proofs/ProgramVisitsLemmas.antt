@@ -2,7 +2,7 @@
 use Rattle.std.proofs.Common.{◌≡◌, ℕ, zero, suc, ◌+◌, ◌≤◌, true, false, List, [], ◌∷◌, length, if◌then◌else◌, refl, ap, ◌∙◌, sym, arith}
 use Rattle.std.proofs.lemmas.List.Sums.{sum_by-cons}
 use Rattle.hir_tree.specs.Core.{Core, empty, byte_in, char_in, look, group, pair, choice, none, plus, numbers}
-use Rattle.hir_core.specs.CoreTree.{IsProgram}
+use Rattle.hir_core.specs.Laid.{IsProgram}
 use Rattle.hir_tree.specs.Cores.{core_spots}
 use Rattle.hir_core.specs.Pass.{is_counted, counted}
 use Rattle.hir_core.specs.Program.{spot_at, Placed}
@@ -39,8 +39,8 @@ module _ (spots : List Spot) where
   -- the spots of a core that is placed in the program
   placed_tally : (core : Core) (n f : ℕ) → Placed spots n f core → tally n (numbers core) ≤ core_spots core
   placed_tally empty n f p = let one = tally_first n 0 1 (spot.Jump f) p refl in omega (arith, one)
-  placed_tally (byte_in ranges) n f p = let one = tally_first n 0 1 (spot.Bytes p.0 f) p.1 refl in omega (arith, one)
-  placed_tally (char_in ranges) n f p = let one = tally_first n 0 1 (spot.Chars p.0 f) p.1 refl in omega (arith, one)
+  placed_tally (byte_in ranges) n f p = let one = tally_first n 0 1 (spot.Bytes ranges f) p refl in omega (arith, one)
+  placed_tally (char_in ranges) n f p = let one = tally_first n 0 1 (spot.Chars ranges f) p refl in omega (arith, one)
   placed_tally (look l) n f p = let one = tally_first n 0 1 (spot.Look l f) p refl in omega (arith, one)
   placed_tally (group i a) n f p =
       let one : tally n (2 + numbers a) ≡ 0 + tally (n + 1) (numbers a + 1) = tally_first n (numbers a + 1) (2 + numbers a) (spot.Open (n + 2)) p.0 (omega arith) in

@@ -118,10 +118,10 @@ module _ (text : List ℕ) (spots : List Spot) (falls : ClosesFall spots) where
           (is_seen q u.run.seen) refl
       cases (spot.Bytes set f) e =
           new_or (spot.Bytes set f) e refl
-          (λ new gone. taken (spot.Bytes set f) (byte_size set.items text) (byte_size-within set.items text) f e refl gone) (is_seen q u.run.seen) refl
+          (λ new gone. taken (spot.Bytes set f) (byte_size set text) (byte_size-within set text) f e refl gone) (is_seen q u.run.seen) refl
       cases (spot.Chars set f) e =
           new_or (spot.Chars set f) e refl
-          (λ new gone. taken (spot.Chars set f) (char_size set.items text) (char_size-within set.items text) f e refl gone) (is_seen q u.run.seen) refl
+          (λ new gone. taken (spot.Chars set f) (char_size set text) (char_size-within set text) f e refl gone) (is_seen q u.run.seen) refl
 
   -- what gives nothing gives nothing either where more was seen, whatever the groups
   pub mono-within : (n q : ℕ) (t u : Way) → rank text spots q t < n → t.run.at ≡ u.run.at → Subset t.run.seen u.run.seen

@@ -6,7 +6,7 @@ use Rattle.std.proofs.lemmas.Bool.{cases_lt}
 use Rattle.hir_core.specs.Found.{IsOfLeast}
 use Rattle.hir_tree.specs.Core.{Core}
 use Rattle.hir_tree.specs.Cores.{core_of}
-use Rattle.hir_core.specs.CoreTree.{GivesPreferred}
+use Rattle.hir_core.specs.Laid.{GivesPreferred}
 use Rattle.hir_core.specs.PlainText.{text_of, FindsText}
 use Rattle.hir_tree.specs.Runs.{Run, first, preferred}
 use Rattle.hir_core.specs.Pass.{first_of, begins, groups_found, first_from}

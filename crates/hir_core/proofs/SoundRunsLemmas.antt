@@ -37,9 +37,9 @@ module _ (text : List ℕ) (spots : List Spot) (count : ℕ) where
 
   follow_whole : (next : Gives) → GivesWhole text count next → (s : Spot) (w : Way) → IsSound text count w → AllWhole count (follow text spots next s w)
   follow_whole next whole (spot.Bytes set f) w h =
-      past_whole next whole f w (byte_size set.items text w.run.at) (leads-sound text count (spot.Bytes set f) w h)
+      past_whole next whole f w (byte_size set text w.run.at) (leads-sound text count (spot.Bytes set f) w h)
   follow_whole next whole (spot.Chars set f) w h =
-      past_whole next whole f w (char_size set.items text w.run.at) (leads-sound text count (spot.Chars set f) w h)
+      past_whole next whole f w (char_size set text w.run.at) (leads-sound text count (spot.Chars set f) w h)
   follow_whole next whole (spot.Look l f) w h = cases (holds l text w.run.at)
     where
       cases : (b : Bool) → AllWhole count (if b then next f w else [])

@@ -185,8 +185,8 @@ module _ (text : List ℕ) (spots : List Spot) (falls : ClosesFall spots) (at : 
 
       cases : (s : Spot) → spot_at spots e.spot ≡ s → is_unmarked s ≡ false
           → Closing goal (slice_set bits e.spot true) (kept ++ leads_on text s (bare e).1) (leads text s (bare e).1 ++ map bare es)
-      cases (spot.Bytes set f) k plain = onto (spot.Bytes set f) _ k plain (taken_gives (byte_size set.items text e.way.run.at) f e.spot e.way)
-      cases (spot.Chars set f) k plain = onto (spot.Chars set f) _ k plain (taken_gives (char_size set.items text e.way.run.at) f e.spot e.way)
+      cases (spot.Bytes set f) k plain = onto (spot.Bytes set f) _ k plain (taken_gives (byte_size set text e.way.run.at) f e.spot e.way)
+      cases (spot.Chars set f) k plain = onto (spot.Chars set f) _ k plain (taken_gives (char_size set text e.way.run.at) f e.spot e.way)
       cases (spot.Look l f) k plain = onward (spot.Look l f) k plain refl (look_same f (holds l text e.way.run.at))
       cases (spot.Jump f) k plain = onward (spot.Jump f) k plain refl (sym (append-nil _))
       cases (spot.Split a b) k plain =
@@ -434,8 +434,8 @@ module _ (text : List ℕ) where
       cases (Some k) e = let h = within w.run.at k e in ((omega arith, h.1), tt)
 
   leads_on_later : (s : Spot) (w : Way) → AllLater text w.run.at (leads_on text s w)
-  leads_on_later (spot.Bytes set f) w = taken_later (byte_size set.items text) (byte_size-within set.items text) f w
-  leads_on_later (spot.Chars set f) w = taken_later (char_size set.items text) (char_size-within set.items text) f w
+  leads_on_later (spot.Bytes set f) w = taken_later (byte_size set text) (byte_size-within set text) f w
+  leads_on_later (spot.Chars set f) w = taken_later (char_size set text) (char_size-within set text) f w
   leads_on_later (spot.Look l f) w = tt
   leads_on_later (spot.Jump f) w = tt
   leads_on_later (spot.Split a b) w = tt

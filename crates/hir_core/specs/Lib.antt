@@ -1,5 +1,5 @@
-pub mod CoreTree
 pub mod Found
+pub mod Laid
 pub mod Masks
 pub mod Pass
 pub mod PlainText

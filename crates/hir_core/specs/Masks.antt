@@ -47,8 +47,8 @@ next_of _ = 0
 
 -- the spot takes this byte, or the ASCII character that it is
 abbrev pub takes_byte : Spot → ℕ → Bool
-takes_byte (spot.Bytes set q) b = in_set set.items b
-takes_byte (spot.Chars set q) b = nat_lt b 128 && in_set set.items b
+takes_byte (spot.Bytes set q) b = in_set set b
+takes_byte (spot.Chars set q) b = nat_lt b 128 && in_set set b
 takes_byte _ b = false
 
 -- the set has a member beyond ASCII
@@ -57,7 +57,7 @@ has_wide set = list_any (λ r. nat_lt 127 r.1) set
 
 -- the spot may take a character beyond ASCII
 abbrev pub is_wide : Spot → Bool
-is_wide (spot.Chars set q) = has_wide set.items
+is_wide (spot.Chars set q) = has_wide set
 is_wide _ = false
 
 -- where a spot leads without a byte

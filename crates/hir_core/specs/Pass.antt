@@ -45,8 +45,8 @@ taken (Some bytes) q w = (q, way w.starts (moved bytes w.run)) ∷ []
 
 -- where a spot leads by bytes
 abbrev pub leads_on : List ℕ → Spot → Way → List Stop
-leads_on text (spot.Bytes set q) w = taken (byte_size set.items text w.run.at) q w
-leads_on text (spot.Chars set q) w = taken (char_size set.items text w.run.at) q w
+leads_on text (spot.Bytes set q) w = taken (byte_size set text w.run.at) q w
+leads_on text (spot.Chars set q) w = taken (char_size set text w.run.at) q w
 leads_on text _ w = []
 
 -- What a thread leads to at a place, where the spot was visited or not: what comes onto the stack, and what is kept for

@@ -1,254 +1,337 @@
-//! Compiling the core of a pattern to a program of spots.
+//! Compiling a pattern to a program of spots.
+//!
+//! The spots of a pattern are laid one after another, each part behind what came before it, as the numbers of its core say. So
+//! a part's size is counted before the part is laid, where a spot leads past it.
 
-ghost use Rattle.std.specs.Prelude.{◌≡◌, ◌+◌, ◌^◌, ◌<◌, [], ◌∷◌, ◌++◌, vec_len, OnOk, IfOk, if◌then◌else◌};
-ghost use Rattle.hir_tree.specs.Core.{byte_in, char_in, numbers};
-ghost use Rattle.hir_core.specs.CoreTree.{core_of_tree, is_greedy, Lays, IsProgram, GivesPreferred};
+ghost use Rattle.std.specs.Prelude.{◌≡◌, ℕ, ◌+◌, ◌^◌, ◌<◌, vec_len, OnOk, IfOk, map, true, false};
+ghost use Rattle.hir_tree.specs.Core.{Core, at_least, choice_all, copies, empty, literal, numbers, optional, pair_all, plus, up_to, with_more};
+ghost use Rattle.hir_tree.specs.Cores.{core_of};
+ghost use Rattle.hir_core.specs.Laid.{Lays, LaysEmpties, LaysFirst, Waits, IsProgram, GivesPreferred};
 ghost use Rattle.hir_core.specs.Program.{ClosesFall};
 
-use crate::Look;
-use crate::core_tree::{CoreTree, Greed, size};
+use crate::push::{
+    push_byte, push_bytes, push_chars, push_ends, push_fail, push_jump, push_look, push_rounds,
+    push_split,
+};
+use crate::size::{size, up_to_size};
 use crate::spot::Spot;
+use crate::{Bytes, Hir};
 use sd_base::NoMemory;
 use std::alloc::Global;
 
 /// Programs have fewer spots than this, since no memory holds more.
 const SPOTS_BELOW: usize = 1 << 62;
 
-/// The program of a pattern with this core. Refuses for want of memory alone.
-pub fn program(alloc: Global, tree: &CoreTree) -> Result<Vec<Spot>, NoMemory>
-    ensures stands { IfOk result (λ spots. IsProgram (core_of_tree tree.now) spots.items) }
+/// The program of a pattern. Refuses for want of memory alone.
+pub fn program(alloc: Global, hir: &Hir) -> Result<Vec<Spot>, NoMemory>
+    ensures stands { IfOk result (λ spots. IsProgram (core_of hir.now) spots.items) }
     ensures falls { IfOk result (λ spots. ClosesFall spots.items) }
-    ensures preferred { IfOk result (λ spots. GivesPreferred (core_of_tree tree.now) spots.items) }
+    ensures preferred { IfOk result (λ spots. GivesPreferred (core_of hir.now) spots.items) }
 {
-    let count = size(tree);
+    let count = size(hir);
     if count >= SPOTS_BELOW {
         return Err(NoMemory);
     }
     let mut spots = Vec::new(alloc);
-    spots.push(Spot::Open { next: 2 })?;
-    spots.push(Spot::Close {
-        index: 0,
-        next: count + 2,
-    })?;
-    compile(alloc, tree, 1, &mut spots)?;
+    push_ends(0, count + 2, &mut spots)?;
+    compile(alloc, hir, 1, &mut spots)?;
     spots.push(Spot::Match)?;
     Ok(spots)
 }
 
-/// Appends the spots of the tree, which the spot `next` follows. Refuses for want of memory alone, and leaves some of the
-/// spots then. What comes last in a tree is laid by the loop, so a long chain of parts takes no stack.
-pub fn compile(
-    alloc: Global,
-    tree: &CoreTree,
-    next: usize,
-    out: &mut Vec<Spot>,
-) -> Result<(), NoMemory>
-    requires { vec_len out.old + numbers (core_of_tree tree.now) < 2 ^ 63 }
-    ensures { OnOk result (Lays out.old.items out.new.items next (core_of_tree tree.now)) }
+/// Appends the spots of a pattern, which the spot `next` follows. Refuses for want of memory alone, and leaves some of the
+/// spots then.
+#[cycle(compile)]
+fn compile(alloc: Global, hir: &Hir, next: usize, out: &mut Vec<Spot>) -> Result<(), NoMemory>
+    requires { vec_len out.old + numbers (core_of hir.now) < 2 ^ 63 }
+    ensures { OnOk result (Lays out.old.items out.new.items next (core_of hir.now)) }
 {
-    let mut part = tree;
-    let mut follow = next;
-    'parts: loop {
-        let here = out.len();
-        match part {
-            CoreTree::Empty => return Ok(out.push(Spot::Jump { next: follow })?),
-            CoreTree::Bytes(set) => return push_bytes(alloc, set.as_slice(), follow, out),
-            CoreTree::Chars(set) => return push_chars(alloc, set.as_slice(), follow, out),
-            CoreTree::Look(look) => return push_look(*look, follow, out),
-            CoreTree::Nothing => return Ok(out.push(Spot::Fail)?),
-            CoreTree::Group(index, body) => {
-                let end = here + 1;
-                push_ends(*index, follow, out)?;
-                part = body;
-                follow = end;
+    match hir {
+        Hir::Empty => lay_empty(next, out),
+        Hir::Literal(bytes) => lay_literal(alloc, bytes, next, out),
+        Hir::ClassChars(set) => push_chars(alloc, set, next, out),
+        Hir::ClassBytes(set) => push_bytes(alloc, set, next, out),
+        Hir::Look(look) => push_look(*look, next, out),
+        Hir::Repetition(part) => match part.max {
+            None => lay_at_least(alloc, &part.sub, part.min, part.greedy, next, out),
+            Some(most) => {
+                let more = most.saturating_sub(part.min);
+                lay_with_more(alloc, &part.sub, part.min, more, part.greedy, next, out)
             }
-            CoreTree::Pair(first, second) => {
-                out.push(Spot::Jump { next: here + 1 })?;
-                compile(alloc, first, here + 1 + size(first), out)?;
-                part = second;
-            }
-            CoreTree::Choice(first, second) => {
-                push_split(here + 1, here + 1 + size(first), out)?;
-                compile(alloc, first, follow, out)?;
-                part = second;
-            }
-            CoreTree::Plus { greed, body } => {
-                let again = here + 1;
-                push_rounds(*greed, follow, out)?;
-                part = body;
-                follow = again;
-            }
+        },
+        Hir::Capture(group) => {
+            let end = out.len() + 1;
+            push_ends(group.index, next, out)?;
+            compile(alloc, &group.sub, end, out)
         }
+        Hir::Concat(hirs) => lay_row(alloc, hirs.parts(), next, out),
+        Hir::Alternation(hirs) => lay_choice(alloc, hirs.parts(), next, out),
     }
 }
 
-/// Appends a spot that takes a byte of a set.
-fn push_bytes(
+/// Appends one part after another.
+#[cycle(compile)]
+fn lay_row(alloc: Global, parts: &[Hir], next: usize, out: &mut Vec<Spot>) -> Result<(), NoMemory>
+    requires { vec_len out.old + numbers (pair_all (map core_of parts.now)) < 2 ^ 63 }
+    ensures { OnOk result (Lays out.old.items out.new.items next (pair_all (map core_of parts.now))) }
+{
+    if parts.is_empty() {
+        return lay_empty(next, out);
+    }
+    let last = parts.len() - 1;
+    for i in 0..last {
+        let part = &parts[i];
+        lay_first(alloc, part, size(part), out)?;
+    }
+    compile(alloc, &parts[last], next, out)
+}
+
+/// Appends one of the parts, the first preferred.
+#[cycle(compile)]
+fn lay_choice(
     alloc: Global,
-    set: &[(u8, u8)],
+    parts: &[Hir],
     next: usize,
     out: &mut Vec<Spot>,
 ) -> Result<(), NoMemory>
-    ensures { OnOk result (Lays out.old.items out.new.items next (byte_in set.now)) }
+    requires { vec_len out.old + numbers (choice_all (map core_of parts.now)) < 2 ^ 63 }
+    ensures { OnOk result (Lays out.old.items out.new.items next (choice_all (map core_of parts.now))) }
 {
-    let set = Vec::from_slice(alloc, set)?;
-    out.push(Spot::Bytes { set, next })?;
-    Ok(())
+    for part in parts {
+        let first = out.len() + 1;
+        push_split(first, first + size(part), out)?;
+        compile(alloc, part, next, out)?;
+    }
+    push_fail(out)
 }
 
-/// Appends a spot that takes a character of a set.
-fn push_chars(
+/// Appends at least so many of a part, and any number more.
+#[cycle(compile)]
+fn lay_at_least(
     alloc: Global,
-    set: &[(char, char)],
+    part: &Hir,
+    least: u32,
+    greedy: bool,
     next: usize,
     out: &mut Vec<Spot>,
 ) -> Result<(), NoMemory>
-    ensures { OnOk result (Lays out.old.items out.new.items next (char_in set.now)) }
+    requires { vec_len out.old + numbers (at_least greedy least (core_of part.now)) < 2 ^ 63 }
+    ensures { OnOk result (Lays out.old.items out.new.items next (at_least greedy least (core_of part.now))) }
 {
-    let set = Vec::from_slice(alloc, set)?;
-    out.push(Spot::Chars { set, next })?;
+    if least == 0 {
+        return lay_any(alloc, part, greedy, next, out);
+    }
+    lay_copies(alloc, part, least - 1, out)?;
+    lay_rounds(alloc, part, greedy, next, out)
+}
+
+/// Appends any number of a part.
+#[cycle(compile)]
+fn lay_any(
+    alloc: Global,
+    part: &Hir,
+    greedy: bool,
+    next: usize,
+    out: &mut Vec<Spot>,
+) -> Result<(), NoMemory>
+    requires { vec_len out.old + numbers (at_least greedy 0 (core_of part.now)) < 2 ^ 63 }
+    ensures { OnOk result (Lays out.old.items out.new.items next (at_least greedy 0 (core_of part.now))) }
+{
+    let first = out.len() + 1;
+    if greedy {
+        push_split(first, first + 2 + size(part), out)?;
+        lay_rounds(alloc, part, greedy, next, out)?;
+        lay_empty(next, out)
+    } else {
+        push_split(first, first + 1, out)?;
+        lay_empty(next, out)?;
+        lay_rounds(alloc, part, greedy, next, out)
+    }
+}
+
+/// Appends one round of a part, and any number more.
+#[cycle(compile)]
+fn lay_rounds(
+    alloc: Global,
+    part: &Hir,
+    greedy: bool,
+    next: usize,
+    out: &mut Vec<Spot>,
+) -> Result<(), NoMemory>
+    requires { vec_len out.old + numbers (plus greedy (core_of part.now)) < 2 ^ 63 }
+    ensures { OnOk result (Lays out.old.items out.new.items next (plus greedy (core_of part.now))) }
+{
+    let again = out.len() + 1;
+    push_rounds(greedy, next, out)?;
+    compile(alloc, part, again, out)
+}
+
+/// Appends so many of a part, and at most so many more.
+#[cycle(compile)]
+fn lay_with_more(
+    alloc: Global,
+    part: &Hir,
+    least: u32,
+    more: u32,
+    greedy: bool,
+    next: usize,
+    out: &mut Vec<Spot>,
+) -> Result<(), NoMemory>
+    requires { vec_len out.old + numbers (with_more greedy least more (core_of part.now)) < 2 ^ 63 }
+    ensures { OnOk result (Lays out.old.items out.new.items next (with_more greedy least more (core_of part.now))) }
+{
+    if more > 0 {
+        lay_copies(alloc, part, least, out)?;
+        return lay_up_to(alloc, part, more, greedy, next, out);
+    }
+    if least == 0 {
+        return lay_empty(next, out);
+    }
+    lay_copies(alloc, part, least - 1, out)?;
+    compile(alloc, part, next, out)
+}
+
+/// Appends so many copies of a part, before what is appended next.
+#[cycle(compile)]
+fn lay_copies(alloc: Global, part: &Hir, count: u32, out: &mut Vec<Spot>) -> Result<(), NoMemory>
+    requires { vec_len out.old + numbers (copies count (core_of part.now) empty) < 2 ^ 63 }
+    ensures { OnOk result ((next : ℕ) (b : Core) → Waits out.old.items out.new.items next (copies count (core_of part.now) b) b) }
+{
+    if count == 0 {
+        return Ok(());
+    }
+    let size = size(part);
+    for _left in (0..count).rev() {
+        lay_first(alloc, part, size, out)?;
+    }
     Ok(())
 }
 
-/// Appends a spot that goes on where a look holds.
-fn push_look(look: Look, next: usize, out: &mut Vec<Spot>) -> Result<(), NoMemory>
-    ensures { OnOk result (out.new.items ≡ out.old.items ++ Spot.Look look next ∷ []) }
+/// Appends at most so many of a part, at least one: a part that may be left out, and inside it, after the part, the others.
+#[cycle(compile)]
+fn lay_up_to(
+    alloc: Global,
+    part: &Hir,
+    count: u32,
+    greedy: bool,
+    next: usize,
+    out: &mut Vec<Spot>,
+) -> Result<(), NoMemory>
+    requires some { 0 < count }
+    requires fits { vec_len out.old + numbers (up_to greedy count (core_of part.now)) < 2 ^ 63 }
+    ensures { OnOk result (Lays out.old.items out.new.items next (up_to greedy count (core_of part.now))) }
 {
-    out.push(Spot::Look { look, next })?;
+    if greedy {
+        lay_greedy(alloc, part, count, next, out)
+    } else {
+        lay_lazy(alloc, part, count, next, out)
+    }
+}
+
+/// Appends at most so many of a part, more before fewer: what is taken where a part is left out comes after all parts.
+#[cycle(compile)]
+fn lay_greedy(
+    alloc: Global,
+    part: &Hir,
+    count: u32,
+    next: usize,
+    out: &mut Vec<Spot>,
+) -> Result<(), NoMemory>
+    requires some { 0 < count }
+    requires fits { vec_len out.old + numbers (up_to true count (core_of part.now)) < 2 ^ 63 }
+    ensures { OnOk result (Lays out.old.items out.new.items next (up_to true count (core_of part.now))) }
+{
+    let size = size(part);
+    let mut left_out = out.len() + up_to_size(size, count) - 1;
+    for _left in (1..count).rev() {
+        push_split(out.len() + 1, left_out, out)?;
+        lay_first(alloc, part, size, out)?;
+        left_out -= 1;
+    }
+    push_split(out.len() + 1, left_out, out)?;
+    compile(alloc, part, next, out)?;
+    lay_empties(count, next, out)
+}
+
+/// Appends at most so many of a part, fewer before more.
+#[cycle(compile)]
+fn lay_lazy(
+    alloc: Global,
+    part: &Hir,
+    count: u32,
+    next: usize,
+    out: &mut Vec<Spot>,
+) -> Result<(), NoMemory>
+    requires some { 0 < count }
+    requires fits { vec_len out.old + numbers (up_to false count (core_of part.now)) < 2 ^ 63 }
+    ensures { OnOk result (Lays out.old.items out.new.items next (up_to false count (core_of part.now))) }
+{
+    let size = size(part);
+    for _left in (1..count).rev() {
+        lay_or_none(next, out)?;
+        lay_first(alloc, part, size, out)?;
+    }
+    lay_or_none(next, out)?;
+    compile(alloc, part, next, out)
+}
+
+/// Appends a part of this size, which what is appended next follows.
+#[cycle(compile)]
+fn lay_first(alloc: Global, part: &Hir, size: usize, out: &mut Vec<Spot>) -> Result<(), NoMemory>
+    requires size { size ≡ numbers (core_of part.now) }
+    requires fits { vec_len out.old + numbers (core_of part.now) + 1 < 2 ^ 63 }
+    ensures { OnOk result (LaysFirst out.old.items out.new.items (core_of part.now)) }
+{
+    let first = out.len() + 1;
+    push_jump(first, out)?;
+    compile(alloc, part, first + size, out)
+}
+
+/// Appends bytes one after another.
+fn lay_literal(
+    alloc: Global,
+    bytes: &Bytes,
+    next: usize,
+    out: &mut Vec<Spot>,
+) -> Result<(), NoMemory>
+    requires { vec_len out.old + numbers (literal bytes.now) < 2 ^ 63 }
+    ensures { OnOk result (Lays out.old.items out.new.items next (literal bytes.now)) }
+{
+    if bytes.len() == 0 {
+        return lay_empty(next, out);
+    }
+    let last = bytes.len() - 1;
+    for i in 0..last {
+        let first = out.len() + 1;
+        push_jump(first, out)?;
+        push_byte(alloc, bytes.get(i), first + 1, out)?;
+    }
+    push_byte(alloc, bytes.get(last), next, out)
+}
+
+/// Appends a spot that takes nothing.
+fn lay_empty(next: usize, out: &mut Vec<Spot>) -> Result<(), NoMemory>
+    ensures { OnOk result (Lays out.old.items out.new.items next empty) }
+{
+    push_jump(next, out)
+}
+
+/// Appends so many spots that take nothing.
+fn lay_empties(count: u32, next: usize, out: &mut Vec<Spot>) -> Result<(), NoMemory>
+    ensures { OnOk result (LaysEmpties count out.old.items out.new.items next) }
+{
+    for _i in 0..count {
+        push_jump(next, out)?;
+    }
     Ok(())
 }
 
-/// Appends the two ends of a group.
-fn push_ends(index: u32, next: usize, out: &mut Vec<Spot>) -> Result<(), NoMemory>
+/// Appends the choice of taking nothing before what is appended next.
+fn lay_or_none(next: usize, out: &mut Vec<Spot>) -> Result<(), NoMemory>
     requires { vec_len out.old + 2 < 2 ^ 63 }
-    ensures { OnOk result (out.new.items
-        ≡ out.old.items ++ Spot.Open (vec_len out.old + 2) ∷ Spot.Close index next ∷ []) }
+    ensures { OnOk result ((b : Core) → Waits out.old.items out.new.items next (optional false b) b) }
 {
-    let body = out.len() + 2;
-    out.push(Spot::Open { next: body })?;
-    out.push(Spot::Close {
-        index: index as usize,
-        next,
-    })?;
-    Ok(())
-}
-
-/// Appends a spot that goes on both ways, the first preferred.
-fn push_split(first: usize, second: usize, out: &mut Vec<Spot>) -> Result<(), NoMemory>
-    ensures { OnOk result (out.new.items ≡ out.old.items ++ Spot.Split first second ∷ []) }
-{
-    out.push(Spot::Split { first, second })?;
-    Ok(())
-}
-
-/// Appends the two spots of a repetition: one that leads to a round, and its again spot, which leads to one more round
-/// and to an end of them.
-fn push_rounds(greed: Greed, next: usize, out: &mut Vec<Spot>) -> Result<(), NoMemory>
-    requires { vec_len out.old + 2 < 2 ^ 63 }
-    ensures { let round = vec_len out.old + 2 in OnOk result (out.new.items ≡ out.old.items ++ Spot.Jump round
-        ∷ (if is_greedy greed then Spot.Split round next else Spot.Split next round) ∷ []) }
-{
-    let round = out.len() + 2;
-    out.push(Spot::Jump { next: round })?;
-    match greed {
-        Greed::Greedy => push_split(round, next, out),
-        Greed::Lazy => push_split(next, round, out),
-    }
-}
-
-#[cfg(test)]
-mod tests {
-    use super::*;
-    use std::test::Fail;
-
-    fn byte(alloc: Global, b: u8) -> Result<Box<CoreTree>, Fail> {
-        Ok(Box::new(alloc, CoreTree::Bytes(vec![in alloc; (b, b)]?))?)
-    }
-
-    // `(?:a|b)+?`
-    #[test]
-    fn a_lazy_repetition_of_a_choice(rt: HostRuntime) -> Result<(), Fail> {
-        let alloc = rt.alloc();
-        let nothing = Box::new(alloc, CoreTree::Nothing)?;
-        let rest = Box::new(alloc, CoreTree::Choice(byte(alloc, b'b')?, nothing))?;
-        let body = Box::new(alloc, CoreTree::Choice(byte(alloc, b'a')?, rest))?;
-        let greed = Greed::Lazy;
-        let spots = program(alloc, &CoreTree::Plus { greed, body })?;
-        assert_eq!(rt; spots.len(), 10);
-        assert!(rt; matches!(&spots[0], Spot::Open { next: 2 }));
-        assert!(rt; matches!(&spots[1], Spot::Close { index: 0, next: 9 }));
-        assert!(rt; matches!(&spots[2], Spot::Jump { next: 4 }));
-        assert!(rt;
-            matches!(
-                &spots[3],
-                Spot::Split {
-                    first: 1,
-                    second: 4
-                }
-            )
-        );
-        assert!(rt;
-            matches!(
-                &spots[4],
-                Spot::Split {
-                    first: 5,
-                    second: 6
-                }
-            )
-        );
-        assert!(rt; matches!(&spots[5], Spot::Bytes { next: 3, .. }));
-        assert!(rt; matches!(&spots[8], Spot::Fail));
-        assert!(rt; matches!(&spots[9], Spot::Match));
-        Ok(())
-    }
-
-    // `^([é])`
-    #[test]
-    fn a_group_after_a_look(rt: HostRuntime) -> Result<(), Fail> {
-        let alloc = rt.alloc();
-        let start = Box::new(alloc, CoreTree::Look(Look::Start))?;
-        let letter = Box::new(alloc, CoreTree::Chars(vec![in alloc; ('é', 'é')]?))?;
-        let group = Box::new(alloc, CoreTree::Group(1, letter))?;
-        let tree = CoreTree::Pair(start, group);
-        assert_eq!(rt; size(&tree), 5);
-        let spots = program(alloc, &tree)?;
-        assert_eq!(rt; spots.len(), 8);
-        assert!(rt; matches!(&spots[1], Spot::Close { index: 0, next: 7 }));
-        assert!(rt; matches!(&spots[2], Spot::Jump { next: 3 }));
-        assert!(rt;
-            matches!(
-                &spots[3],
-                Spot::Look {
-                    look: Look::Start,
-                    next: 4
-                }
-            )
-        );
-        assert!(rt; matches!(&spots[4], Spot::Open { next: 6 }));
-        assert!(rt; matches!(&spots[5], Spot::Close { index: 1, next: 1 }));
-        assert!(rt; matches!(&spots[6], Spot::Chars { set, next: 5 } if set.len() == 1));
-        assert!(rt; matches!(&spots[7], Spot::Match));
-        Ok(())
-    }
-
-    #[test]
-    fn the_empty_pattern(rt: HostRuntime) -> Result<(), Fail> {
-        let spots = program(rt.alloc(), &CoreTree::Empty)?;
-        assert_eq!(rt; spots.len(), 4);
-        assert!(rt; matches!(&spots[2], Spot::Jump { next: 1 }));
-        Ok(())
-    }
-
-    // Parts in a row, so many that a recursion over them would run out of stack.
-    #[test]
-    fn a_long_row(rt: HostRuntime) -> Result<(), Fail> {
-        let alloc = rt.alloc();
-        let mut tree = CoreTree::Empty;
-        for _ in 0..500_000 {
-            tree = CoreTree::Pair(byte(alloc, b'a')?, Box::new(alloc, tree)?);
-        }
-        let spots = program(alloc, &tree)?;
-        assert_eq!(rt; spots.len(), 1_000_004);
-        Ok(())
-    }
+    let first = out.len() + 1;
+    push_split(first, first + 1, out)?;
+    lay_empty(next, out)
 }

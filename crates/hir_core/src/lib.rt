@@ -4,17 +4,19 @@
 //! matches, says the crate `hir_tree`, which is passed on here.
 #![tactic(auto)]
 
-mod build;
 mod closure;
 mod compile;
-mod core_tree;
 mod later;
+#[cfg(test)]
+mod many_spots_tests;
 mod pass;
 mod plain;
+mod push;
 mod scan;
 mod searcher;
 mod seen;
 mod set_size;
+mod size;
 mod slots;
 mod spot;
 mod stack_search;

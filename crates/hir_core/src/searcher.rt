@@ -12,7 +12,6 @@ ghost use Rattle.std.proofs.Props.{props};
 ghost use Rattle.hir_tree.specs.Spots.{groups_of, spots_of};
 ghost use Rattle.sd_base.specs.Steps.{TicksAtMost};
 
-use crate::build::build;
 use crate::compile::program;
 use crate::pass::Pass;
 use crate::plain::TextFinder;
@@ -50,8 +49,7 @@ impl Searcher {
         ensures groups { IfOk result (λ s. last_group s ≡ groups_of hir.now) }
         ensures visits { IfOk result (λ s. visits s ≤ spots_of hir.now) }
     {
-        let tree = build(alloc, hir)?;
-        let spots = program(alloc, &tree)?;
+        let spots = program(alloc, hir)?;
         let filter = Scan::new(alloc, &spots)?;
         let text = TextFinder::of_pattern(alloc, hir)?;
         Ok(Searcher {

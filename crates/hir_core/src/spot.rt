@@ -1,14 +1,14 @@
 //! Programs of spots, to which patterns are compiled.
 
-use crate::Look;
+use crate::{ByteRanges, CharRanges, Look};
 
 /// A spot of a program. It does one thing and names the spot that comes next.
 #[derive(Drop)]
 pub enum Spot {
-    /// Takes a byte of one of these ranges.
-    Bytes { set: Vec<(u8, u8)>, next: usize },
-    /// Takes the UTF-8 of a character of one of these ranges.
-    Chars { set: Vec<(char, char)>, next: usize },
+    /// Takes a byte of the set.
+    Bytes { set: ByteRanges, next: usize },
+    /// Takes the UTF-8 of a character of the set.
+    Chars { set: CharRanges, next: usize },
     /// Goes on where the look holds.
     Look { look: Look, next: usize },
     /// Goes on.

@@ -2,7 +2,6 @@
 //!
 //! A pattern is a tree of at most five nodes over two letters.
 
-use crate::build::build;
 use crate::compile::program;
 use crate::{Bytes, Group, Hir, Hirs, Repeat, Searcher, Slots, group_count, stack_search};
 use sd_base::{NoMemory, Silent, Steps};
@@ -126,7 +125,7 @@ fn compare(
 ) -> Result<usize, Fail> {
     let alloc = rt.alloc();
     let searcher = Searcher::new(alloc, hir)?;
-    let spots = program(alloc, &build(alloc, hir)?)?;
+    let spots = program(alloc, hir)?;
     let groups = group_count(hir);
     let mut wanted = Slots::new(alloc, groups)?;
     let mut slots = Slots::new(alloc, groups)?;

@@ -16,7 +16,7 @@ abbrev total : List Core → ℕ
 total [] = 0
 total (a ∷ rest) = numbers a + 1 + total rest
 
-some_numbers : (a : Core) → 0 < numbers a
+pub some_numbers : (a : Core) → 0 < numbers a
 some_numbers Core.empty = omega arith
 some_numbers (Core.byte_in ranges) = omega arith
 some_numbers (Core.char_in ranges) = omega arith
@@ -36,15 +36,15 @@ choice_numbers : (cs : List Core) → numbers (choice_all cs) + 1 ≡ total cs +
 choice_numbers [] = omega arith
 choice_numbers (a ∷ rest) = omega (arith, choice_numbers rest)
 
-copies_numbers : (n : ℕ) (a b : Core) → numbers (copies n a b) ≡ n * (numbers a + 1) + numbers b
+pub copies_numbers : (n : ℕ) (a b : Core) → numbers (copies n a b) ≡ n * (numbers a + 1) + numbers b
 copies_numbers zero a b = omega arith
 copies_numbers (suc n) a b = omega (arith, copies_numbers n a b)
 
-optional_numbers : (greedy : Bool) (a : Core) → numbers (optional greedy a) ≡ numbers a + 2
+pub optional_numbers : (greedy : Bool) (a : Core) → numbers (optional greedy a) ≡ numbers a + 2
 optional_numbers true a = omega arith
 optional_numbers false a = omega arith
 
-up_to_numbers : (greedy : Bool) (n : ℕ) (a : Core) → numbers (up_to greedy (suc n) a) + 1 ≡ suc n * (numbers a + 3)
+pub up_to_numbers : (greedy : Bool) (n : ℕ) (a : Core) → numbers (up_to greedy (suc n) a) + 1 ≡ suc n * (numbers a + 3)
 up_to_numbers greedy zero a = omega (arith, optional_numbers greedy a)
 up_to_numbers greedy (suc n) a = omega (arith, optional_numbers greedy (pair a (up_to greedy (suc n) a)), up_to_numbers greedy n a)
 

@@ -11,6 +11,7 @@ mod RangesLemmas
 pub mod RunsComputing
 pub mod RunsLemmas
 pub mod SameRangesLemmas
+pub mod SortedLemmas
 pub mod SpotsLemmas
 pub mod TreeLemmas
 pub mod WholeLemmas

@@ -1,9 +1,10 @@
 //! Sets of bytes as ranges.
 
-ghost use Rattle.std.specs.Prelude.{◌≡◌, ◌↔◌, ◌⊎◌, ◌<◌, ◌≤◌, [], ℕ, length, slice_get, OnOk, OnErr, Some};
+ghost use Rattle.std.specs.Prelude.{◌≡◌, ◌↔◌, ◌⊎◌, ◌<◌, ◌≤◌, [], ◌∷◌, ℕ, length, slice_get, IfOk, OnOk, OnErr, Some};
 ghost use Rattle.hir_tree.specs.Ranges.{AreByteRanges, Holds, IsWithin};
+ghost use Rattle.hir_tree.specs.Runs.{in_set};
 
-use crate::ranges::unite;
+use crate::ranges::{holds_number, unite};
 use sd_base::NoMemory;
 use std::alloc::Global;
 use std::marker::Model;
@@ -35,6 +36,23 @@ impl ByteRanges {
         }
     }
 
+    /// One byte alone. Refuses for want of memory alone.
+    pub fn of_byte(alloc: Global, byte: u8) -> Result<ByteRanges, NoMemory>
+        ensures { IfOk result (λ set. set ≡ (byte, byte) ∷ []) }
+    {
+        let mut ranges = Vec::new(alloc);
+        ranges.push((u32::from(byte), u32::from(byte)))?;
+        Ok(ByteRanges { ranges })
+    }
+
+    /// A copy of the set. Refuses for want of memory alone.
+    pub fn try_clone(&self, alloc: Global) -> Result<ByteRanges, NoMemory>
+        ensures { IfOk result (λ copy. copy ≡ self.now) }
+    {
+        let ranges = Vec::from_slice(alloc, self.ranges.as_slice())?;
+        Ok(ByteRanges { ranges })
+    }
+
     /// Unites a range with the set. Refuses for want of memory alone, and then changes nothing.
     pub fn add(&mut self, start: u8, end: u8) -> Result<(), NoMemory>
         requires { start ≤ end }
@@ -60,5 +78,12 @@ impl ByteRanges {
     {
         let (start, end) = self.ranges[i];
         (start as u8, end as u8)
+    }
+
+    /// Whether a byte is in the set. No range past the byte is read.
+    pub fn contains(&self, byte: u8) -> bool
+        ensures { result ≡ in_set self.now byte }
+    {
+        holds_number(self.ranges.as_slice(), u32::from(byte))
     }
 }

@@ -1,10 +1,11 @@
 //! Sets of characters as ranges.
 
-ghost use Rattle.std.specs.Prelude.{◌≡◌, ◌↔◌, ◌⊎◌, ◌<◌, ◌≤◌, [], ℕ, length, slice_get, OnOk, OnErr, Some};
+ghost use Rattle.std.specs.Prelude.{◌≡◌, ◌↔◌, ◌⊎◌, ◌<◌, ◌≤◌, [], ℕ, length, slice_get, IfOk, OnOk, OnErr, Some};
 ghost use Rattle.std.specs.Char.{IsScalar};
 ghost use Rattle.hir_tree.specs.Ranges.{AreCharRanges, Holds, IsWithin, nth_char};
+ghost use Rattle.hir_tree.specs.Runs.{in_set};
 
-use crate::ranges::unite;
+use crate::ranges::{holds_number, unite};
 use sd_base::NoMemory;
 use std::alloc::Global;
 use std::marker::Model;
@@ -73,6 +74,14 @@ impl CharRanges {
         }
     }
 
+    /// A copy of the set. Refuses for want of memory alone.
+    pub fn try_clone(&self, alloc: Global) -> Result<CharRanges, NoMemory>
+        ensures { IfOk result (λ copy. copy ≡ self.now) }
+    {
+        let ranges = Vec::from_slice(alloc, self.ranges.as_slice())?;
+        Ok(CharRanges { ranges })
+    }
+
     /// Unites a range with the set. Refuses for want of memory alone, and then changes nothing.
     pub fn add(&mut self, start: char, end: char) -> Result<(), NoMemory>
         requires { start ≤ end }
@@ -98,5 +107,12 @@ impl CharRanges {
     {
         let (start, end) = self.ranges[i];
         (char_at(start), char_at(end))
+    }
+
+    /// Whether a character is in the set. No range past the character is read.
+    pub fn contains(&self, character: char) -> bool
+        ensures { result ≡ in_set self.now character }
+    {
+        holds_number(self.ranges.as_slice(), number_of(character))
     }
 }

@@ -3,6 +3,7 @@
 ghost use Rattle.std.specs.Prelude.{◌≡◌, ◌↔◌, ◌⊎◌, ◌+◌, ◌<◌, ◌≤◌, ◌∷◌, ◌++◌, ℕ, All, OnOk, OnErr, length, take, drop, vec_len, nat_lt};
 ghost use Rattle.std.specs.List.{prefix_len};
 ghost use Rattle.hir_tree.specs.Ranges.{AreApart, Holds, IsWithin, next_byte};
+ghost use Rattle.hir_tree.specs.Runs.{in_set};
 
 use sd_base::NoMemory;
 
@@ -66,4 +67,17 @@ pub(crate) fn unite(ranges: &mut Vec<(u32, u32)>, start: u32, end: u32) -> Resul
         last += 1;
     }
     put_in_place(ranges, first, last, (low, high))
+}
+
+/// Whether one of some sorted ranges holds a number. No range past the number's place is read.
+pub(crate) fn holds_number(ranges: &[(u32, u32)], number: u32) -> bool
+    requires { AreApart next_byte ranges.now }
+    ensures { result ≡ in_set ranges.now number }
+{
+    for range in ranges {
+        if number <= range.1 {
+            return range.0 <= number;
+        }
+    }
+    false
 }

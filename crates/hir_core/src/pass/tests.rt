@@ -2,42 +2,54 @@
 
 use super::Pass;
 use crate::compile::program;
-use crate::core_tree::{CoreTree, Greed};
+use crate::{ByteRanges, Bytes, CharRanges, Group, Hir, Hirs, Repeat};
 use sd_base::{NoMemory, Silent, Steps, Tally};
 use std::alloc::Global;
 use std::process::Abort;
 use std::test::Fail;
 
-fn range(alloc: Global, first: u8, last: u8) -> Result<Box<CoreTree>, NoMemory> {
-    Ok(Box::new(alloc, CoreTree::Bytes(vec![in alloc; (first, last)]?))?)
-}
-
-/// A row of these bytes, and then an empty part.
-fn word(alloc: Global, bytes: &[u8]) -> Result<Box<CoreTree>, NoMemory> {
-    let mut tree = Box::new(alloc, CoreTree::Empty)?;
-    for byte in bytes.iter().rev() {
-        tree = Box::new(alloc, CoreTree::Pair(range(alloc, *byte, *byte)?, tree))?;
+/// These bytes, one after another.
+fn word(alloc: Global, bytes: &[u8]) -> Result<Hir, NoMemory> {
+    let mut list = Bytes::new(alloc);
+    for byte in bytes {
+        list.push(*byte)?;
     }
-    Ok(tree)
+    Ok(Hir::Literal(list))
 }
 
-fn either(
-    alloc: Global,
-    index: u32,
-    first: &[u8],
-    second: &[u8],
-) -> Result<Box<CoreTree>, NoMemory> {
-    let first = word(alloc, first)?;
-    let second = word(alloc, second)?;
-    let choice = Box::new(alloc, CoreTree::Choice(first, second))?;
-    Ok(Box::new(alloc, CoreTree::Group(index, choice))?)
+/// Two parts.
+fn two(alloc: Global, first: Hir, second: Hir) -> Result<Hirs, NoMemory> {
+    let mut parts = Hirs::new(alloc);
+    parts.push(first)?;
+    parts.push(second)?;
+    Ok(parts)
+}
+
+/// A group of one word or the other.
+fn either(alloc: Global, index: u32, first: &[u8], second: &[u8]) -> Result<Hir, NoMemory> {
+    let words = two(alloc, word(alloc, first)?, word(alloc, second)?)?;
+    let sub = Box::new(alloc, Hir::Alternation(words))?;
+    let name = None;
+    Ok(Hir::Capture(Group { index, name, sub }))
+}
+
+/// `[a-z]+`
+fn letters(alloc: Global) -> Result<Hir, NoMemory> {
+    let mut set = ByteRanges::new(alloc);
+    set.add(b'a', b'z')?;
+    Ok(Hir::Repetition(Repeat {
+        min: 1,
+        max: None,
+        greedy: true,
+        sub: Box::new(alloc, Hir::ClassBytes(set))?,
+    }))
 }
 
 /// Looks for a match from a place on.
 fn check(
     rt: &(impl AllocGlobal + Abort),
     pass: &mut Pass,
-    tree: &CoreTree,
+    tree: &Hir,
     groups: u32,
     text: &[u8],
     at: usize,
@@ -62,7 +74,7 @@ fn earlier_alternatives_are_preferred(rt: HostRuntime) -> Result<(), Fail> {
     let mut pass = Pass::new(alloc);
     let first = either(alloc, 1, b"a", b"ab")?;
     let second = either(alloc, 2, b"c", b"bcd")?;
-    let tree = CoreTree::Pair(first, second);
+    let tree = Hir::Concat(two(alloc, first, second)?);
     let abcd = [Some((1, 5)), Some((1, 2)), Some((2, 5))];
     check(&rt, &mut pass, &tree, 2, b"xabcd", 0, &abcd)?;
     let abc = [Some((0, 3)), Some((0, 2)), Some((2, 3))];
@@ -76,22 +88,11 @@ fn earlier_alternatives_are_preferred(rt: HostRuntime) -> Result<(), Fail> {
 fn a_pass_is_used_again(rt: HostRuntime) -> Result<(), Fail> {
     let alloc = rt.alloc();
     let mut pass = Pass::new(alloc);
-    let body = range(alloc, b'a', b'z')?;
-    let greed = Greed::Greedy;
-    let letters = Box::new(alloc, CoreTree::Plus { greed, body })?;
-    let tree = CoreTree::Pair(letters, word(alloc, b"_id")?);
+    let tree = Hir::Concat(two(alloc, letters(alloc)?, word(alloc, b"_id")?)?);
     let text = b"user_i, user_id, a_id";
     check(&rt, &mut pass, &tree, 0, text, 0, &[Some((8, 15))])?;
     check(&rt, &mut pass, &tree, 0, text, 10, &[Some((10, 15))])?;
-    check(
-        &rt,
-        &mut pass,
-        &CoreTree::Empty,
-        0,
-        text,
-        21,
-        &[Some((21, 21))],
-    )?;
+    check(&rt, &mut pass, &Hir::Empty, 0, text, 21, &[Some((21, 21))])?;
     check(&rt, &mut pass, &tree, 0, text, 15, &[Some((17, 21))])?;
     check(&rt, &mut pass, &tree, 0, text, 18, &[])?;
     Ok(())
@@ -101,10 +102,11 @@ fn a_pass_is_used_again(rt: HostRuntime) -> Result<(), Fail> {
 #[test]
 fn characters_take_several_bytes(rt: HostRuntime) -> Result<(), Fail> {
     let alloc = rt.alloc();
-    let set = vec![in alloc; ('é', 'é')]?;
-    let accented = Box::new(alloc, CoreTree::Chars(set))?;
-    let letter = CoreTree::Choice(range(alloc, b'a', b'a')?, accented);
-    let tree = CoreTree::Pair(Box::new(alloc, letter)?, range(alloc, b'b', b'b')?);
+    let mut set = CharRanges::new(alloc);
+    set.add('é', 'é')?;
+    let letter = two(alloc, word(alloc, b"a")?, Hir::ClassChars(set))?;
+    let tree = two(alloc, Hir::Alternation(letter), word(alloc, b"b")?)?;
+    let tree = Hir::Concat(tree);
     let mut pass = Pass::new(alloc);
     let text = "aéab".as_bytes();
     check(&rt, &mut pass, &tree, 0, text, 0, &[Some((3, 5))])?;
@@ -120,16 +122,16 @@ fn characters_take_several_bytes(rt: HostRuntime) -> Result<(), Fail> {
     Ok(())
 }
 
-// At each of the five places the two bytes, and the choice between them, are tried once at most.
+// At each of the five places the two bytes, and the choice before each, are tried once at most.
 #[test]
 fn visits_are_counted(rt: HostRuntime) -> Result<(), Fail> {
     let alloc = rt.alloc();
-    let tree = CoreTree::Choice(range(alloc, b'a', b'a')?, range(alloc, b'b', b'b')?);
+    let tree = Hir::Alternation(two(alloc, word(alloc, b"a")?, word(alloc, b"b")?)?);
     let spots = program(alloc, &tree)?;
     let mut steps = Steps::new(Tally::default());
     let mut pass = Pass::new(alloc);
     let found = pass.search(alloc, spots.as_slice(), None, b"xxxx", 0, 0, &mut steps)?;
     assert!(rt; found.is_none());
-    assert_eq!(rt; steps.into_ledger(), Tally { ticks: 15 });
+    assert_eq!(rt; steps.into_ledger(), Tally { ticks: 20 });
     Ok(())
 }

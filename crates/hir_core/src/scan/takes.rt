@@ -7,6 +7,7 @@ ghost use Rattle.hir_core.specs.Masks.{HasBit, Grows, AreTakers, AreAllTakers, S
 
 use crate::scan::bits::{masks, with_bit};
 use crate::spot::Spot;
+use crate::{ByteRanges, CharRanges};
 use sd_base::NoMemory;
 use std::alloc::Global;
 
@@ -45,14 +46,15 @@ fn add_range(takes: &mut [u64], bit: usize, start: u8, end: u8)
 }
 
 /// Adds the bit of a spot at the bytes of a set.
-fn add_bytes(takes: &mut [u64], bit: usize, set: &[(u8, u8)])
+fn add_bytes(takes: &mut [u64], bit: usize, set: &ByteRanges)
     requires room { length takes.old ≡ 256 }
     requires bit { bit < 64 }
     ensures grows { Grows takes.old takes.new }
     ensures has { (b : ℕ) → in_set set.now b ≡ true → HasBit (slice_index takes.new b) bit }
 {
-    for range in set {
-        add_range(takes, bit, range.0, range.1);
+    for i in 0..set.len() {
+        let (start, end) = set.get(i);
+        add_range(takes, bit, start, end);
     }
 }
 
@@ -71,14 +73,15 @@ fn add_ascii(takes: &mut [u64], bit: usize, start: char, end: char)
 }
 
 /// Adds the bit of a spot at the ASCII characters of a set.
-fn add_chars(takes: &mut [u64], bit: usize, set: &[(char, char)])
+fn add_chars(takes: &mut [u64], bit: usize, set: &CharRanges)
     requires room { length takes.old ≡ 256 }
     requires bit { bit < 64 }
     ensures grows { Grows takes.old takes.new }
     ensures has { (b : ℕ) → b < 128 → in_set set.now b ≡ true → HasBit (slice_index takes.new b) bit }
 {
-    for range in set {
-        add_ascii(takes, bit, range.0, range.1);
+    for i in 0..set.len() {
+        let (start, end) = set.get(i);
+        add_ascii(takes, bit, start, end);
     }
 }
 
@@ -121,10 +124,15 @@ pub fn takes(alloc: Global, spots: &[Spot], of: &[usize]) -> Result<Vec<u64>, No
 }
 
 /// Whether a set has a member beyond ASCII.
-fn has_wide(set: &[(char, char)]) -> bool
+fn has_wide(set: &CharRanges) -> bool
     ensures { result ≡ has_wide set.now }
 {
-    set.iter().any(|range| range.1 > '\u{7f}')
+    for i in 0..set.len() {
+        if set.get(i).1 > '\u{7f}' {
+            return true;
+        }
+    }
+    false
 }
 
 /// Whether a spot may take a character beyond ASCII.

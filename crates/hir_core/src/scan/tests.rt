@@ -4,59 +4,55 @@ ghost use Rattle.std.specs.Prelude.{◌≤◌, ◌+◌, length};
 ghost use Rattle.hir_core.specs.Program.{ClosesFall};
 
 use super::Scan;
-use crate::Look;
 use crate::compile::program;
-use crate::core_tree::{CoreTree, Greed};
 use crate::spot::Spot;
 use crate::stack_search::first_run;
+use crate::{ByteRanges, Bytes, CharRanges, Hir, Hirs, Look, Repeat};
 use sd_base::NoMemory;
 use std::alloc::Global;
 use std::process::Abort;
 use std::test::Fail;
 
-/// Takes a byte of a range.
-fn range(alloc: Global, start: u8, end: u8) -> Result<CoreTree, NoMemory> {
-    Ok(CoreTree::Bytes(vec![in alloc; (start, end)]?))
-}
-
-/// One after the other.
-fn pair(alloc: Global, first: CoreTree, second: CoreTree) -> Result<CoreTree, NoMemory> {
-    Ok(CoreTree::Pair(Box::new(alloc, first)?, Box::new(alloc, second)?))
-}
-
-/// One or the other.
-fn choice(alloc: Global, first: CoreTree, second: CoreTree) -> Result<CoreTree, NoMemory> {
-    Ok(CoreTree::Choice(Box::new(alloc, first)?, Box::new(alloc, second)?))
-}
-
-/// One round or more.
-fn plus(alloc: Global, body: CoreTree) -> Result<CoreTree, NoMemory> {
-    Ok(CoreTree::Plus {
-        greed: Greed::Greedy,
-        body: Box::new(alloc, body)?,
-    })
-}
-
 /// The bytes of a word, one after the other.
-fn word(alloc: Global, bytes: &[u8]) -> Result<CoreTree, NoMemory> {
-    let mut tree = CoreTree::Empty;
-    for byte in bytes.iter().rev() {
-        tree = pair(alloc, range(alloc, *byte, *byte)?, tree)?;
+fn word(alloc: Global, bytes: &[u8]) -> Result<Hir, NoMemory> {
+    let mut list = Bytes::new(alloc);
+    for byte in bytes {
+        list.push(*byte)?;
     }
-    Ok(tree)
+    Ok(Hir::Literal(list))
+}
+
+/// Two parts.
+fn two(alloc: Global, first: Hir, second: Hir) -> Result<Hirs, NoMemory> {
+    let mut parts = Hirs::new(alloc);
+    parts.push(first)?;
+    parts.push(second)?;
+    Ok(parts)
+}
+
+/// At least so many of a part.
+fn at_least(alloc: Global, min: u32, part: Hir) -> Result<Hir, NoMemory> {
+    Ok(Hir::Repetition(Repeat {
+        min,
+        max: None,
+        greedy: true,
+        sub: Box::new(alloc, part)?,
+    }))
 }
 
 /// `[a-z]+_id`
-fn names(alloc: Global) -> Result<CoreTree, NoMemory> {
-    let letters = plus(alloc, range(alloc, b'a', b'z')?)?;
-    pair(alloc, letters, word(alloc, b"_id")?)
+fn names(alloc: Global) -> Result<Hir, NoMemory> {
+    let mut set = ByteRanges::new(alloc);
+    set.add(b'a', b'z')?;
+    let letters = at_least(alloc, 1, Hir::ClassBytes(set))?;
+    Ok(Hir::Concat(two(alloc, letters, word(alloc, b"_id")?)?))
 }
 
 /// The next candidate of a program.
 fn next(
     rt: &impl Abort,
     alloc: Global,
-    tree: &CoreTree,
+    tree: &Hir,
     text: &[u8],
     at: usize,
 ) -> Result<Option<(usize, usize)>, NoMemory> {
@@ -110,7 +106,7 @@ fn compare(
 }
 
 /// Compares them on each text of two letters up to length 5.
-fn compare_all(rt: &impl Abort, alloc: Global, tree: &CoreTree) -> Result<(), NoMemory> {
+fn compare_all(rt: &impl Abort, alloc: Global, tree: &Hir) -> Result<(), NoMemory> {
     let spots = program(alloc, tree)?;
     let scan = Scan::new(alloc, spots.as_slice())?;
     let Some(scan) = scan else {
@@ -153,8 +149,8 @@ fn names_with_an_ending(rt: HostRuntime) -> Result<(), Fail> {
 #[test]
 fn one_of_some_words(rt: HostRuntime) -> Result<(), Fail> {
     let alloc = rt.alloc();
-    let others = choice(alloc, word(alloc, b"ba")?, CoreTree::Nothing)?;
-    let tree = choice(alloc, word(alloc, b"aab")?, others)?;
+    let words = two(alloc, word(alloc, b"aab")?, word(alloc, b"ba")?)?;
+    let tree = Hir::Alternation(words);
     assert_eq!(rt; next(&rt, alloc, &tree, b"aaaab", 0)?, Some((0, 5)));
     assert_eq!(rt; next(&rt, alloc, &tree, b"cba", 0)?, Some((1, 3)));
     assert_eq!(rt; next(&rt, alloc, &tree, b"aa", 0)?, None);
@@ -165,8 +161,7 @@ fn one_of_some_words(rt: HostRuntime) -> Result<(), Fail> {
 #[test]
 fn what_may_be_empty(rt: HostRuntime) -> Result<(), Fail> {
     let alloc = rt.alloc();
-    let rounds = plus(alloc, range(alloc, b'a', b'a')?)?;
-    let tree = choice(alloc, rounds, CoreTree::Empty)?;
+    let tree = at_least(alloc, 0, word(alloc, b"a")?)?;
     assert_eq!(rt; next(&rt, alloc, &tree, b"ba", 1)?, Some((1, 1)));
     assert_eq!(rt; next(&rt, alloc, &tree, b"", 0)?, Some((0, 0)));
     compare_all(&rt, alloc, &tree)?;
@@ -176,8 +171,8 @@ fn what_may_be_empty(rt: HostRuntime) -> Result<(), Fail> {
 #[test]
 fn looks_count_as_if_they_held(rt: HostRuntime) -> Result<(), Fail> {
     let alloc = rt.alloc();
-    let letter = range(alloc, b'b', b'b')?;
-    let tree = pair(alloc, CoreTree::Look(Look::Start), letter)?;
+    let letter = word(alloc, b"b")?;
+    let tree = Hir::Concat(two(alloc, Hir::Look(Look::Start), letter)?);
     assert_eq!(rt; next(&rt, alloc, &tree, b"aab", 0)?, Some((2, 3)));
     assert_eq!(rt; next(&rt, alloc, &tree, b"aaa", 0)?, None);
     compare_all(&rt, alloc, &tree)?;
@@ -187,11 +182,15 @@ fn looks_count_as_if_they_held(rt: HostRuntime) -> Result<(), Fail> {
 #[test]
 fn characters_beyond_ascii(rt: HostRuntime) -> Result<(), Fail> {
     let alloc = rt.alloc();
-    let tree = CoreTree::Chars(vec![in alloc; ('x', 'é')]?);
+    let mut set = CharRanges::new(alloc);
+    set.add('x', 'é')?;
+    let tree = Hir::ClassChars(set);
     assert_eq!(rt; next(&rt, alloc, &tree, b"ax", 0)?, Some((1, 2)));
     assert_eq!(rt; next(&rt, alloc, &tree, "aé".as_bytes(), 0)?, Some((1, 1)));
     assert_eq!(rt; next(&rt, alloc, &tree, b"abc", 0)?, None);
-    let ascii = CoreTree::Chars(vec![in alloc; ('x', 'z')]?);
+    let mut set = CharRanges::new(alloc);
+    set.add('x', 'z')?;
+    let ascii = Hir::ClassChars(set);
     assert_eq!(rt;
         next(&rt, alloc, &ascii, "aéy".as_bytes(), 0)?,
         Some((3, 4))
@@ -202,14 +201,9 @@ fn characters_beyond_ascii(rt: HostRuntime) -> Result<(), Fail> {
 #[test]
 fn sixty_three_spots_and_no_more(rt: HostRuntime) -> Result<(), Fail> {
     let alloc = rt.alloc();
-    let mut tree = CoreTree::Empty;
-    for _ in 0..63 {
-        tree = pair(alloc, range(alloc, b'a', b'a')?, tree)?;
-    }
-    let spots = program(alloc, &tree)?;
+    let spots = program(alloc, &word(alloc, &[b'a'; 63])?)?;
     assert!(rt; Scan::new(alloc, spots.as_slice())?.is_some());
-    let longer = pair(alloc, range(alloc, b'a', b'a')?, tree)?;
-    let spots = program(alloc, &longer)?;
+    let spots = program(alloc, &word(alloc, &[b'a'; 64])?)?;
     assert!(rt; Scan::new(alloc, spots.as_slice())?.is_none());
     Ok(())
 }

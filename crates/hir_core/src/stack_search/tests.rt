@@ -5,7 +5,7 @@ ghost use Rattle.hir_core.specs.Program.{spot_at, tie, ClosesFall};
 
 use super::{first_run, search_at};
 use crate::spot::Spot;
-use crate::{Look, Slots};
+use crate::{ByteRanges, CharRanges, Look, Slots};
 use grep_matcher::Match;
 use sd_base::NoMemory;
 use std::alloc::Global;
@@ -53,7 +53,7 @@ fn end(
 /// Takes one byte.
 fn byte(alloc: Global, byte: u8, next: usize) -> Result<Spot, NoMemory> {
     Ok(Spot::Bytes {
-        set: vec![in alloc; (byte, byte)]?,
+        set: ByteRanges::of_byte(alloc, byte)?,
         next,
     })
 }
@@ -138,7 +138,9 @@ fn repetitions_in_repetitions(rt: HostRuntime) -> Result<(), Fail> {
 
 #[test]
 fn classes_of_characters(rt: HostRuntime) -> Result<(), Fail> {
-    let set = vec![in rt.alloc(); ('a', 'c'), ('à', 'é')]?;
+    let mut set = CharRanges::new(rt.alloc());
+    set.add('a', 'c')?;
+    set.add('à', 'é')?;
     let spots = vec![in rt.alloc(); Spot::Chars { set, next: 1 }, Spot::Match]?;
     assert_eq!(rt; end(&rt, rt.alloc(), &spots, "é!".as_bytes())?, Some(2));
     assert_eq!(rt; end(&rt, rt.alloc(), &spots, b"b")?, Some(1));

@@ -10,10 +10,10 @@ fits text size within at short (Some k) e = let h = (within at k (sym e)).1 in o
 
 pub keep-requires : goal.keep-requires
 keep-requires g c =
-    fits c.args.text.now (byte_size c.deref.result.now c.args.text.now) (byte_size-within c.deref.result.now c.args.text.now) c.args.self.now.trail.at (omega arith) _
+    fits c.args.text.now (byte_size c.in-Bytes.set c.args.text.now) (byte_size-within c.in-Bytes.set c.args.text.now) c.args.self.now.trail.at (omega arith) _
     c.byte_size-size.ensures
 
 pub keep-requires-in-Chars : goal.keep-requires-in-Chars
 keep-requires-in-Chars g c =
-    fits c.args.text.now (char_size c.deref-in-Chars.result.now c.args.text.now) (char_size-within c.deref-in-Chars.result.now c.args.text.now) c.args.self.now.trail.at
+    fits c.args.text.now (char_size c.in-Chars.set c.args.text.now) (char_size-within c.in-Chars.set c.args.text.now) c.args.self.now.trail.at
     (omega arith) _ c.char_size-size.ensures

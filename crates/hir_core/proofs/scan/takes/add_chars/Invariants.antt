@@ -4,8 +4,8 @@ use Rattle.hir_core.specs.Masks.{HasBit, Grows}
 use Rattle.hir_core.proofs.scan.takes.add_chars.Given as goal
 
 -- the ranges so far are done
-abbrev pub invariant-loop-range : goal.invariant-loop-range
-invariant-loop-range l = record {
+abbrev pub invariant-loop-i : goal.invariant-loop-i
+invariant-loop-i l = record {
   grows : Grows l.fn.takes l.takes;
-  has : (b : ℕ) → b < 128 → in_set (take l.range-index l.set) b ≡ true → HasBit (get_or l.takes b 0) l.bit;
+  has : (b : ℕ) → b < 128 → in_set (take l.i l.set) b ≡ true → HasBit (get_or l.takes b 0) l.bit;
 }

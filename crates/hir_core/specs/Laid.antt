@@ -1,36 +1,34 @@
--- What a core tree means, and programs that are compiled from it.
-use Rattle.std.specs.Prelude.{◌≡◌, ℕ, ◌+◌, ◌<◌, ◌≤◌, Bool, true, false, List, [], length, option_map}
-use Rattle.hir_tree.specs.Core.{Core, empty, byte_in, char_in, look, group, pair, choice, none, plus, numbers}
+-- Programs into which cores are laid.
+use Rattle.std.specs.Prelude.{◌≡◌, ℕ, ◌+◌, ◌<◌, ◌≤◌, List, [], ◌∷◌, ◌++◌, length, option_map, replicate}
+use Rattle.hir_tree.specs.Core.{Core, group, pair, numbers}
 use Rattle.hir_core.specs.Program.{spot_at, way, gives, Placed}
 use Rattle.hir_tree.specs.Runs.{begin, first, preferred}
-use Rattle.hir_core.specs.declared.core_tree.CoreTree.{CoreTree, Empty, Bytes, Chars, Look, Group', Pair', Choice', Nothing, Plus'}
-use Rattle.hir_core.specs.declared.core_tree.Greed.{Greed}
-use Rattle.hir_core.specs.declared.core_tree.Greed.TheVariants.{Greedy, Lazy}
 use Rattle.hir_core.specs.declared.spot.Spot.{Spot}
 use Rattle.hir_core.specs.declared.spot.Spot.TheVariants as spot
 
--- more rounds are preferred
-abbrev pub is_greedy : Greed → Bool
-is_greedy Greedy = true
-is_greedy Lazy = false
-
--- the core that a tree stands for
-abbrev pub core_of_tree : CoreTree → Core
-core_of_tree Empty = empty
-core_of_tree (Bytes set) = byte_in set.items
-core_of_tree (Chars set) = char_in set.items
-core_of_tree (Look l) = look l
-core_of_tree (Group' i p a) = group i (core_of_tree a)
-core_of_tree (Pair' p a q b) = pair (core_of_tree a) (core_of_tree b)
-core_of_tree (Choice' p a q b) = choice (core_of_tree a) (core_of_tree b)
-core_of_tree Nothing = none
-core_of_tree (Plus' greed p a) = plus (is_greedy greed) (core_of_tree a)
+-- the numbers of several cores together
+abbrev pub total_numbers : List Core → ℕ
+total_numbers [] = 0
+total_numbers (a ∷ rest) = numbers a + total_numbers rest
 
 -- The spots of a core were appended to a program, and this spot follows them.
 pub record Lays (old new : List Spot) (next : ℕ) (core : Core) : Type 0 where
   pub size : length new ≡ length old + numbers core
   pub kept : (q : ℕ) → q < length old → spot_at new q ≡ spot_at old q
   pub placed : Placed new (length old) next core
+
+-- What was appended waits for the last part of a core: once that part is laid too, the core is.
+pub record Waits (old now : List Spot) (next : ℕ) (core part : Core) : Type 0 where
+  pub size : length now + numbers part ≡ length old + numbers core
+  pub whole : (final : List Spot) → Lays now final next part → Lays old final next core
+
+-- a core was laid as the first part of a pair, whatever the second is
+abbrev pub LaysFirst : List Spot → List Spot → Core → Type 0
+LaysFirst old new a = (next : ℕ) (b : Core) → Waits old new next (pair a b) b
+
+-- so many cores that take nothing were laid one after another, and this spot follows each
+abbrev pub LaysEmpties : ℕ → List Spot → List Spot → ℕ → Type 0
+LaysEmpties count old new next = new ≡ old ++ replicate count (spot.Jump next)
 
 -- A program of a core: the core stands at its start as group 0, which is the whole match, and then the match ends.
 pub record IsProgram (core : Core) (spots : List Spot) : Type 0 where

@@ -1,6 +1,0 @@
-use Rattle.hir_core.proofs.CompileLemmas.{lays_chars}
-use Rattle.hir_core.proofs.compile.push_chars.Goals as goal
-
-pub returns : goal.returns
-returns c =
-    lays_chars c.args.out.now.items c.push.new.self.items c.args.next c.in_ok-set.set c.args.set.now c.in_ok-push.ensures.items c.in_ok-set.ensures.items

@@ -1,0 +1,17 @@
+use Rattle.std.proofs.Common.{inl, inr, sym, arith}
+use Rattle.std.proofs.lemmas.Option.{get_or_from_slice_get}
+use Rattle.hir_core.proofs.SetLemmas.{in_set-more}
+use Rattle.hir_core.proofs.scan.takes.add_chars.Goals as goal
+
+pub loop-i-preserved : goal.loop-i-preserved
+loop-i-preserved c =
+    let set = c.args.set.now in
+    let range = c.get-start.result in
+    let is = sym (get_or_from_slice_get set c.loop-i.i range range c.get-start.ensures) in record {
+      grows = λ b i has. c.add_ascii.ensures.grows b i (c.loop-i.invariant.grows b i has);
+      has = λ b low e.
+          elim (in_set-more set c.loop-i.i range (omega (arith, c.len-i-end.ensures.len)) is b e) [
+            | inl before ↦ c.add_ascii.ensures.grows b c.args.bit (c.loop-i.invariant.has b low before)
+            | inr here ↦ c.add_ascii.ensures.has b low here.0 here.1
+          ];
+    }
