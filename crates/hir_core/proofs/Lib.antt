@@ -22,4 +22,3 @@ mod StampsLemmas
 mod TrailLemmas
 mod TurnLemmas
 mod VisitLemmas
-mod WalkLemmas

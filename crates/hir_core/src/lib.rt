@@ -18,8 +18,6 @@ mod set_size;
 mod slots;
 mod spot;
 mod stack_search;
-#[cfg(test)]
-mod table_tests;
 mod trail;
 mod visited;
 
