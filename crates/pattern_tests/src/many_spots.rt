@@ -1,6 +1,6 @@
 //! Patterns that are written out to many spots.
 
-use crate::{Bytes, Hir, Repeat, Searcher, Slots, group_count};
+use hir_core::{Bytes, Hir, Repeat, Searcher, Slots, group_count};
 use sd_base::NoMemory;
 use std::alloc::Global;
 use std::process::Abort;
@@ -27,12 +27,11 @@ fn up_to(alloc: Global, count: u32, greedy: bool, part: Hir) -> Result<Hir, NoMe
 fn check(
     rt: &impl Abort,
     alloc: Global,
-    hir: &Hir,
+    searcher: &Searcher,
     text: &[u8],
     end: usize,
 ) -> Result<(), NoMemory> {
-    let searcher = Searcher::new(alloc, hir)?;
-    let mut slots = Slots::new(alloc, group_count(hir))?;
+    let mut slots = Slots::new(alloc, group_count(searcher.hir()))?;
     assert!(rt; searcher.search_at(text, 0, &mut slots)?);
     let span = slots.get(0).map(|span| (span.start(), span.end()));
     assert_eq!(rt; span, Some((0, end)));
@@ -43,9 +42,9 @@ fn check(
 #[test]
 fn a_repetition_of_many_parts(rt: HostRuntime) -> Result<(), Fail> {
     let alloc = rt.alloc();
-    let hir = up_to(alloc, 500_000, true, letter(alloc)?)?;
-    check(&rt, alloc, &hir, b"xxx", 3)?;
-    check(&rt, alloc, &hir, b"xyx", 1)?;
+    let searcher = Searcher::new(alloc, up_to(alloc, 500_000, true, letter(alloc)?)?)?;
+    check(&rt, alloc, &searcher, b"xxx", 3)?;
+    check(&rt, alloc, &searcher, b"xyx", 1)?;
     Ok(())
 }
 
@@ -53,8 +52,8 @@ fn a_repetition_of_many_parts(rt: HostRuntime) -> Result<(), Fail> {
 #[test]
 fn a_lazy_repetition_of_many_parts(rt: HostRuntime) -> Result<(), Fail> {
     let alloc = rt.alloc();
-    let hir = up_to(alloc, 500_000, false, letter(alloc)?)?;
-    check(&rt, alloc, &hir, b"xxx", 0)?;
+    let searcher = Searcher::new(alloc, up_to(alloc, 500_000, false, letter(alloc)?)?)?;
+    check(&rt, alloc, &searcher, b"xxx", 0)?;
     Ok(())
 }
 
@@ -63,9 +62,9 @@ fn a_lazy_repetition_of_many_parts(rt: HostRuntime) -> Result<(), Fail> {
 fn many_repetitions_of_many_parts(rt: HostRuntime) -> Result<(), Fail> {
     let alloc = rt.alloc();
     let inner = up_to(alloc, 1000, true, letter(alloc)?)?;
-    let hir = up_to(alloc, 1000, true, inner)?;
-    check(&rt, alloc, &hir, b"xxx", 3)?;
-    check(&rt, alloc, &hir, b"y", 0)?;
+    let searcher = Searcher::new(alloc, up_to(alloc, 1000, true, inner)?)?;
+    check(&rt, alloc, &searcher, b"xxx", 3)?;
+    check(&rt, alloc, &searcher, b"y", 0)?;
     Ok(())
 }
 
@@ -75,8 +74,8 @@ fn repetitions_three_deep(rt: HostRuntime) -> Result<(), Fail> {
     let alloc = rt.alloc();
     let first = up_to(alloc, 100, true, letter(alloc)?)?;
     let second = up_to(alloc, 100, true, first)?;
-    let hir = up_to(alloc, 50, true, second)?;
-    check(&rt, alloc, &hir, b"xxx", 3)?;
-    check(&rt, alloc, &hir, b"y", 0)?;
+    let searcher = Searcher::new(alloc, up_to(alloc, 50, true, second)?)?;
+    check(&rt, alloc, &searcher, b"xxx", 3)?;
+    check(&rt, alloc, &searcher, b"y", 0)?;
     Ok(())
 }
