@@ -16,6 +16,9 @@ use std::alloc::Global;
 /// on a told disk `Absent` and `Taken` come from the tree alone, on any other only with a counted fault, and `Failed`
 /// comes with a counted fault everywhere. `NoMemory` may come from every call but `close_dir`, and changes nothing.
 ///
+/// To create, rename or remove a file may change the order of the directories in which its paths name it, and of no
+/// other; to write one changes none.
+///
 /// A path is split at `/`; empty parts and `.` are dropped, `..` goes to the parent of the node reached, and at most
 /// forty links are followed. In memory a path without a leading `/` begins at the top.
 pub trait Disk {
@@ -111,8 +114,8 @@ pub trait Disk {
         ensures lists { SameLists (state self.old) (state self.new) }
         ensures cause { HasCause tells (state self.old) (state self.new) result };
 
-    /// Gives the regular file that a path leads to these bytes; its mode, device and inode are kept. Refuses `Absent`
-    /// exactly where there is none. After `Failed` the file may hold any bytes.
+    /// Gives the regular file that a path leads to these bytes; its mode, device and inode and each directory's order are
+    /// kept. Refuses `Absent` exactly where there is none. After `Failed` the file may hold any bytes.
     fn write_file(&mut self, path: &str, bytes: &[u8]) -> Result<(), DiskFault>
         ensures written { IsTrue tells → OnOk result (Writes (state self.old) path.now bytes.now (state self.new)) }
         ensures absent { IsTrue tells → IsErrOf result DiskFault.Absent → IsNoFile (state self.old) path.now }

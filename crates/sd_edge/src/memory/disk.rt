@@ -20,7 +20,7 @@ use crate::{BuildFault, Disk, DiskFault, Ident, ListId, Meta, NoMemory, RawEntry
 use std::alloc::Global;
 
 /// A disk in memory, which tells its tree and counts its calls from 1. Every call but `close_dir` is counted, and fails
-/// where its number is chosen by `fail_at`.
+/// where its number is chosen by `fail_at`. A directory's order is that of inode numbers.
 #[derive(Drop)]
 pub struct MemDisk {
     alloc: Global,
