@@ -1,17 +1,8 @@
-mod CharRangesLemmas
-pub mod CharacterLemmas
 pub mod Computing
-pub mod CoreNumbersLemmas
-pub mod CoreSpotsLemmas
-pub mod CoresLemmas
+pub use Rattle.hir_tree.proofs.core_laws.CoreNumbersLemmas
+pub use Rattle.hir_tree.proofs.core_laws.CoreSpotsLemmas
+pub use Rattle.hir_tree.proofs.core_laws.CoresLemmas
 pub mod ListLemmas
-pub mod MemberLemmas
-pub mod NumbersLemmas
-mod RangesLemmas
+pub use Rattle.hir_tree.proofs.runs_laws.NumbersLemmas
 pub mod RunsComputing
-pub mod RunsLemmas
-pub mod SameRangesLemmas
-pub mod SortedLemmas
-pub mod SpotsLemmas
-pub mod TreeLemmas
-pub mod WholeLemmas
+pub use Rattle.hir_tree.proofs.runs_laws.RunsLemmas

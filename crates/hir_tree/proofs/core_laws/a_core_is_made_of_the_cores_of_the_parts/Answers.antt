@@ -1,6 +1,6 @@
 use Rattle.std.proofs.Common.{ap}
 use Rattle.hir_tree.specs.Core.{pair_all, choice_all}
-use Rattle.hir_tree.proofs.CoresLemmas.{cores_each}
+use Rattle.hir_tree.proofs.core_laws.CoresLemmas.{cores_each}
 use Rattle.hir_tree.proofs.core_laws.a_core_is_made_of_the_cores_of_the_parts.Goals as goal
 
 pub returns-clause-concat : goal.returns-clause-concat

@@ -1,6 +1,6 @@
 use Rattle.std.proofs.Common.{map, sym, ap, ◌∙◌, inl, inr}
 use Rattle.hir_tree.specs.Spots.{greatest, groups_of}
-use Rattle.hir_tree.proofs.SpotsLemmas.{groups_concat, groups_alternation}
+use Rattle.hir_tree.proofs.count.SpotsLemmas.{groups_concat, groups_alternation}
 use Rattle.hir_tree.proofs.count.+groups.Goals as goal
 
 pub group_count-returns-in-Concat : goal.group_count-returns-in-Concat

@@ -2,7 +2,7 @@ use Rattle.std.proofs.Common.{◌≡◌, [], map, drop, ap, arith}
 use Rattle.std.specs.Prelude.{sum}
 use Rattle.std.proofs.Math.ListN.{drop_of_length-le}
 use Rattle.hir_tree.specs.Spots.{spots_of}
-use Rattle.hir_tree.proofs.SpotsLemmas.{spots_concat, spots_alternation}
+use Rattle.hir_tree.proofs.count.SpotsLemmas.{spots_concat, spots_alternation}
 use Rattle.hir_tree.proofs.count.+spots.Goals as goal
 
 pub spots-returns-in-Concat : goal.spots-returns-in-Concat

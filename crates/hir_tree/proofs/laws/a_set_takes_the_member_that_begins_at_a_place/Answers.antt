@@ -1,4 +1,4 @@
-use Rattle.hir_tree.proofs.MemberLemmas.{char_size-some, char_size-none}
+use Rattle.hir_tree.proofs.laws.MemberLemmas.{char_size-some, char_size-none}
 use Rattle.hir_tree.proofs.laws.a_set_takes_the_member_that_begins_at_a_place.Goals as goal
 
 pub returns-clause-taken : goal.returns-clause-taken

@@ -1,4 +1,4 @@
-use Rattle.hir_tree.proofs.SameRangesLemmas.{same_bytes, same_chars}
+use Rattle.hir_tree.proofs.range_laws.SameRangesLemmas.{same_bytes, same_chars}
 use Rattle.hir_tree.proofs.range_laws.a_set_has_one_list_of_ranges.Goals as goal
 
 pub returns-clause-bytes : goal.returns-clause-bytes

@@ -1,5 +1,5 @@
 use Rattle.std.proofs.Common.{sym, ◌∙◌, arith}
-use Rattle.hir_tree.proofs.SortedLemmas.{in_set-here}
+use Rattle.hir_tree.proofs.ranges.SortedLemmas.{in_set-here}
 use Rattle.hir_tree.proofs.ranges.holds_number.Goals as goal
 
 pub returns-then-number-range : goal.returns-then-number-range

@@ -1,7 +1,7 @@
 use Rattle.std.proofs.Common.{◌≡◌, OnOk, ◌<◌, ◌∷◌, ◌++◌, ℕ, length, take, drop, refl, ap, ◌∙◌, arith}
 use Rattle.std.proofs.lemmas.List.Sums.{prefix_len-le-length}
 use Rattle.std.proofs.lemmas.Result.{on_ok_weaker}
-use Rattle.hir_tree.proofs.RangesLemmas.{absorbed, absorbed_next, absorbed_end, absorbed_stop, ends_before, put_united, united, united_apart, united_below, united_holds}
+use Rattle.hir_tree.proofs.ranges.RangesLemmas.{absorbed, absorbed_next, absorbed_end, absorbed_stop, ends_before, put_united, united, united_apart, united_below, united_holds}
 use Rattle.hir_tree.proofs.ranges.unite.Goals as goal
 use Rattle.hir_tree.proofs.ranges.unite.Goals.{else-loop-last-test, then-loop-last-test+then-leaves_gap}
 

@@ -1,5 +1,5 @@
 use Rattle.std.proofs.Common.{◌≡◌, ◌-◌, ◌≤◌, vec_len, drop}
-use Rattle.hir_tree.proofs.RangesLemmas.{absorbed}
+use Rattle.hir_tree.proofs.ranges.RangesLemmas.{absorbed}
 use Rattle.hir_tree.proofs.ranges.unite.Given as goal
 
 abbrev pub decreases-loop-last : goal.decreases-loop-last

@@ -1,4 +1,4 @@
-use Rattle.hir_tree.proofs.NumbersLemmas.{choice-joined}
+use Rattle.hir_tree.proofs.runs_laws.NumbersLemmas.{choice-joined}
 use Rattle.hir_tree.proofs.runs_laws.choices_join_runs.Goals as goal
 
 pub returns : goal.returns

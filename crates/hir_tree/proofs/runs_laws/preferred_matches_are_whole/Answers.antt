@@ -1,6 +1,6 @@
 use Rattle.std.proofs.lemmas.Option.{IfSome_then}
 use Rattle.hir_tree.specs.Runs.{preferred}
-use Rattle.hir_tree.proofs.WholeLemmas.{match-whole}
+use Rattle.hir_tree.proofs.runs_laws.WholeLemmas.{match-whole}
 use Rattle.hir_tree.proofs.runs_laws.preferred_matches_are_whole.Goals as goal
 
 pub returns-clause-begins : goal.returns-clause-begins

@@ -1,5 +1,5 @@
 use Rattle.std.proofs.Common.{◌+◌}
-use Rattle.hir_tree.proofs.RunsLemmas.{runs-Forward, after-eq}
+use Rattle.hir_tree.proofs.runs_laws.RunsLemmas.{runs-Forward, after-eq}
 use Rattle.hir_tree.proofs.runs_laws.rounds_are_not_cut_off.Goals as goal
 
 pub returns : goal.returns

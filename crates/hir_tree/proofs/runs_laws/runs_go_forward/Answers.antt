@@ -2,7 +2,7 @@ use Rattle.std.proofs.Common.{◌≤◌, length}
 use Rattle.std.proofs.lemmas.List.Elements.{All-from_recursion}
 use Rattle.hir_tree.specs.Runs.{Run, runs}
 use Rattle.hir_tree.proofs.ListLemmas.{All-weaker}
-use Rattle.hir_tree.proofs.RunsLemmas.{GoesOn, runs-Forward}
+use Rattle.hir_tree.proofs.runs_laws.RunsLemmas.{GoesOn, runs-Forward}
 use Rattle.hir_tree.proofs.runs_laws.runs_go_forward.Goals as goal
 
 pub returns : goal.returns

@@ -1,4 +1,4 @@
-use Rattle.hir_tree.proofs.TreeLemmas.{tree_concat, tree_alternation}
+use Rattle.hir_tree.proofs.tree_laws.TreeLemmas.{tree_concat, tree_alternation}
 use Rattle.hir_tree.proofs.tree_laws.a_tree_is_made_of_the_trees_of_the_parts.Goals as goal
 
 pub returns-clause-concat : goal.returns-clause-concat

@@ -1,4 +1,4 @@
-use Rattle.hir_tree.proofs.TreeLemmas.{sound_each}
+use Rattle.hir_tree.proofs.tree_laws.TreeLemmas.{sound_each}
 use Rattle.hir_tree.proofs.tree_laws.trees_in_a_row_are_sound_where_each_is.Goals as goal
 
 pub returns-clause-concat : goal.returns-clause-concat

@@ -1,4 +1,4 @@
-use Rattle.hir_tree.proofs.SpotsLemmas.{concat_spots, alternation_spots}
+use Rattle.hir_tree.proofs.count.SpotsLemmas.{concat_spots, alternation_spots}
 use Rattle.hir_tree.proofs.tree_laws.trees_in_a_row_take_the_spots_of_each.Goals as goal
 
 pub returns-clause-concat : goal.returns-clause-concat

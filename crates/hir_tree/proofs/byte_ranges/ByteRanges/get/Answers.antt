@@ -1,6 +1,6 @@
 use Rattle.std.proofs.Common.{◌<◌, ℕ, length, slice_get, refl, sym, ap, ◌∙◌, arith}
 use Rattle.std.proofs.lemmas.Option.{slice_get_read}
-use Rattle.hir_tree.proofs.RangesLemmas.{ordered_at}
+use Rattle.hir_tree.proofs.ranges.RangesLemmas.{ordered_at}
 use Rattle.hir_tree.proofs.byte_ranges.ByteRanges.get.Goals as goal
 
 pub overflow_cast-result : goal.overflow_cast-result

@@ -1,5 +1,5 @@
 use Rattle.std.proofs.lemmas.Result.{on_ok_weaker}
-use Rattle.hir_tree.proofs.CharRangesLemmas.{chars_are_ranges, chars_united}
+use Rattle.hir_tree.proofs.char_ranges.CharRangesLemmas.{chars_are_ranges, chars_united}
 use Rattle.hir_tree.proofs.char_ranges.CharRanges.add.Goals as goal
 
 pub returns-clause-apart : goal.returns-clause-apart

@@ -1,6 +1,6 @@
 use Rattle.std.proofs.Common.{sym, ap, ap₂, ◌∙◌}
 use Rattle.hir_tree.specs.Runs.{in_set}
-use Rattle.hir_tree.proofs.SortedLemmas.{in_set-chars}
+use Rattle.hir_tree.proofs.ranges.SortedLemmas.{in_set-chars}
 use Rattle.hir_tree.proofs.char_ranges.CharRanges.contains.Goals as goal
 
 pub returns : goal.returns

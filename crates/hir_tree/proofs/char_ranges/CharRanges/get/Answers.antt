@@ -2,7 +2,7 @@ use Rattle.std.proofs.Common.{◌<◌, ℕ, length, slice_get, option_map, refl,
 use Rattle.std.proofs.lemmas.List.{length-map}
 use Rattle.std.proofs.lemmas.Option.{slice_get_read, slice_get-map}
 use Rattle.hir_tree.specs.Ranges.{chars_between}
-use Rattle.hir_tree.proofs.RangesLemmas.{ordered_at}
+use Rattle.hir_tree.proofs.ranges.RangesLemmas.{ordered_at}
 use Rattle.hir_tree.proofs.char_ranges.CharRanges.get.Goals as goal
 
 pub char_at-requires : goal.char_at-requires

@@ -1,6 +1,6 @@
 use Rattle.std.proofs.Common.{subst}
 use Rattle.hir_tree.specs.Ranges.{AreCharRanges}
-use Rattle.hir_tree.proofs.CharRangesLemmas.{chars_are_ranges}
+use Rattle.hir_tree.proofs.char_ranges.CharRangesLemmas.{chars_are_ranges}
 use Rattle.hir_tree.proofs.char_ranges.CharRanges.len.Goals as goal
 
 pub returns-clause-apart : goal.returns-clause-apart

@@ -7,7 +7,7 @@ use Rattle.hir_tree.specs.Tree.{Tree, trees, tree_of}
 use Rattle.hir_tree.specs.declared.hir.Hir.{Hir}
 use Rattle.hir_tree.specs.declared.hir.Hir.TheVariants.{Concat, Alternation}
 use Rattle.hir_tree.specs.declared.hir.Hirs.{Hirs}
-use Rattle.hir_tree.proofs.TreeLemmas.{tree_concat, tree_alternation}
+use Rattle.hir_tree.proofs.tree_laws.TreeLemmas.{tree_concat, tree_alternation}
 
 pub cores_each : (parts : List Tree) → cores_of_trees (trees parts) ≡ map core_of_tree parts
 cores_each [] = refl

@@ -9,8 +9,8 @@ use Rattle.hir_tree.specs.Groups.{start_of, EachLiesWithin}
 use Rattle.hir_tree.specs.Looks.{holds}
 use Rattle.hir_tree.specs.Runs.{Run, Step, begin, moved, mark, set_group, visit, rounds_or_end, after, byte_size, char_size, as_list, take_size, runs, first, preferred}
 use Rattle.hir_tree.proofs.ListLemmas.{All-append, All-flat_map, All-map, All-weaker}
-use Rattle.hir_tree.proofs.NumbersLemmas.{preferred-first}
-use Rattle.hir_tree.proofs.RunsLemmas.{GoesOn, visit-All, All-rounds_or_end, TakesWithin, byte_size-within, char_size-within, runs-Forward}
+use Rattle.hir_tree.proofs.runs_laws.NumbersLemmas.{preferred-first}
+use Rattle.hir_tree.proofs.runs_laws.RunsLemmas.{GoesOn, visit-All, All-rounds_or_end, TakesWithin, byte_size-within, char_size-within, runs-Forward}
 
 -- a group that is set ends where it begins or later, and no later than a place
 abbrev LiesBefore : ℕ → Option (ℕ × ℕ) → Type 0

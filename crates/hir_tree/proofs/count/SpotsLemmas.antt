@@ -8,7 +8,7 @@ use Rattle.hir_tree.specs.Tree.{Tree, concat, alternation, trees, tree_of}
 use Rattle.hir_tree.specs.declared.hir.Hir.{Hir}
 use Rattle.hir_tree.specs.declared.hir.Hir.TheVariants.{Concat, Alternation}
 use Rattle.hir_tree.specs.declared.hir.Hirs.{Hirs}
-use Rattle.hir_tree.proofs.TreeLemmas.{tree_concat, tree_alternation}
+use Rattle.hir_tree.proofs.tree_laws.TreeLemmas.{tree_concat, tree_alternation}
 
 pub groups_each : (parts : List Tree) → groups_of_trees (trees parts) ≡ map groups_of_tree parts
 groups_each [] = refl

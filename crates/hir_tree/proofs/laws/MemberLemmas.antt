@@ -11,7 +11,7 @@ use Rattle.hir_tree.specs.Laws.{MemberBeginsAt}
 use Rattle.hir_tree.specs.Ranges.{IsWithin, Holds}
 use Rattle.hir_tree.specs.Runs.{in_set, size_in, char_size}
 use Rattle.hir_tree.specs.Sides.{char_after}
-use Rattle.hir_tree.proofs.RunsLemmas.{size_in-parts}
+use Rattle.hir_tree.proofs.runs_laws.RunsLemmas.{size_in-parts}
 
 -- the test of one range
 within-tested : (range : ℕ × ℕ) (n : ℕ) → IsWithin range n → (nat_le range.0 n && nat_le n range.1) ≡ true

@@ -1,0 +1,3 @@
+pub mod CoreNumbersLemmas
+pub mod CoreSpotsLemmas
+pub mod CoresLemmas
