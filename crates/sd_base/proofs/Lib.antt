@@ -1,1 +1,1 @@
-pub mod StepsLemmas
+pub use Rattle.sd_base.proofs.laws.StepsLemmas
