@@ -8,7 +8,8 @@ use Rattle.sd_edge.specs.declared.meta.Meta.{Meta}
 use Rattle.sd_edge.specs.declared.meta.Ident.{Ident}
 use Rattle.sd_edge.specs.Tree.{NameList, Content, directory, link, file, other, Node, Tree, SameBut, SameOrders, SameOrdersBut, node_at, file_at, identity_at}
 use Rattle.sd_edge.specs.Paths.{parent_of, reached, named, Leads}
-use Rattle.sd_edge.specs.Disk.{DiskState, SameTree}
+use Rattle.sd_edge.specs.Outcomes.{after_create, after_write, after_sync, after_move, after_no_move, after_remove}
+use Rattle.sd_edge.specs.Disk.{DiskState, SameTree, Advances, outcomes_now}
 
 -- ---- stat, ident, resolve
 
@@ -84,6 +85,7 @@ pub record Creates (old : DiskState) (path like : List ℕ) (new : DiskState) : 
   pub stands : file_at new.tree place ≡ Some ([], mode)
   pub others : SameBut place old.tree new.tree
   pub orders : SameOrdersBut (parent_of place ∷ []) old.tree new.tree
+  pub advances : Advances old new (after_create place (outcomes_now old))
 
 -- the path's folder is no directory, or `like` leads to no regular file
 abbrev pub CannotCreate : DiskState → List ℕ → List ℕ → Type 0
@@ -109,15 +111,20 @@ pub record Writes (old : DiskState) (path bytes : List ℕ) (new : DiskState) : 
   pub identity : identity_at new.tree place ≡ identity_at old.tree place
   pub others : SameBut place old.tree new.tree
   pub orders : SameOrders old.tree new.tree
+  pub advances : Advances old new (after_write place (outcomes_now old))
 
--- after a failure the file holds any bytes
+-- after a failure the file holds any bytes; where no file is, nothing changes
 abbrev pub MayHaveWritten : DiskState → List ℕ → DiskState → Type 0
-MayHaveWritten old path new = SameTree old new ⊎ ((bytes : List ℕ) × Writes old path bytes new)
+MayHaveWritten old path new = (IsNoFile old path × SameTree old new) ⊎ ((bytes : List ℕ) × Writes old path bytes new)
 
--- the path leads to a regular file, and the tree stays
+-- the path leads to a regular file, which is on the medium as it stands, and the tree stays
 pub record Syncs (old : DiskState) (path : List ℕ) (new : DiskState) : Type 0 where
-  pub stands : IsSome (file_of old.tree path)
-  pub same : SameTree old new
+  pub place : NameList
+  pub node : Node
+  pub leads : Leads old.tree path true place node
+  pub is_file : IsSome (file_at old.tree place)
+  pub tree : new.tree ≡ old.tree
+  pub advances : Advances old new (after_sync place node (outcomes_now old))
 
 -- ---- rename, remove
 
@@ -145,14 +152,28 @@ pub record Renames (old : DiskState) (from to : List ℕ) (new : DiskState) : Ty
   pub gone : source ≢ target → node_at new.tree source ≡ None
   pub others : (q : NameList) → q ≢ source → q ≢ target → node_at new.tree q ≡ node_at old.tree q
   pub orders : SameOrdersBut (parent_of source ∷ parent_of target ∷ []) old.tree new.tree
+  pub kept : source ≡ target → SameTree old new
+  pub advances : source ≢ target → Advances old new (after_move source target (outcomes_now old))
+
+-- the file stays at `from`, though nothing hindered it to stand at `to`: a crash may leave it at both, at either, or at none
+pub record RenamesNot (old : DiskState) (from to : List ℕ) (new : DiskState) : Type 0 where
+  pub source : NameList
+  pub target : NameList
+  pub leaves : named old.tree from ≡ Some source
+  pub comes : named old.tree to ≡ Some target
+  pub is_file : IsSome (file_at old.tree source)
+  pub may_come : (node_at old.tree target ≡ None) ⊎ IsSome (file_at old.tree target)
+  pub tree : new.tree ≡ old.tree
+  pub kept : source ≡ target → SameTree old new
+  pub advances : source ≢ target → Advances old new (after_no_move source target (outcomes_now old))
 
 -- no regular file stands at `from` itself, the folder of `to` is no directory, or something else than a regular file stands at `to`
 abbrev pub CannotRename : DiskState → List ℕ → List ℕ → Type 0
 CannotRename old from to = (file_named old.tree from ≡ None) ⊎ (named old.tree to ≡ None) ⊎ IsOther old to
 
--- after a failure both names are as before or as after
+-- after a failure both names are as before or as after; where it can't be done, nothing changes
 abbrev pub MayHaveRenamed : DiskState → List ℕ → List ℕ → DiskState → Type 0
-MayHaveRenamed old from to new = SameTree old new ⊎ Renames old from to new
+MayHaveRenamed old from to new = (CannotRename old from to × SameTree old new) ⊎ RenamesNot old from to new ⊎ Renames old from to new
 
 -- a regular file stood at the path itself, which is free; every other folder keeps its order
 pub record Removes (old : DiskState) (path : List ℕ) (new : DiskState) : Type 0 where
@@ -162,6 +183,7 @@ pub record Removes (old : DiskState) (path : List ℕ) (new : DiskState) : Type 
   pub gone : node_at new.tree place ≡ None
   pub others : SameBut place old.tree new.tree
   pub orders : SameOrdersBut (parent_of place ∷ []) old.tree new.tree
+  pub advances : Advances old new (after_remove place (outcomes_now old))
 
 -- no regular file stands at the path itself
 abbrev pub CannotRemove : DiskState → List ℕ → Type 0

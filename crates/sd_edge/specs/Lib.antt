@@ -1,13 +1,15 @@
 pub mod Tree
 pub mod Paths
 pub mod Count
+pub mod Outcomes
 pub mod Disk
 pub mod Files
 pub mod Lists
+pub mod Crashes
 pub mod Streams
 pub mod Calls
 pub mod Examples
-pub mod Rewriting
+pub mod OutcomeExamples
 pub mod OpenLists
 pub mod MemStreams
 pub mod HostStreams

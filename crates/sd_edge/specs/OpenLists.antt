@@ -9,6 +9,7 @@ use Rattle.sd_edge.specs.declared.open_lists.OpenList.TheVariants.{Unfinished, A
 use Rattle.sd_edge.specs.declared.open_lists.OpenLists.{OpenLists}
 use Rattle.sd_edge.specs.Calls.{count_after}
 use Rattle.sd_edge.specs.Tree.{Tree}
+use Rattle.sd_edge.specs.Outcomes.{Outcomes}
 use Rattle.sd_edge.specs.Disk as told
 use Rattle.sd_edge.specs.Disk.{DiskState}
 
@@ -80,9 +81,11 @@ module _ {L : Type 0} where
     told_at lists number = option_map told_list (list_at lists number)
 
     -- what a disk tells with these lists
-    abbrev pub state_with : Tree → ℕ → OpenLists L → DiskState
-    state_with tree faults lists = record {
+    abbrev pub state_with : Tree → ℕ → (ℕ → Outcomes) → ℕ → OpenLists L → DiskState
+    state_with tree clock outcomes faults lists = record {
       tree = tree;
+      clock = clock;
+      outcomes = outcomes;
       faults = faults;
       listed = lists.listed;
       open_list = told_at lists;

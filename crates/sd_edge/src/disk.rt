@@ -2,9 +2,9 @@
 
 ghost use Rattle.std.specs.Prelude.{◌≡◌, ◌≢◌, Bool, true, IsTrue, IfOk, IfErr, OnOk, OnErr, IsErrOf, IfSome, IfNone, ◌⊎◌};
 ghost use Rattle.sd_edge.specs.Tree.{IsTree};
-ghost use Rattle.sd_edge.specs.Disk.{DiskState, SameTree, SameLists, HasCause};
+ghost use Rattle.sd_edge.specs.Disk.{DiskState, SameTree, SameLists, HasCause, HoldsPresent};
 ghost use Rattle.sd_edge.specs.Files.{LeadsNowhere, Describes, Identifies, Resolves, IsNoFile, Reads, Creates, CannotCreate, IsTaken, Writes, MayHaveWritten, Syncs, Renames, CannotRename, MayHaveRenamed, Removes, CannotRemove};
-ghost use Rattle.sd_edge.specs.Lists.{IsOpen, IsUnfinished, SameOtherLists, SameOpen, Opens, IsNoDirectory, ListsDirectory, Ends, Gives, GivesNext, HasNoneLeft, PassesOver, PassesOverNext, IsFull, Closes};
+ghost use Rattle.sd_edge.specs.Lists.{IsOpen, IsUnfinished, SameOtherLists, SameOpen, Opens, IsNoDirectory, ListsDirectory, SyncsFolder, Ends, Gives, GivesNext, HasNoneLeft, PassesOver, PassesOverNext, IsFull, Closes};
 
 use crate::{DiskFault, Ident, ListId, Meta, RawEntry, Text};
 use std::alloc::Global;
@@ -157,7 +157,21 @@ pub trait Disk {
         ensures lists { SameLists (state self.old) (state self.new) }
         ensures cause { HasCause tells (state self.old) (state self.new) result };
 
+    /// Puts the names in the directory that a path leads to on the medium. From then on a crash leaves each file directly
+    /// in it as its own outcomes say, and nothing where nothing stands. Refuses `Absent` exactly where no directory
+    /// stands there.
+    fn sync_dir(&mut self, path: &str) -> Result<(), DiskFault>
+        ensures synced { IsTrue tells → OnOk result (SyncsFolder (state self.old) path.now (state self.new)) }
+        ensures absent { IsTrue tells → IsErrOf result DiskFault.Absent → IsNoDirectory (state self.old) path.now }
+        ensures not_taken { result ≢ Err DiskFault.Taken }
+        ensures refused { OnErr result (SameTree (state self.old) (state self.new)) }
+        ensures lists { SameLists (state self.old) (state self.new) }
+        ensures cause { HasCause tells (state self.old) (state self.new) result };
+
     /// The tree that it tells is one: parents are directories, names are names, each directory has its own identity,
     /// and its order has each of its names once.
     ghost is_tree: { (disk : Self) → IsTrue tells → IsTree (state disk).tree };
+
+    /// What stands at a place is one of the outcomes that it tells.
+    ghost holds_present: { (disk : Self) → IsTrue tells → HoldsPresent (state disk) };
 }

@@ -2,7 +2,6 @@
 //! in memory and its form on the host.
 #![tactic(auto)]
 
-mod client;
 mod disk;
 mod examples;
 mod fault;
@@ -11,6 +10,7 @@ mod laws;
 mod memory;
 mod meta;
 mod open_lists;
+mod outcome_examples;
 mod path_texts;
 mod stream;
 
@@ -27,6 +27,9 @@ pub use laws::{
 };
 pub use memory::{MemDisk, MemSink, MemSource};
 pub use meta::{Ident, Kind, ListId, Meta, RawEntry};
+pub use outcome_examples::{
+    files_are_exchanged_as_in_the_examples, files_leave_outcomes_behind_as_in_the_examples,
+};
 pub use path_texts::{
     texts_of_places_below_a_folder, texts_of_places_hold_their_names, texts_of_places_lead_there,
     texts_of_places_name_them,

@@ -306,10 +306,11 @@ renames_ways old from to new r =
 
 -- a write that failed
 pub may_write_ways : (old : DiskState) (path : List ℕ) (new : DiskState) → MayHaveWritten old path new → SameWays old.tree new.tree
-may_write_ways old path new (inl same) = same_ways old.tree new.tree same.tree
+may_write_ways old path new (inl (none, same)) = same_ways old.tree new.tree same.tree
 may_write_ways old path new (inr wrote) = writes_ways old path wrote.0 new wrote.1
 
 -- a rename that failed
 pub may_rename_ways : (old : DiskState) (from to : List ℕ) (new : DiskState) → MayHaveRenamed old from to new → SameWays old.tree new.tree
-may_rename_ways old from to new (inl same) = same_ways old.tree new.tree same.tree
-may_rename_ways old from to new (inr moved) = renames_ways old from to new moved
+may_rename_ways old from to new (inl (none, same)) = same_ways old.tree new.tree same.tree
+may_rename_ways old from to new (inr (inl not)) = same_ways old.tree new.tree not.tree
+may_rename_ways old from to new (inr (inr moved)) = renames_ways old from to new moved

@@ -9,6 +9,7 @@ use Rattle.sd_edge.specs.declared.open_lists.OpenLists.{OpenLists}
 use Rattle.sd_edge.specs.Calls.{count_after}
 use Rattle.sd_edge.specs.Count.{IsAtLast}
 use Rattle.sd_edge.specs.Tree.{Tree}
+use Rattle.sd_edge.specs.Outcomes.{Outcomes}
 use Rattle.sd_edge.specs.Disk as told
 use Rattle.sd_edge.specs.Disk.{SameLists}
 use Rattle.sd_edge.specs.Lists.{Opens, Ends, Gives}
@@ -52,9 +53,9 @@ module _ {L : Type 0} (left_of : L → List RawEntry) where
   pub counted_told : (old mid new : OpenLists L) → KeepsTold left_of old mid → new ≡ record mid { listed = count_after mid.listed } → (k : ℕ) → told_at left_of new k ≡ told_at left_of old k
   counted_told old mid new kept counted k = ap (λ (lists : OpenLists L). told_at left_of lists k) counted ∙ told_each old mid kept k
 
-module _ {L : Type 0} (left_of : L → List RawEntry) (t u : Tree) (f g : ℕ) where
+module _ {L : Type 0} (left_of : L → List RawEntry) (t u : Tree) (m n : ℕ) (o p : ℕ → Outcomes) (f g : ℕ) where
   -- lists that are the same are told the same
-  pub same_lists : (old new : OpenLists L) → SameOpenLists old new → SameLists (state_with left_of t f old) (state_with left_of u g new)
+  pub same_lists : (old new : OpenLists L) → SameOpenLists old new → SameLists (state_with left_of t m o f old) (state_with left_of u n p g new)
   same_lists old new h = record {
     listed = h.listed;
     open_list = ap (λ (at : ℕ → Option (OpenList L)). λ number. option_map (told_list left_of) (at number)) h.lists;
@@ -63,7 +64,7 @@ module _ {L : Type 0} (left_of : L → List RawEntry) (t u : Tree) (f g : ℕ) w
   }
 
   -- a list that was added is told as opened
-  pub opens : (old new : OpenLists L) (entries : L) (number : ℕ) → AddsList old entries number new → Opens (state_with left_of t f old) number (state_with left_of u g new)
+  pub opens : (old new : OpenLists L) (entries : L) (number : ℕ) → AddsList old entries number new → Opens (state_with left_of t m o f old) number (state_with left_of u n p g new)
   opens old new entries number h = record {
     was_free = ap (option_map (told_list left_of)) h.was_free;
     left = left_of entries;
@@ -75,7 +76,7 @@ module _ {L : Type 0} (left_of : L → List RawEntry) (t u : Tree) (f g : ℕ) w
   }
 
   -- a list that was put at its end is told so
-  pub ends : (old mid new : OpenLists L) (number : ℕ) → KeepsTold left_of old mid → PutsList mid number AtEnd new → Ends (state_with left_of t f old) number (state_with left_of u g new)
+  pub ends : (old mid new : OpenLists L) (number : ℕ) → KeepsTold left_of old mid → PutsList mid number AtEnd new → Ends (state_with left_of t m o f old) number (state_with left_of u n p g new)
   ends old mid new number kept puts = record {
     listed = puts.listed ∙ kept.listed;
     left = _;
@@ -84,7 +85,7 @@ module _ {L : Type 0} (left_of : L → List RawEntry) (t u : Tree) (f g : ℕ) w
 
   -- a list that isn't at its end gives an entry, once it is counted
   pub gives : (old mid new : OpenLists L) (number : ℕ) → is_ended (list_at old number) ≡ false → KeepsTold left_of old mid → new ≡ record mid { listed = count_after mid.listed }
-      → (IsAtLast old.listed → ⊥) → Gives (state_with left_of t f old) number (state_with left_of u g new)
+      → (IsAtLast old.listed → ⊥) → Gives (state_with left_of t m o f old) number (state_with left_of u n p g new)
   gives old mid new number unfinished kept counted below = record {
     left = was.0;
     was = was.1;

@@ -109,6 +109,23 @@ fn check_own_file<R: Files>(rt: &R, counter: &mut FaultCounter, path: &str) -> R
     }
 }
 
+/// Refuses where something else than a directory stands where a path leads.
+fn check_directory<R: Files>(
+    rt: &R,
+    counter: &mut FaultCounter,
+    path: &str,
+) -> Result<(), DiskFault>
+    ensures counted { IsCounted counter.old.faults counter.new.faults result }
+    ensures not_taken { result ≢ Err DiskFault.Taken }
+{
+    let metadata = counter.counted(fs::metadata(rt, path))?;
+    if metadata.is_dir() {
+        Ok(())
+    } else {
+        Err(counter.refusal(DiskFault::Absent))
+    }
+}
+
 /// The kind of a node, by what the host tells of it.
 fn kind_of(metadata: &Metadata) -> Kind
     ensures { IsOfKind metadata.now result }
@@ -172,7 +189,7 @@ fn write<R: Files>(rt: &R, path: &str, bytes: &[u8]) -> io::Result<()> {
         .write_all(bytes)
 }
 
-/// Puts a file's bytes on the medium.
+/// Puts a file's bytes on the medium, or a directory's names.
 fn sync<R: Files>(rt: &R, path: &str) -> io::Result<()> {
     fs::open(rt, path)?.sync_all()
 }
@@ -237,6 +254,8 @@ impl<R: Files + AllocGlobal + Clone + Drop> Disk for HostDisk<R> {
     ghost state = { host_state };
 
     ghost is_tree = { λ disk told. absurd (false≢true told) };
+
+    ghost holds_present = { λ disk told. absurd (false≢true told) };
 
     fn stat(&mut self, path: &str, follow: bool) -> Result<Meta, DiskFault> {
         let answer = if follow {
@@ -357,5 +376,10 @@ impl<R: Files + AllocGlobal + Clone + Drop> Disk for HostDisk<R> {
         check_own_file(&self.rt, &mut self.counter, path)?;
         self.new_file = None;
         self.counter.counted(fs::remove_file(&self.rt, path))
+    }
+
+    fn sync_dir(&mut self, path: &str) -> Result<(), DiskFault> {
+        check_directory(&self.rt, &mut self.counter, path)?;
+        self.counter.counted(sync(&self.rt, path))
     }
 }

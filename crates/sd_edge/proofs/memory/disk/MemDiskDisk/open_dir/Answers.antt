@@ -7,7 +7,7 @@ use Rattle.sd_edge.proofs.memory.disk.DiskLemmas.{lists_directory}
 use Rattle.sd_edge.proofs.memory.disk.MemDiskDisk.open_dir.Goals as goal
 
 pub returns-in_err-open-clause-refused : goal.returns-in_err-open-clause-refused
-returns-in_err-open-clause-refused c = holds_on_err _ (same_lists _ _ _ _ _ _ _ c.in_err-open.ensures.refused)
+returns-in_err-open-clause-refused c = holds_on_err _ (same_lists _ _ _ _ _ _ _ _ _ _ _ c.in_err-open.ensures.refused)
 
 pub returns-clause-entries : goal.returns-clause-entries
 returns-clause-entries c =

@@ -1,2 +1,0 @@
--- What the proof about a file that is replaced uses.
-pub mod RewritingLemmas
