@@ -1,0 +1,2 @@
+-- What the proofs about the changes of a disk in memory use.
+pub mod ToldLemmas
