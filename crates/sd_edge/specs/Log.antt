@@ -7,6 +7,7 @@ use Rattle.sd_edge.specs.Tree.{Name, NameList, name_list_cmp, Content, directory
 use Rattle.sd_edge.specs.Outcomes.{Left, gone, this, any_file, Outcome, Outcomes, never_used, built, put, older, own_of, is_in, after_create, after_write, after_sync, after_move, after_no_move, after_remove, content_at}
 use Rattle.sd_edge.specs.Disk.{DiskState}
 use Rattle.sd_edge.specs.MemTrail.{dev_within}
+use Rattle.sd_edge.specs.MemSound.{bool_equation_prop, IsName-prop}
 use Rattle.sd_edge.specs.declared.memory.log.Change.{Change}
 use Rattle.sd_edge.specs.declared.memory.log.Change.TheVariants as change
 
@@ -127,6 +128,15 @@ pub record IsKept (tree : Tree) (outcomes : Outcomes) : Type 0 where
   pub tidy : (q : NameList) → is_tidy (content_at tree q) (outcomes q) ≡ true
   pub folders : (folder : NameList) (name : Name) → has_other (outcomes (folder ++ name ∷ [])) ≡ true → is_directory_at tree folder ≡ true
   pub names : (folder : NameList) (name : Name) → has_other (outcomes (folder ++ name ∷ [])) ≡ true → IsName name
+
+-- it has at most one proof
+pub IsKept-prop : (tree : Tree) (outcomes : Outcomes) → IsProp (IsKept tree outcomes)
+IsKept-prop tree outcomes a b = λ i. record {
+  present = λ q. bool_equation_prop _ _ (a.present q) (b.present q) i;
+  tidy = λ q. bool_equation_prop _ _ (a.tidy q) (b.tidy q) i;
+  folders = λ folder name e. bool_equation_prop _ _ (a.folders folder name e) (b.folders folder name e) i;
+  names = λ folder name e. IsName-prop name (a.names folder name e) (b.names folder name e) i;
+}
 
 -- ---- a crash by choice
 
