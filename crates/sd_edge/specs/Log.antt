@@ -1,10 +1,11 @@
 -- What a list of changes tells, and what a crash takes of it.
 use Rattle.std.specs.Prelude.{◌≡◌, ◌≢◌, ◌<◌, ◌↔◌, ◌&&◌, ◌==◌, ◌+◌, ◌-◌, ◌*◌, ◌/◌, ◌%◌, ◌^◌, ℕ, Bool, true, false, not, List, [], ◌∷◌, ◌++◌, length, map, Option, Some, None, take, slice_index_or, Contains}
+use Rattle.std.specs.Int.{w64, rotate_right}
 use Rattle.std.specs.List.{list_any, list_all}
 use Rattle.std.specs.List.Sorted.{IsStrictlySortedBy}
 use Rattle.std.specs.Str.{bytes_eq}
 use Rattle.sd_edge.specs.Tree.{Name, NameList, name_list_cmp, Content, directory, link, file, other, Node, Tree, IsName, is_directory_at}
-use Rattle.sd_edge.specs.Outcomes.{Left, gone, this, any_file, Outcome, Outcomes, never_used, built, put, older, own_of, is_in, after_create, after_write, after_sync, after_move, after_no_move, after_remove, content_at}
+use Rattle.sd_edge.specs.Outcomes.{Left, gone, this, any_file, Outcome, Outcomes, never_used, built, put, older, own_of, is_in, same_place, after_create, after_write, after_sync, after_move, after_no_move, after_remove, content_at}
 use Rattle.sd_edge.specs.Disk.{DiskState}
 use Rattle.sd_edge.specs.MemTrail.{dev_within}
 use Rattle.sd_edge.specs.MemSound.{bool_equation_prop, IsName-prop}
@@ -66,6 +67,18 @@ outcomes_after changes = after_all at_first changes
 -- the outcomes of each moment
 abbrev pub outcomes_by : List Change → ℕ → Outcomes
 outcomes_by changes moment = outcomes_after (take moment changes)
+
+-- what arrives at the place q with a change is the list of the place where it comes from
+abbrev pub IsArriving : Change → NameList → Outcomes → List Outcome → Type 0
+IsArriving (change.Created place) q outcomes arriving = Unit {0}
+IsArriving (change.Written place) q outcomes arriving = Unit {0}
+IsArriving (change.Synced place node) q outcomes arriving = Unit {0}
+IsArriving (change.Moved source target) q outcomes arriving = same_place q target ≡ true → arriving ≡ outcomes source
+IsArriving (change.NotMoved source target) q outcomes arriving = same_place q target ≡ true → arriving ≡ outcomes source
+IsArriving (change.Removed place) q outcomes arriving = Unit {0}
+IsArriving (change.FolderSynced folder) q outcomes arriving = Unit {0}
+IsArriving (change.Built place node) q outcomes arriving = Unit {0}
+IsArriving (change.DeviceSet place dev) q outcomes arriving = Unit {0}
 
 -- the disk's clock and outcomes are those of the changes
 pub record Tells (changes : List Change) (state : DiskState) : Type 0 where
@@ -145,13 +158,9 @@ crash_content gone = None
 crash_content (this node) = Some node.content
 crash_content any_file = Some (file (0 ∷ []) 0)
 
--- 64 bits rotated right by n places, n below 64
-abbrev pub rotated : ℕ → ℕ → ℕ
-rotated choice n = choice / 2 ^ n + choice % 2 ^ n * 2 ^ (64 - n)
-
 -- what the place that is the i-th with an outcome other than absent takes
 abbrev pub chosen : ℕ → ℕ → List Outcome → Left
-chosen choice i outcomes = (slice_index_or outcomes (rotated choice (i % 64) % length outcomes) (older gone)).left
+chosen choice i outcomes = (slice_index_or outcomes (rotate_right w64 choice (i % 64) % length outcomes) (older gone)).left
 
 -- The image of a choice: the places that have an outcome other than absent are counted in order, and each takes one of its outcomes by its number.
 pub record IsCrash (outcomes : Outcomes) (choice : ℕ) (image : Tree) : Type 0 where

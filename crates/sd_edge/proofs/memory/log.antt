@@ -2,4 +2,5 @@
 pub mod ToldLemmas
 pub mod TestLemmas
 pub mod ChangeLemmas
-pub mod NewDeviceLemmas
+pub mod DeviceKeptLemmas
+pub mod CrashLemmas
