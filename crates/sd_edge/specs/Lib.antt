@@ -20,6 +20,8 @@ pub mod MemNodeView
 pub mod MemTree
 pub mod MemSound
 pub mod MemTreeView
+pub mod Log
+pub mod LogRoom
 pub mod MemWalk
 pub mod MemTrail
 pub mod MemDisk

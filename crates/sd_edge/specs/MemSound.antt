@@ -22,7 +22,7 @@ pub record IsSound (top : Node) (nodes : List (NameList × Node)) (next : ℕ) :
 
 -- ---- each has at most one proof
 
-bool_equation_prop : (a b : Bool) → IsProp (a ≡ b)
+pub bool_equation_prop : (a b : Bool) → IsProp (a ≡ b)
 bool_equation_prop = Coded-set coded_bool
 
 place_equation_prop : (p q : NameList) → IsProp (p ≡ q)
@@ -31,7 +31,7 @@ place_equation_prop = Coded-set (coded_list (coded_list coded_ℕ))
 never_prop : {A : Type 0} → IsProp (A → ⊥)
 never_prop f g = λ i e. let same : f e ≡ g e = absurd (f e) in same i
 
-IsName-prop : (name : Name) → IsProp (IsName name)
+pub IsName-prop : (name : Name) → IsProp (IsName name)
 IsName-prop name a b = λ i. record {
   nonempty = never_prop a.nonempty b.nonempty i;
   no_slash = never_prop a.no_slash b.no_slash i;

@@ -2,6 +2,7 @@
 
 mod calls;
 mod disk;
+mod log;
 mod node;
 mod path;
 mod place;

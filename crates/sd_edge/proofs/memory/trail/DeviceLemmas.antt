@@ -60,12 +60,12 @@ begins_front (name ∷ place) (first ∷ front) last apart = by (bytes_eq name f
     by true same rest = rest (λ e. apart (λ i. sym (same refl) i ∷ e i))
 
 -- what comes after the names
-begins_more : (place rest : NameList) → begins_with place (place ++ rest) ≡ true
+pub begins_more : (place rest : NameList) → begins_with place (place ++ rest) ≡ true
 begins_more [] rest = refl
 begins_more (name ∷ place) rest = ap (λ b. cond b (begins_with place (place ++ rest)) false) ((bytes_decides name name).1 refl) ∙ begins_more place rest
 
 -- a place that begins with the names is they and a rest
-rest_of : (place q : NameList) → begins_with place q ≡ true → (rest : NameList) × (q ≡ place ++ rest)
+pub rest_of : (place q : NameList) → begins_with place q ≡ true → (rest : NameList) × (q ≡ place ++ rest)
 rest_of [] q e = (q, refl)
 rest_of (name ∷ place) [] e = absurd (false≢true e)
 rest_of (name ∷ place) (next ∷ q) e = by (bytes_eq name next) (bytes_decides name next).0 (rest_of place q) e
@@ -76,7 +76,7 @@ rest_of (name ∷ place) (next ∷ q) e = by (bytes_eq name next) (bytes_decides
 
 -- ---- a node with another device
 
-same_content : (place : NameList) (dev : ℕ) (q : NameList) (node : Node) → (dev_within place dev q node).content ≡ node.content
+pub same_content : (place : NameList) (dev : ℕ) (q : NameList) (node : Node) → (dev_within place dev q node).content ≡ node.content
 same_content place dev q node = elim (begins_with place q) as (λ b. (cond b (record node { dev = dev }) node).content ≡ node.content) [ true ↦ refl | false ↦ refl ]
 
 same_ino : (place : NameList) (dev : ℕ) (q : NameList) (node : Node) → (dev_within place dev q node).ino ≡ node.ino

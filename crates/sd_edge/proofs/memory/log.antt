@@ -1,0 +1,6 @@
+-- What the proofs about the changes of a disk in memory use.
+pub mod ToldLemmas
+pub mod TestLemmas
+pub mod ChangeLemmas
+pub mod DeviceKeptLemmas
+pub mod CrashLemmas
