@@ -24,6 +24,9 @@ pub mod Log
 pub mod LogRoom
 pub mod MemWalk
 pub mod MemTrail
+pub mod LogHolds
+pub mod Medium
 pub mod MemDisk
+pub mod MemHolds
 pub use Rattle.sd_base.specs.Steps
 pub use Rattle.sd_base.specs.StepsView

@@ -1,17 +1,19 @@
 -- What a disk in memory tells.
-use Rattle.std.specs.Prelude.{◌≡◌, ◌≢◌, ◌+◌, ◌⊎◌, ℕ, true, false, List, [], ◌∷◌, reverse, Some, None, Result, Err, IsErrOf, Contains}
+use Rattle.std.specs.Prelude.{◌≡◌, ◌≢◌, ◌+◌, ◌⊎◌, ℕ, true, false, List, [], ◌∷◌, length, reverse, Option, Some, None, Result, Err, IsErrOf}
 use Rattle.std.specs.Global.{Vec}
 use Rattle.sd_edge.specs.declared.meta.RawEntry.{RawEntry}
 use Rattle.sd_edge.specs.Disk as told
-use Rattle.sd_edge.specs.Disk.{DiskState, SameTree, SameLists, HasCause}
+use Rattle.sd_edge.specs.Outcomes.{built, put}
+use Rattle.sd_edge.specs.Disk.{DiskState, SameTree, SameLists, HasCause, Advances, outcomes_now}
 use Rattle.sd_edge.specs.declared.fault.DiskFault.{DiskFault}
 use Rattle.sd_edge.specs.declared.fault.DiskFault.TheVariants.{Failed}
-use Rattle.sd_edge.specs.Calls.{count_after}
+use Rattle.sd_edge.specs.Calls.{count_after, FailsAt}
 use Rattle.sd_edge.specs.Lists.{IsUnfinished, IsFull, Passes, Ends, HasNoneLeft}
-use Rattle.sd_edge.specs.Tree.{NameList, Content, directory, file, Tree, node_at}
-use Rattle.sd_edge.specs.Paths.{named}
+use Rattle.sd_edge.specs.Tree.{NameList, Content, directory, file, Node, Tree, node_at}
+use Rattle.sd_edge.specs.Paths.{named, reached_plain}
 use Rattle.sd_edge.specs.Files.{file_of}
 use Rattle.sd_edge.specs.MemTree.{tree_of, IsFreePlace, Adds, AddsName}
+use Rattle.sd_edge.specs.Log.{outcomes_by, after_device}
 use Rattle.sd_edge.specs.OpenLists.{state_with}
 use Rattle.sd_edge.specs.declared.memory.disk.MemDisk.{MemDisk}
 
@@ -26,11 +28,17 @@ pub record TakesLast (old : told.OpenList) (entry : RawEntry) (new : told.OpenLi
   pub now : new ≡ record { is_at_end = false; left = rest }
 
 abbrev pub mem_state : MemDisk → DiskState
-mem_state d = state_with left_entries (tree_of d.tree.top d.tree.nodes.entries) d.counter.faults d.lists
+mem_state d =
+    let changes = d.medium.log.changes.items in
+    state_with left_entries (tree_of d.medium.tree.top d.medium.tree.nodes.entries) (length changes) (outcomes_by changes) d.counter.faults d.lists
 
 -- the calls that are to fail, by their numbers
 abbrev pub failing_calls : MemDisk → List ℕ
 failing_calls d = d.counter.failing.items
+
+-- the call from which all are to fail
+abbrev pub stop_of : MemDisk → Option ℕ
+stop_of d = d.counter.stop
 
 -- how many calls were counted
 abbrev pub calls_of : MemDisk → ℕ
@@ -38,7 +46,7 @@ calls_of d = d.counter.calls
 
 -- the inode number of the next node that is added
 abbrev pub next_number : MemDisk → ℕ
-next_number d = d.tree.next_ino
+next_number d = d.medium.tree.next_ino
 
 -- ---- a new disk
 
@@ -52,6 +60,8 @@ pub record IsTopAlone (tree : Tree) : Type 0 where
 pub record IsUnused (d : MemDisk) : Type 0 where
   pub calls : calls_of d ≡ 0
   pub failing : failing_calls d ≡ []
+  pub stop : stop_of d ≡ None
+  pub clock : (mem_state d).clock ≡ 0
   pub faults : (mem_state d).faults ≡ 0
   pub listed : (mem_state d).listed ≡ 0
   pub open_list : (number : ℕ) → (mem_state d).open_list number ≡ None
@@ -66,14 +76,18 @@ pub record KeepsCounts (old new : MemDisk) : Type 0 where
   pub lists : SameLists (mem_state old) (mem_state new)
   pub calls : calls_of new ≡ calls_of old
   pub failing : failing_calls new ≡ failing_calls old
+  pub stop : stop_of new ≡ stop_of old
 
--- A node of this content stands at the free place of the path, with its folder's device and the next inode number.
+-- A node of this content stands at the free place of the path, with its folder's device and the next inode number. A crash leaves it.
 pub record Builds (old : MemDisk) (path : List ℕ) (content : Content) (new : MemDisk) : Type 0 where
   pub place : NameList
   pub was_free : IsFreePlace (mem_state old).tree path place
   pub adds : Adds (mem_state old).tree place content (next_number old) (mem_state new).tree
   pub order : AddsName (mem_state old).tree place (mem_state new).tree
   pub number : next_number new ≡ next_number old + 1
+  pub node : Node
+  pub stands : node_at (mem_state new).tree place ≡ Some node
+  pub advances : Advances (mem_state old) (mem_state new) (put place (built node) (outcomes_now (mem_state old)))
 
 -- An empty file with the mode of the one that `like` leads to stands at the place that the path names, with its folder's device and the
 -- next inode number; its name comes last.
@@ -87,6 +101,12 @@ pub record BuildsLike (old : MemDisk) (path like : List ℕ) (new : MemDisk) : T
   pub order : AddsName (mem_state old).tree place (mem_state new).tree
   pub number : next_number new ≡ next_number old + 1
 
+-- Every node that a crash may leave where the path leads, no link followed, or below has this device.
+pub record SetsDevice (old : DiskState) (path : List ℕ) (dev : ℕ) (new : DiskState) : Type 0 where
+  pub place : NameList
+  pub leads : reached_plain old.tree path ≡ Some place
+  pub advances : Advances old new (after_device place dev (outcomes_now old))
+
 -- the tree and the next number are as before
 pub record KeepsTree (old new : MemDisk) : Type 0 where
   pub tree : SameTree (mem_state old) (mem_state new)
@@ -94,14 +114,15 @@ pub record KeepsTree (old new : MemDisk) : Type 0 where
 
 -- ---- what the counted calls do
 
--- the next call is among those that are to fail
+-- the next call is to fail
 abbrev pub IsToFail : MemDisk → Type 0
-IsToFail d = Contains (failing_calls d) (count_after (calls_of d))
+IsToFail d = FailsAt (failing_calls d) (stop_of d) (count_after (calls_of d))
 
 -- One more call is counted, and one more fault just where it answers `Failed`; its refusal has its cause.
 pub record CountsCall {T : Type 0} (old : MemDisk) (result : Result T DiskFault) (new : MemDisk) : Type 0 where
   pub calls : calls_of new ≡ count_after (calls_of old)
   pub failing : failing_calls new ≡ failing_calls old
+  pub stop : stop_of new ≡ stop_of old
   pub failed : IsErrOf result Failed → (mem_state new).faults ≡ count_after (mem_state old).faults
   pub not_failed : result ≢ Err Failed → (mem_state new).faults ≡ (mem_state old).faults
   pub cause : HasCause true (mem_state old) (mem_state new) result

@@ -3,6 +3,7 @@
 mod calls;
 mod disk;
 mod log;
+mod medium;
 mod node;
 mod path;
 mod place;

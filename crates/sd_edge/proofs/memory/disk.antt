@@ -2,3 +2,6 @@
 pub mod DiskLemmas
 pub mod WritingLemmas
 pub mod AloneLemmas
+pub mod MomentLemmas
+pub mod RenamingLemmas
+pub mod ChangingLemmas

@@ -2,5 +2,6 @@
 pub mod StepLemmas
 pub mod RoundLemmas
 pub mod NamedLemmas
+pub mod PlainLemmas
 pub mod FreePlaceLemmas
 pub mod StandLemmas

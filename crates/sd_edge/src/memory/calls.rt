@@ -1,8 +1,8 @@
 //! Counted calls, and which of them are to fail.
 
-ghost use Rattle.std.specs.Prelude.{◌≡◌, ◌≢◌, ◌+◌, ◌≤◌, ◌↔◌, ◌++◌, ◌∷◌, [], IsTrue, OnOk, OnErr, IfErr, IfOk, IsErr, Contains};
+ghost use Rattle.std.specs.Prelude.{◌≡◌, ◌≤◌, ◌↔◌, ◌++◌, ◌∷◌, [], None, Some, IsTrue, OnOk, OnErr, IfErr, IsErr};
 ghost use Rattle.sd_edge.specs.Count.{HasRisen};
-ghost use Rattle.sd_edge.specs.Calls.{count_after};
+ghost use Rattle.sd_edge.specs.Calls.{count_after, earliest, IsStopped, FailsAt};
 
 use crate::{DiskFault, NoMemory};
 use std::alloc::Global;
@@ -13,6 +13,8 @@ pub struct CallCounter {
     pub calls: u64,
     pub faults: u64,
     pub failing: Vec<u64>,
+    /// The first call from which all fail.
+    pub stop: Option<u64>,
 }
 
 impl CallCounter {
@@ -20,11 +22,13 @@ impl CallCounter {
         ensures calls { result.calls ≡ 0 }
         ensures faults { result.faults ≡ 0 }
         ensures failing { result.failing.items ≡ [] }
+        ensures stop { result.stop ≡ None }
     {
         CallCounter {
             calls: 0,
             faults: 0,
             failing: Vec::new(alloc),
+            stop: None,
         }
     }
 
@@ -32,6 +36,7 @@ impl CallCounter {
     pub fn fail_at(&mut self, call: u64) -> Result<(), NoMemory>
         ensures added { OnOk result (self.new.failing.items ≡ self.old.failing.items ++ call ∷ []) }
         ensures refused { OnErr result (self.new.failing.items ≡ self.old.failing.items) }
+        ensures stop { self.new.stop ≡ self.old.stop }
         ensures calls { self.new.calls ≡ self.old.calls }
         ensures faults { self.new.faults ≡ self.old.faults }
     {
@@ -39,15 +44,40 @@ impl CallCounter {
         Ok(())
     }
 
+    /// That call and all later ones are to fail.
+    pub fn stop_at(&mut self, call: u64)
+        ensures stop { self.new.stop ≡ Some (earliest self.old.stop call) }
+        ensures failing { self.new.failing.items ≡ self.old.failing.items }
+        ensures calls { self.new.calls ≡ self.old.calls }
+        ensures faults { self.new.faults ≡ self.old.faults }
+    {
+        let first = match self.stop {
+            None => call,
+            Some(stop) => stop.min(call),
+        };
+        self.stop = Some(first);
+    }
+
+    /// Whether all calls from this one on fail.
+    fn is_stopped(&self) -> bool
+        ensures { IsTrue result ↔ IsStopped self.now.stop self.now.calls }
+    {
+        match self.stop {
+            None => false,
+            Some(stop) => stop <= self.calls,
+        }
+    }
+
     /// Counts one more call, and answers whether it is to fail.
     pub fn count(&mut self) -> bool
-        ensures to_fail { IsTrue result ↔ Contains self.old.failing.items (count_after self.old.calls) }
+        ensures to_fail { IsTrue result ↔ FailsAt self.old.failing.items self.old.stop (count_after self.old.calls) }
         ensures calls { self.new.calls ≡ count_after self.old.calls }
         ensures faults { self.new.faults ≡ self.old.faults }
         ensures failing { self.new.failing.items ≡ self.old.failing.items }
+        ensures stop { self.new.stop ≡ self.old.stop }
     {
         self.calls = self.calls.saturating_add(1);
-        self.failing.contains(&self.calls)
+        self.failing.contains(&self.calls) || self.is_stopped()
     }
 
     /// Counts one more fault.
@@ -58,6 +88,7 @@ impl CallCounter {
         ensures later { self.old.faults ≤ self.new.faults }
         ensures calls { self.new.calls ≡ self.old.calls }
         ensures failing { self.new.failing.items ≡ self.old.failing.items }
+        ensures stop { self.new.stop ≡ self.old.stop }
     {
         self.faults = self.faults.saturating_add(1);
         DiskFault::Failed
@@ -65,7 +96,7 @@ impl CallCounter {
 
     /// Counts one more call, and fails where it is to fail.
     pub fn pass(&mut self) -> Result<(), DiskFault>
-        ensures to_fail { IsErr result ↔ Contains self.old.failing.items (count_after self.old.calls) }
+        ensures to_fail { IsErr result ↔ FailsAt self.old.failing.items self.old.stop (count_after self.old.calls) }
         ensures fault { IfErr result (λ fault. fault ≡ DiskFault.Failed) }
         ensures passed { OnOk result (self.new.faults ≡ self.old.faults) }
         ensures failed { OnErr result (self.new.faults ≡ count_after self.old.faults) }
@@ -73,6 +104,7 @@ impl CallCounter {
         ensures later { self.old.faults ≤ self.new.faults }
         ensures calls { self.new.calls ≡ count_after self.old.calls }
         ensures failing { self.new.failing.items ≡ self.old.failing.items }
+        ensures stop { self.new.stop ≡ self.old.stop }
     {
         if self.count() {
             Err(self.fault())

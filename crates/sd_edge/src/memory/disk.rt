@@ -1,30 +1,33 @@
 //! A disk in memory.
 
-ghost use Rattle.std.specs.Prelude.{◌≡◌, ◌≢◌, ◌∷◌, ◌++◌, ◌+◌, ◌↔◌, [], List, ℕ, option_map, IfSome, IfNone, IsSome, IsNone, IfOk, IfErr, OnOk, OnErr, IsErrOf, None};
+ghost use Rattle.std.specs.Prelude.{◌≡◌, ◌≢◌, ◌∷◌, ◌++◌, ◌+◌, ◌↔◌, [], List, ℕ, ◌⊎◌, option_map, IfSome, IfNone, IsSome, IsNone, IfOk, IfErr, OnOk, OnErr, IsErrOf, Some, None};
 ghost use Rattle.std.specs.Global.{Vec};
 ghost use Rattle.sd_edge.specs.Tree.{directory, link, file, other};
 ghost use Rattle.sd_edge.specs.Paths.{reached_plain, plain_file};
 ghost use Rattle.sd_edge.specs.OpenLists.{list_at, told_list, SameOpenLists, TakesEntry, EndsList};
 ghost use Rattle.sd_edge.specs.MemNode.{content_of};
 ghost use Rattle.sd_edge.specs.MemTree.{HasNoFreePlace, PutsDeviceAt};
-ghost use Rattle.sd_edge.specs.Disk.{SameTree, SameLists};
-ghost use Rattle.sd_edge.specs.Files.{file_of, LeadsNowhere, Describes, Identifies, Resolves, IsNoFile, Reads, Creates, CannotCreate, IsTaken, Writes, Renames, CannotRename, Removes, CannotRemove};
-ghost use Rattle.sd_edge.specs.Lists.{IsOpen, SameOtherLists, SameOpen, Opens, IsNoDirectory, ListsDirectory, Ends, HasNoneLeft, Closes};
-ghost use Rattle.sd_edge.specs.MemDisk.{mem_state, left_entries, TakesLast, failing_calls, calls_of, next_number, IsTopAlone, IsUnused, Builds, BuildsLike, KeepsTree, KeepsCounts, IsToFail, FailsToGive, TakesNext, Skips, CountsCall};
+ghost use Rattle.sd_edge.specs.Disk.{SameTree, SameLists, outcomes_now};
+ghost use Rattle.sd_edge.specs.Log.{at_first};
+ghost use Rattle.sd_edge.specs.Calls.{earliest};
+ghost use Rattle.sd_edge.specs.Files.{LeadsNowhere, Describes, Identifies, Resolves, IsNoFile, Reads, Creates, CannotCreate, IsTaken, Writes, MayHaveWritten, Syncs, Renames, CannotRename, MayHaveRenamed, Removes, CannotRemove};
+ghost use Rattle.sd_edge.specs.Lists.{IsOpen, SameOtherLists, SameOpen, Opens, IsNoDirectory, ListsDirectory, SyncsFolder, Ends, HasNoneLeft, Closes};
+ghost use Rattle.sd_edge.specs.MemDisk.{mem_state, left_entries, TakesLast, failing_calls, stop_of, calls_of, next_number, IsTopAlone, IsUnused, Builds, BuildsLike, SetsDevice, KeepsTree, KeepsCounts, IsToFail, FailsToGive, TakesNext, Skips, CountsCall};
 
 use crate::memory::calls::CallCounter;
+use crate::memory::medium::Medium;
 use crate::memory::node::MemContent;
-use crate::memory::tree::MemTree;
 use crate::open_lists::{OpenList, OpenLists};
 use crate::{BuildFault, Disk, DiskFault, Ident, ListId, Meta, NoMemory, RawEntry, Text};
 use std::alloc::Global;
 
-/// A disk in memory, which tells its tree and counts its calls from 1. Every call but `close_dir` is counted, and fails
-/// where its number is chosen by `fail_at`. A directory's order is that of inode numbers.
+/// A disk in memory, which tells its tree and what a crash may leave of it, and counts its calls from 1. Every call but
+/// `close_dir` is counted, and fails where its number is chosen by `fail_at` or comes at that of `stop_at` or after.
+/// A directory's order is that of inode numbers.
 #[derive(Drop)]
 pub struct MemDisk {
     alloc: Global,
-    tree: MemTree,
+    medium: Medium,
     /// Each with what it hasn't given yet, the next one last.
     lists: OpenLists<Vec<RawEntry>>,
     counter: CallCounter,
@@ -36,10 +39,11 @@ impl MemDisk {
         ensures tree { IsTopAlone (mem_state result).tree }
         ensures number { next_number result ≡ 2 }
         ensures unused { IsUnused result }
+        ensures outcomes { outcomes_now (mem_state result) ≡ at_first }
     {
         MemDisk {
             alloc,
-            tree: MemTree::new(alloc),
+            medium: Medium::new(alloc),
             lists: OpenLists::new(alloc),
             counter: CallCounter::new(alloc),
         }
@@ -52,9 +56,8 @@ impl MemDisk {
         ensures refused { OnErr result (KeepsTree self.old self.new) }
         ensures counts { KeepsCounts self.old self.new }
     {
-        let place = self.tree.free_place(path)?;
-        self.tree.add(place, content)?;
-        Ok(())
+        let place = self.medium.tree.free_place(path)?;
+        Ok(self.medium.build(place, content)?)
     }
 
     /// Adds a directory.
@@ -99,27 +102,30 @@ impl MemDisk {
         self.add(path, MemContent::Other)
     }
 
-    /// Gives the node at a path and all nodes below it another device. No link is followed.
+    /// Gives the node at a path and all nodes below it another device, and so every node that a crash may leave there or
+    /// below. No link is followed.
     pub fn set_dev(&mut self, path: &str, dev: u64) -> Result<(), BuildFault>
         ensures put { OnOk result (PutsDeviceAt (mem_state self.old).tree path.now dev (mem_state self.new).tree) }
-        ensures bad_path { OnErr result (reached_plain (mem_state self.old).tree path.now ≡ None) }
-        ensures only_bad_path { IfErr result (λ fault. fault ≡ BuildFault.BadPath) }
+        ensures outcomes { OnOk result (SetsDevice (mem_state self.old) path.now dev (mem_state self.new)) }
+        ensures bad_path { IsErrOf result BuildFault.BadPath → reached_plain (mem_state self.old).tree path.now ≡ None }
         ensures refused { OnErr result (SameTree (mem_state self.old) (mem_state self.new)) }
         ensures number { next_number self.new ≡ next_number self.old }
         ensures counts { KeepsCounts self.old self.new }
     {
-        if self.tree.put_dev(path, dev) {
+        if self.medium.set_dev(path, dev)? {
             Ok(())
         } else {
             Err(BuildFault::BadPath)
         }
     }
 
-    /// That counted call answers `Failed` and does nothing. Where it is `next_entry`, it passes over the next entry, or
-    /// puts a list without one at its end; on a list that is at its end already it answers `None`.
+    /// That counted call is to fail: it answers `Failed`, and does nothing but to leave to a crash what its refusal may
+    /// leave. Where it is `next_entry`, it passes over the next entry, or puts a list without one at its end; on a list
+    /// that is at its end already it answers `None`.
     pub fn fail_at(&mut self, call: u64) -> Result<(), NoMemory>
         ensures added { OnOk result (failing_calls self.new ≡ failing_calls self.old ++ call ∷ []) }
         ensures refused { OnErr result (failing_calls self.new ≡ failing_calls self.old) }
+        ensures stop { stop_of self.new ≡ stop_of self.old }
         ensures told { mem_state self.new ≡ mem_state self.old }
         ensures calls { calls_of self.new ≡ calls_of self.old }
         ensures number { next_number self.new ≡ next_number self.old }
@@ -127,11 +133,22 @@ impl MemDisk {
         self.counter.fail_at(call)
     }
 
+    /// That counted call and all later ones are to fail, as those of `fail_at` are. An earlier stop holds still.
+    pub fn stop_at(&mut self, call: u64)
+        ensures stop { stop_of self.new ≡ Some (earliest (stop_of self.old) call) }
+        ensures failing { failing_calls self.new ≡ failing_calls self.old }
+        ensures told { mem_state self.new ≡ mem_state self.old }
+        ensures calls { calls_of self.new ≡ calls_of self.old }
+        ensures number { next_number self.new ≡ next_number self.old }
+    {
+        self.counter.stop_at(call);
+    }
+
     /// The bytes of the regular file at a path, or `None` where there is none. No link is followed.
     pub fn read_all(&self, alloc: Global, path: &str) -> Result<Option<Vec<u8>>, NoMemory>
         ensures { IfOk result (λ bytes. option_map (λ (v : Vec ℕ). v.items) bytes ≡ option_map (λ (f : List ℕ × ℕ). f.0) (plain_file (mem_state self.now).tree path.now)) }
     {
-        match self.tree.file(path) {
+        match self.medium.tree.file(path) {
             None => Ok(None),
             Some((bytes, _)) => Ok(Some(bytes.to_vec(alloc)?)),
         }
@@ -141,7 +158,7 @@ impl MemDisk {
     pub fn mode_at(&self, path: &str) -> Option<u32>
         ensures { result ≡ option_map (λ (f : List ℕ × ℕ). f.1) (plain_file (mem_state self.now).tree path.now) }
     {
-        match self.tree.file(path) {
+        match self.medium.tree.file(path) {
             None => None,
             Some((_, mode)) => Some(mode),
         }
@@ -203,12 +220,15 @@ fn take_next(lists: &mut OpenLists<Vec<RawEntry>>, number: u64) -> Option<RawEnt
 
 impl Disk for MemDisk {
     ghost use Rattle.std.specs.Prelude.{true};
+    ghost use Rattle.sd_edge.specs.MemHolds.{holds};
 
     ghost tells = { true };
 
     ghost state = { mem_state };
 
-    ghost is_tree = { λ disk told. disk.tree.sound.is_tree };
+    ghost is_tree = { λ disk told. disk.medium.tree.sound.is_tree };
+
+    ghost holds_present = { λ disk told. holds disk };
 
     fn stat(&mut self, path: &str, follow: bool) -> Result<Meta, DiskFault>
         ensures answer { IfOk result (Describes (mem_state self.old) path.now follow) }
@@ -220,10 +240,10 @@ impl Disk for MemDisk {
         ensures counts { CountsCall self.old result self.new }
     {
         self.counter.pass()?;
-        let Some(place) = self.tree.reached(path, follow)? else {
+        let Some(place) = self.medium.tree.reached(path, follow)? else {
             return Err(DiskFault::Absent);
         };
-        match self.tree.node(&place) {
+        match self.medium.tree.node(&place) {
             None => Err(DiskFault::Absent),
             Some(node) => Ok(node.meta()),
         }
@@ -239,10 +259,10 @@ impl Disk for MemDisk {
         ensures counts { CountsCall self.old result self.new }
     {
         self.counter.pass()?;
-        let Some(place) = self.tree.reached(path, true)? else {
+        let Some(place) = self.medium.tree.reached(path, true)? else {
             return Err(DiskFault::Absent);
         };
-        match self.tree.node(&place) {
+        match self.medium.tree.node(&place) {
             None => Err(DiskFault::Absent),
             Some(node) => Ok(node.ident()),
         }
@@ -258,7 +278,7 @@ impl Disk for MemDisk {
         ensures counts { CountsCall self.old result self.new }
     {
         self.counter.pass()?;
-        match self.tree.reached(path, true)? {
+        match self.medium.tree.reached(path, true)? {
             None => Err(DiskFault::Absent),
             Some(place) => Ok(place.path()?),
         }
@@ -275,13 +295,13 @@ impl Disk for MemDisk {
         ensures counts { CountsCall self.old result self.new }
     {
         self.counter.pass()?;
-        let Some(place) = self.tree.reached(path, true)? else {
+        let Some(place) = self.medium.tree.reached(path, true)? else {
             return Err(DiskFault::Absent);
         };
-        if !self.tree.is_directory(&place) {
+        if !self.medium.tree.is_directory(&place) {
             return Err(DiskFault::Absent);
         }
-        let mut entries = self.tree.entries(&place)?;
+        let mut entries = self.medium.tree.entries(&place)?;
         entries.reverse();
         Ok(self.lists.open(entries)?)
     }
@@ -320,6 +340,7 @@ impl Disk for MemDisk {
         ensures faults { (mem_state self.new).faults ≡ (mem_state self.old).faults }
         ensures calls { calls_of self.new ≡ calls_of self.old }
         ensures failing { failing_calls self.new ≡ failing_calls self.old }
+        ensures stop { stop_of self.new ≡ stop_of self.old }
     {
         self.lists.close(list.number);
     }
@@ -334,10 +355,10 @@ impl Disk for MemDisk {
         ensures counts { CountsCall self.old result self.new }
     {
         self.counter.pass()?;
-        let Some(place) = self.tree.reached(path, true)? else {
+        let Some(place) = self.medium.tree.reached(path, true)? else {
             return Err(DiskFault::Absent);
         };
-        match self.tree.bytes(&place) {
+        match self.medium.tree.bytes(&place) {
             None => Err(DiskFault::Absent),
             Some(bytes) => Ok(bytes.to_vec(alloc)?),
         }
@@ -354,56 +375,67 @@ impl Disk for MemDisk {
         ensures counts { CountsCall self.old result self.new }
     {
         self.counter.pass()?;
-        let Some(model) = self.tree.reached(like, true)? else {
+        let Some(model) = self.medium.tree.reached(like, true)? else {
             return Err(DiskFault::Absent);
         };
-        let Some(mode) = self.tree.mode(&model) else {
+        let Some(mode) = self.medium.tree.mode(&model) else {
             return Err(DiskFault::Absent);
         };
-        let Some(place) = self.tree.named(path)? else {
+        let Some(place) = self.medium.tree.named(path)? else {
             return Err(DiskFault::Absent);
         };
-        if self.tree.node(&place).is_some() {
+        if self.medium.tree.node(&place).is_some() {
             return Err(DiskFault::Taken);
         }
-        let content = MemContent::File(Vec::new(self.alloc), mode);
-        Ok(self.tree.add(place, content)?)
+        Ok(self.medium.create(place, mode)?)
     }
 
     fn write_file(&mut self, path: &str, bytes: &[u8]) -> Result<(), DiskFault>
         ensures written { OnOk result (Writes (mem_state self.old) path.now bytes.now (mem_state self.new)) }
         ensures absent { IsErrOf result DiskFault.Absent → IsNoFile (mem_state self.old) path.now }
         ensures not_taken { result ≢ Err DiskFault.Taken }
-        ensures refused { OnErr result (SameTree (mem_state self.old) (mem_state self.new)) }
+        ensures failed { IsErrOf result DiskFault.Failed → MayHaveWritten (mem_state self.old) path.now (mem_state self.new) }
+        ensures refused { IfErr result (λ fault. fault ≢ DiskFault.Failed → SameTree (mem_state self.old) (mem_state self.new)) }
+        ensures tree { OnErr result ((mem_state self.new).tree ≡ (mem_state self.old).tree) }
         ensures number { next_number self.new ≡ next_number self.old }
         ensures lists { SameLists (mem_state self.old) (mem_state self.new) }
-        ensures fails { IsErrOf result DiskFault.Failed ↔ IsToFail self.old }
+        ensures fails { IsErrOf result DiskFault.Failed → IsToFail self.old }
+        ensures to_fail { IsToFail self.old → IsErrOf result DiskFault.Failed ⊎ IsErrOf result DiskFault.NoMemory }
         ensures counts { CountsCall self.old result self.new }
     {
-        self.counter.pass()?;
-        let Some(place) = self.tree.reached(path, true)? else {
+        if self.counter.count() {
+            self.medium.spoil(path)?;
+            return Err(self.counter.fault());
+        }
+        let Some(place) = self.medium.tree.reached(path, true)? else {
             return Err(DiskFault::Absent);
         };
-        if !self.tree.is_file(&place) {
+        if !self.medium.tree.is_file(&place) {
             return Err(DiskFault::Absent);
         }
         let copy = bytes.to_vec(self.alloc)?;
-        self.tree.put_bytes(&place, copy);
-        Ok(())
+        Ok(self.medium.write(place, copy)?)
     }
 
     fn sync(&mut self, path: &str) -> Result<(), DiskFault>
-        ensures synced { OnOk result (IsSome (file_of (mem_state self.old).tree path.now)) }
+        ensures synced { OnOk result (Syncs (mem_state self.old) path.now (mem_state self.new)) }
         ensures absent { IsErrOf result DiskFault.Absent → IsNoFile (mem_state self.old) path.now }
         ensures not_taken { result ≢ Err DiskFault.Taken }
-        ensures tree { KeepsTree self.old self.new }
+        ensures failed { IsErrOf result DiskFault.Failed → MayHaveWritten (mem_state self.old) path.now (mem_state self.new) }
+        ensures refused { IfErr result (λ fault. fault ≢ DiskFault.Failed → SameTree (mem_state self.old) (mem_state self.new)) }
+        ensures tree { (mem_state self.new).tree ≡ (mem_state self.old).tree }
+        ensures number { next_number self.new ≡ next_number self.old }
         ensures lists { SameLists (mem_state self.old) (mem_state self.new) }
-        ensures fails { IsErrOf result DiskFault.Failed ↔ IsToFail self.old }
+        ensures fails { IsErrOf result DiskFault.Failed → IsToFail self.old }
+        ensures to_fail { IsToFail self.old → IsErrOf result DiskFault.Failed ⊎ IsErrOf result DiskFault.NoMemory }
         ensures counts { CountsCall self.old result self.new }
     {
-        self.counter.pass()?;
-        match self.tree.reached(path, true)? {
-            Some(place) if self.tree.is_file(&place) => Ok(()),
+        if self.counter.count() {
+            self.medium.spoil(path)?;
+            return Err(self.counter.fault());
+        }
+        match self.medium.tree.reached(path, true)? {
+            Some(place) if self.medium.tree.is_file(&place) => Ok(self.medium.sync(place)?),
             _ => Err(DiskFault::Absent),
         }
     }
@@ -412,26 +444,23 @@ impl Disk for MemDisk {
         ensures renamed { OnOk result (Renames (mem_state self.old) from.now to.now (mem_state self.new)) }
         ensures absent { IsErrOf result DiskFault.Absent → CannotRename (mem_state self.old) from.now to.now }
         ensures not_taken { result ≢ Err DiskFault.Taken }
-        ensures refused { OnErr result (SameTree (mem_state self.old) (mem_state self.new)) }
+        ensures failed { IsErrOf result DiskFault.Failed → MayHaveRenamed (mem_state self.old) from.now to.now (mem_state self.new) }
+        ensures refused { IfErr result (λ fault. fault ≢ DiskFault.Failed → SameTree (mem_state self.old) (mem_state self.new)) }
+        ensures tree { OnErr result ((mem_state self.new).tree ≡ (mem_state self.old).tree) }
         ensures number { next_number self.new ≡ next_number self.old }
         ensures lists { SameLists (mem_state self.old) (mem_state self.new) }
-        ensures fails { IsErrOf result DiskFault.Failed ↔ IsToFail self.old }
+        ensures fails { IsErrOf result DiskFault.Failed → IsToFail self.old }
+        ensures to_fail { IsToFail self.old → IsErrOf result DiskFault.Failed ⊎ IsErrOf result DiskFault.NoMemory }
         ensures counts { CountsCall self.old result self.new }
     {
-        self.counter.pass()?;
-        let Some(source) = self.tree.named(from)? else {
-            return Err(DiskFault::Absent);
-        };
-        if !self.tree.is_file(&source) {
-            return Err(DiskFault::Absent);
+        if self.counter.count() {
+            self.medium.unsettle(from, to)?;
+            return Err(self.counter.fault());
         }
-        let Some(target) = self.tree.named(to)? else {
-            return Err(DiskFault::Absent);
-        };
-        if self.tree.node(&target).is_some() && !self.tree.is_file(&target) {
-            return Err(DiskFault::Absent);
+        match self.medium.ends(from, to)? {
+            None => Err(DiskFault::Absent),
+            Some((source, target)) => Ok(self.medium.rename(source, target)?),
         }
-        Ok(self.tree.rename(&source, target)?)
     }
 
     fn remove(&mut self, path: &str) -> Result<(), DiskFault>
@@ -445,10 +474,26 @@ impl Disk for MemDisk {
         ensures counts { CountsCall self.old result self.new }
     {
         self.counter.pass()?;
-        match self.tree.named(path)? {
-            Some(place) if self.tree.is_file(&place) => {
-                self.tree.remove(&place);
-                Ok(())
+        match self.medium.tree.named(path)? {
+            Some(place) if self.medium.tree.is_file(&place) => Ok(self.medium.remove(place)?),
+            _ => Err(DiskFault::Absent),
+        }
+    }
+
+    fn sync_dir(&mut self, path: &str) -> Result<(), DiskFault>
+        ensures synced { OnOk result (SyncsFolder (mem_state self.old) path.now (mem_state self.new)) }
+        ensures absent { IsErrOf result DiskFault.Absent → IsNoDirectory (mem_state self.old) path.now }
+        ensures not_taken { result ≢ Err DiskFault.Taken }
+        ensures refused { OnErr result (SameTree (mem_state self.old) (mem_state self.new)) }
+        ensures number { next_number self.new ≡ next_number self.old }
+        ensures lists { SameLists (mem_state self.old) (mem_state self.new) }
+        ensures fails { IsErrOf result DiskFault.Failed ↔ IsToFail self.old }
+        ensures counts { CountsCall self.old result self.new }
+    {
+        self.counter.pass()?;
+        match self.medium.tree.reached(path, true)? {
+            Some(place) if self.medium.tree.is_directory(&place) => {
+                Ok(self.medium.sync_folder(place)?)
             }
             _ => Err(DiskFault::Absent),
         }

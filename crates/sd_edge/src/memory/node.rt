@@ -1,11 +1,12 @@
 //! A node of a disk in memory.
 
-ghost use Rattle.std.specs.Prelude.{◌≡◌, Option, Some, None, option_map, is_some, IfSome, IfNone, IsTrue};
+ghost use Rattle.std.specs.Prelude.{◌≡◌, Option, Some, None, option_map, is_some, IfOk, IfSome, IfNone, IsTrue};
 ghost use Rattle.sd_edge.specs.Tree.{directory, is_directory_content, file_content};
 ghost use Rattle.sd_edge.specs.Files.{kind_of, len_of};
 ghost use Rattle.sd_edge.specs.MemNode.{content_of, with_bytes, now_of, link_target};
 
-use crate::{Ident, Kind, Meta, Text};
+use crate::{Ident, Kind, Meta, NoMemory, Text};
+use std::alloc::Global;
 use std::marker::Model;
 
 /// What a node is.
@@ -17,6 +18,19 @@ pub enum MemContent {
     /// A regular file with its bytes and its mode.
     File(Vec<u8>, u32),
     Other,
+}
+
+impl MemContent {
+    pub fn try_clone(&self, alloc: Global) -> Result<MemContent, NoMemory>
+        ensures { IfOk result (λ copy. content_of copy ≡ content_of self.now) }
+    {
+        match self {
+            MemContent::Directory => Ok(MemContent::Directory),
+            MemContent::Link(target) => Ok(MemContent::Link(Text::new(alloc, target.as_str())?)),
+            MemContent::File(bytes, mode) => Ok(MemContent::File(bytes.to_vec(alloc)?, *mode)),
+            MemContent::Other => Ok(MemContent::Other),
+        }
+    }
 }
 
 /// A node with the numbers of its device and its inode.
@@ -42,6 +56,16 @@ impl MemNode {
         ensures { result ≡ record { content = content_of content; dev = dev; ino = ino } }
     {
         MemNode { content, dev, ino }
+    }
+
+    pub fn try_clone(&self, alloc: Global) -> Result<MemNode, NoMemory>
+        ensures { IfOk result (λ copy. copy ≡ self.now) }
+    {
+        Ok(MemNode {
+            content: self.content.try_clone(alloc)?,
+            dev: self.dev,
+            ino: self.ino,
+        })
     }
 
     pub fn kind(&self) -> Kind

@@ -96,6 +96,15 @@ impl MemTree {
         }
     }
 
+    /// The next node that is added, where it is added at this place.
+    pub fn next_node(&self, place: &Place, content: MemContent) -> Result<MemNode, NoMemory>
+        ensures { IfOk result (λ node. node ≡ record { content = content_of content; dev = dev_at (mem_tree self.now) (parent_of place.now); ino = self.now.next_ino }) }
+    {
+        let mut folder = place.try_clone()?;
+        folder.leave();
+        Ok(MemNode::new(content, self.dev(&folder), self.next_ino))
+    }
+
     /// Adds a node at a free place in a directory, with the directory's device and the next inode number. Out of numbers
     /// is out of memory.
     pub fn add(&mut self, place: Place, content: MemContent) -> Result<(), NoMemory>
@@ -110,9 +119,7 @@ impl MemTree {
         if self.next_ino == u64::MAX {
             return Err(NoMemory);
         }
-        let mut folder = place.try_clone()?;
-        folder.leave();
-        let node = MemNode::new(content, self.dev(&folder), self.next_ino);
+        let node = self.next_node(&place, content)?;
         self.nodes.insert(place, node)?;
         self.next_ino += 1;
         Ok(())

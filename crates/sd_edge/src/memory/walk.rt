@@ -2,7 +2,7 @@
 
 ghost use Rattle.std.specs.Prelude.{◌≡◌, List, ℕ, [], map, reverse, IfOk, IfSome, IsErrOf};
 ghost use Rattle.std.specs.Borrow.{Bor};
-ghost use Rattle.sd_edge.specs.Paths.{Linking, steps, followed, reached, named, links_most};
+ghost use Rattle.sd_edge.specs.Paths.{Linking, steps, followed, reached, reached_plain, named, links_most};
 ghost use Rattle.sd_edge.specs.MemTree.{IsPlaceIn, IsFreePlace, HasNoFreePlace};
 ghost use Rattle.sd_edge.specs.MemTreeView.{mem_tree};
 ghost use Rattle.sd_edge.specs.MemWalk.{led_to};
@@ -96,6 +96,22 @@ impl MemTree {
         let mut parts = parts_of(self.alloc, path)?;
         parts.reverse();
         self.follow(parts, follow_last)
+    }
+
+    /// The place that a path leads to where no link is followed.
+    pub fn reached_plain(&self, path: &str) -> Result<Option<Place>, NoMemory>
+        ensures { IfOk result (λ place. place ≡ reached_plain (mem_tree self.now) path.now) }
+    {
+        if path.is_empty() {
+            return Ok(None);
+        }
+        let mut parts = parts_of(self.alloc, path)?;
+        parts.reverse();
+        let mut at = Place::top(self.alloc);
+        match self.advance(&mut at, &mut parts, false)? {
+            Stop::Arrived => Ok(Some(at)),
+            Stop::Nowhere | Stop::Link(_) => Ok(None),
+        }
     }
 
     /// The place that a path names itself, where its folder is a directory.

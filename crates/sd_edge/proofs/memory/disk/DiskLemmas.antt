@@ -9,17 +9,21 @@ use Rattle.std.proofs.lemmas.Option.{same_Some}
 use Rattle.sd_edge.specs.declared.meta.RawEntry.{RawEntry}
 use Rattle.sd_edge.specs.Tree.{NameList, Node, Tree, IsTree, file, node_at, file_at, file_node, is_directory_at, name_list_cmp}
 use Rattle.sd_edge.specs.Paths.{reached, named, Leads}
-use Rattle.sd_edge.specs.Disk.{DiskState}
+use Rattle.sd_edge.specs.Outcomes.{after_create}
+use Rattle.sd_edge.specs.Disk.{DiskState, Advances, outcomes_now}
 use Rattle.sd_edge.specs.Files.{path_text, Resolves, Reads, Creates, CannotRename}
 use Rattle.sd_edge.specs.Lists.{ListsDirectory, TellAll}
 use Rattle.std.specs.Borrow.{Bor}
 use Rattle.sd_edge.specs.MemNode.{now_of}
 use Rattle.sd_edge.specs.MemTree.{Adds, AddsName, tree_of, listing}
+use Rattle.sd_edge.specs.declared.memory.log.Change.TheVariants as change
+use Rattle.sd_edge.specs.Medium.{Notes}
 use Rattle.sd_edge.specs.declared.memory.disk.MemDisk.{MemDisk}
 use Rattle.sd_edge.specs.MemDisk.{mem_state, next_number, BuildsLike}
 use Rattle.sd_edge.proofs.memory.tree.ListedLemmas.{listing_tells}
 use Rattle.sd_edge.proofs.memory.tree.OrderLemmas.{orders_added}
 use Rattle.sd_edge.proofs.memory.walk.StandLemmas.{reached_stands}
+use Rattle.sd_edge.proofs.memory.disk.MomentLemmas.{advances}
 
 -- the node of a name list at which something stands
 node_of : (o : Option Node) → IsSome o → (node : Node) × (o ≡ Some node)
@@ -71,10 +75,10 @@ reads state path found place b bytes leads is held some =
     (here.0, file_where state.tree (reached state.tree path true) place (sym leads ∙ is) ∙ here.1)
 
 -- an empty file with the mode of another is added, last in its folder
-pub builds_like : (old new : MemDisk) (path like : List ℕ) (found other : Option NameList) (model place : NameList) (m : Option ℕ) (mode : ℕ) (bytes : List ℕ) → found ≡ reached (mem_state old).tree like true → found ≡ Some model
-    → m ≡ option_map (λ (f : List ℕ × ℕ). f.1) (file_at (mem_state old).tree model) → m ≡ Some mode → other ≡ named (mem_state old).tree path → other ≡ Some place → bytes ≡ []
-    → Adds (mem_state old).tree place (file bytes mode) (next_number old) (mem_state new).tree → AddsName (mem_state old).tree place (mem_state new).tree → next_number new ≡ next_number old + 1 → BuildsLike old path like new
-builds_like old new path like found other model place m mode bytes leads is held some names there none adds order number =
+pub builds_like : (old new : MemDisk) (path like : List ℕ) (found other : Option NameList) (model place : NameList) (m : Option ℕ) (mode : ℕ) → found ≡ reached (mem_state old).tree like true → found ≡ Some model
+    → m ≡ option_map (λ (f : List ℕ × ℕ). f.1) (file_at (mem_state old).tree model) → m ≡ Some mode → other ≡ named (mem_state old).tree path → other ≡ Some place
+    → Adds (mem_state old).tree place (file [] mode) (next_number old) (mem_state new).tree → AddsName (mem_state old).tree place (mem_state new).tree → next_number new ≡ next_number old + 1 → BuildsLike old path like new
+builds_like old new path like found other model place m mode leads is held some names there adds order number =
     let before = (mem_state old).tree in
     let here = file_with_mode (file_at before model) m mode held some in
     record {
@@ -83,26 +87,28 @@ builds_like old new path like found other model place m mode bytes leads is held
       bytes = here.0;
       mode = mode;
       model = file_where before (reached before like true) model (sym leads ∙ is) ∙ here.1;
-      adds = subst (λ (empty : List ℕ). Adds before place (file empty mode) (next_number old) (mem_state new).tree) none adds;
+      adds = adds;
       order = order;
       number = number;
     }
 
 -- so a new file is created, where nothing stood
-pub creates : (old new : MemDisk) (path like : List ℕ) (other : Option NameList) (place : NameList) → other ≡ named (mem_state old).tree path → other ≡ Some place → node_at (mem_state old).tree place ≡ None → BuildsLike old path like new
-    → Creates (mem_state old) path like (mem_state new)
-creates old new path like other place names there free b =
+pub creates : (old new : MemDisk) (path like : List ℕ) (other : Option NameList) (place : NameList) → other ≡ named (mem_state old).tree path → other ≡ Some place → node_at (mem_state old).tree place ≡ None
+    → Notes old.medium (change.Created place) new.medium → BuildsLike old path like new → Creates (mem_state old) path like (mem_state new)
+creates old new path like other place names there free noted b =
     let before = (mem_state old).tree in
+    let here : place ≡ b.place = same_Some place b.place (sym there ∙ names ∙ b.names) in
     record {
       place = b.place;
       names = b.names;
-      was_free = ap (node_at before) (same_Some b.place place (sym b.names ∙ sym names ∙ there)) ∙ free;
+      was_free = ap (node_at before) (sym here) ∙ free;
       bytes = b.bytes;
       mode = b.mode;
       model = b.model;
       stands = ap file_node b.adds.stands;
       others = b.adds.others;
       orders = orders_added before (mem_state new).tree b.place b.order;
+      advances = subst (λ (q : NameList). Advances (mem_state old) (mem_state new) (after_create q (outcomes_now (mem_state old)))) here (advances old new (change.Created place) noted);
     }
 
 -- what is something and no file

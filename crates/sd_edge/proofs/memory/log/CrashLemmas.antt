@@ -7,7 +7,7 @@ use Rattle.sd_edge.specs.Tree.{NameList, Content, Tree}
 use Rattle.sd_edge.specs.Outcomes.{Left, gone, this, any_file, Outcome, older, Outcomes, Fits, Leaves, own_of, content_at}
 use Rattle.sd_edge.proofs.laws.OutcomeLemmas.{leaves_own}
 use Rattle.sd_edge.specs.Log.{is_left, IsKept, IsCrash, crash_content, is_gone, has_other}
-use Rattle.sd_edge.proofs.memory.log.TestLemmas.{any_leaves}
+use Rattle.sd_edge.specs.LogHolds.{any_leaves}
 
 choice_fits : (left : Left) → Fits left (crash_content left)
 choice_fits gone = refl

@@ -10,36 +10,10 @@ use Rattle.sd_edge.specs.Tree.{Content, directory, link, file, other, Node, file
 use Rattle.sd_edge.specs.Outcomes.{Left, gone, this, any_file, Outcome, own, older, Fits, Leaves, own_of, left_behind, settled, settled_left, alone, content_of}
 use Rattle.sd_edge.specs.Disk.{DiskState, HoldsPresent, outcomes_now}
 use Rattle.sd_edge.specs.Log.{same_content, fits_test, is_left, is_own_of, is_tidy, is_gone, has_other, alone_or_gone, alone_by_own, IsKept}
+use Rattle.sd_edge.specs.LogHolds.{both}
 use Rattle.sd_edge.proofs.laws.OutcomeLemmas.{own_append, own_behind, own_twice, own_settled}
 
-pub both : (a b : Bool) → (a && b) ≡ true → (a ≡ true) × (b ≡ true)
-both true true e = (refl, refl)
-both true false e = cc
-both false b e = cc
-
 -- ---- contents
-
-content_same : (c d : Content) → same_content c d ≡ true → c ≡ d
-content_same directory directory e = refl
-content_same directory (link t) e = cc
-content_same directory (file b m) e = cc
-content_same directory other e = cc
-content_same (link t) directory e = cc
-content_same (link s) (link t) e = ap link ((bytes_decides s t).0 e)
-content_same (link t) (file b m) e = cc
-content_same (link t) other e = cc
-content_same (file b m) directory e = cc
-content_same (file b m) (link t) e = cc
-content_same (file a m) (file b n) e =
-    let h = both (bytes_eq a b) (m == n) e in
-    let bytes = (bytes_decides a b).0 h.0 in
-    let mode : m ≡ n = eqb-true m n h.1 in
-    λ i. file (bytes i) (mode i)
-content_same (file b m) other e = cc
-content_same other directory e = cc
-content_same other (link t) e = cc
-content_same other (file b m) e = cc
-content_same other other e = refl
 
 number_itself : (n : ℕ) → (n == n) ≡ true
 number_itself n = grind (arith, nat_tests)
@@ -49,17 +23,6 @@ content_itself directory = refl
 content_itself (link t) = (bytes_decides t t).1 refl
 content_itself (file b m) = (λ i. (bytes_decides b b).1 refl i && (m == m)) ∙ number_itself m
 content_itself other = refl
-
-pub fits : (found : Option Content) (left : Left) → fits_test found left ≡ true → Fits left found
-fits None gone e = refl
-fits None (this node) e = cc
-fits None any_file e = cc
-fits (Some content) gone e = cc
-fits (Some content) (this node) e = ap (λ (c : Content). Some c) (content_same content node.content e)
-fits (Some directory) any_file e = cc
-fits (Some (link t)) any_file e = cc
-fits (Some (file b m)) any_file e = (b, m, refl)
-fits (Some other) any_file e = cc
 
 -- what fits something is not absent
 fits_other : (c : Content) (left : Left) → fits_test (Some c) left ≡ true → not (is_gone left) ≡ true
@@ -115,15 +78,6 @@ any_own f g (x ∷ xs) passes e = by (any_own f g xs passes) x.is_own x.left e
         → (g (record { is_own = b; left = left }) || list_any g xs) ≡ true
     by rest true left e = first (record { is_own = true; left = left }) (f (record { is_own = true; left = left })) (passes (record { is_own = true; left = left })) rest e
     by rest false left e = or_last (g (record { is_own = false; left = left })) (rest e)
-
-pub any_leaves : (found : Option Content) (outcomes : List Outcome) → list_any (λ outcome. fits_test found outcome.left) outcomes ≡ true → Leaves outcomes found
-any_leaves found [] e = cc
-any_leaves found (outcome ∷ outcomes) e = by (any_leaves found outcomes) (fits_test found outcome.left) refl e
-  where
-    by : (list_any (λ outcome. fits_test found outcome.left) outcomes ≡ true → Leaves outcomes found) → (b : Bool) → fits_test found outcome.left ≡ b
-        → (b || list_any (λ outcome. fits_test found outcome.left) outcomes) ≡ true → Fits outcome.left found ⊎ Leaves outcomes found
-    by rest true is h = inl (fits found outcome.left is)
-    by rest false is h = inr (rest h)
 
 -- what stands has an outcome other than absent
 pub standing_other : (c : Content) (xs : List Outcome) → is_left (Some c) xs ≡ true → has_other xs ≡ true
@@ -254,12 +208,3 @@ file_is (Some node) e = by node.content e
     by (link target) e = cc
     by (file b m) e = ((b, m), refl)
     by other e = cc
-
--- ---- the kept tests tell
-
--- what stands at each place is one of its outcomes
-pub kept_tells : (state : DiskState) → IsKept state.tree (outcomes_now state) → HoldsPresent state
-kept_tells state kept = record {
-  nothing = λ q none. any_leaves None (outcomes_now state q) (subst (λ o. is_left (content_of o) (outcomes_now state q) ≡ true) none (kept.present q));
-  stands = λ q node is. any_leaves (Some node.content) (own_of (outcomes_now state q)) (subst (λ o. is_left (content_of o) (outcomes_now state q) ≡ true) is (kept.present q));
-}

@@ -1,11 +1,11 @@
 -- A list of changes tells the outcomes of each moment.
 use Rattle.std.proofs.Common.{◌≡◌, ◌+◌, ◌≤◌, ℕ, List, [], ◌∷◌, ◌++◌, length, take, refl, sym, ◌∙◌, ap, arith, append-nil}
 use Rattle.std.proofs.lemmas.List.{take-append-le, length-append}
-use Rattle.std.proofs.Math.Seq.{take-append_seam}
 use Rattle.sd_edge.specs.Outcomes.{Outcomes}
 use Rattle.sd_edge.specs.Disk.{DiskState, Advances, outcomes_now}
 use Rattle.sd_edge.specs.declared.memory.log.Change.{Change}
-use Rattle.sd_edge.specs.Log.{after, after_all, at_first, outcomes_after, outcomes_by, Tells}
+use Rattle.sd_edge.specs.Log.{after, after_all, at_first, outcomes_after, Tells}
+use Rattle.sd_edge.specs.LogHolds.{now_of}
 
 after_all_last : (outcomes : Outcomes) (changes : List Change) (change : Change) → after_all outcomes (changes ++ change ∷ []) ≡ after change (after_all outcomes changes)
 after_all_last outcomes [] change = refl
@@ -15,16 +15,8 @@ after_all_last outcomes (first ∷ changes) change = after_all_last (after first
 pub after_last : (changes : List Change) (change : Change) → outcomes_after (changes ++ change ∷ []) ≡ after change (outcomes_after changes)
 after_last changes change = after_all_last at_first changes change
 
-take_whole : (changes : List Change) → take (length changes) changes ≡ changes
-take_whole changes = ap (take (length changes)) (sym (append-nil changes)) ∙ take-append_seam changes []
-
 one_longer : (changes : List Change) (change : Change) → length (changes ++ change ∷ []) ≡ length changes + 1
 one_longer changes change = omega (arith, length-append changes (change ∷ []))
-
--- the outcomes of this moment
-pub now_of : (changes : List Change) (state : DiskState) → Tells changes state → outcomes_now state ≡ outcomes_after changes
-now_of changes state t =
-    (λ i. t.outcomes i state.clock) ∙ ap (λ (k : ℕ). outcomes_by changes k) t.clock ∙ ap outcomes_after (take_whole changes)
 
 -- a disk whose clock and outcomes are told by changes advances by one with each that is noted
 pub noted_advances : (changes : List Change) (change : Change) (old new : DiskState) → Tells changes old → Tells (changes ++ change ∷ []) new → Advances old new (after change (outcomes_now old))

@@ -136,6 +136,7 @@ fn call(alloc: Global, disk: &mut MemDisk, number: u64) -> Result<(), DiskFault>
         7 => disk.write_file("/t/a.txt", b"1"),
         8 => disk.sync("/t/a.txt"),
         9 => disk.rename("/t/a.txt", "/t/c"),
+        10 => disk.sync_dir("/t"),
         _ => disk.remove("/t/a.txt"),
     }
 }
@@ -143,7 +144,7 @@ fn call(alloc: Global, disk: &mut MemDisk, number: u64) -> Result<(), DiskFault>
 #[test]
 fn each_call_fails_where_it_is_to_fail(rt: HostRuntime) -> Result<(), Fail> {
     let alloc = rt.alloc();
-    for number in 1..=10 {
+    for number in 1..=11 {
         let mut disk = linked(alloc)?;
         disk.fail_at(1)?;
         assert_eq!(rt;
@@ -160,5 +161,45 @@ fn each_call_fails_where_it_is_to_fail(rt: HostRuntime) -> Result<(), Fail> {
     let list = disk.open_dir("/t")?;
     assert!(rt; matches!(disk.next_entry(alloc, list), Err(DiskFault::Failed)));
     assert!(rt; disk.next_entry(alloc, list)?.is_none());
+    Ok(())
+}
+
+#[test]
+fn each_call_fails_from_a_stop_on(rt: HostRuntime) -> Result<(), Fail> {
+    let alloc = rt.alloc();
+    let mut disk = linked(alloc)?;
+    disk.stop_at(3);
+    disk.stop_at(5);
+    let list = disk.open_dir("/t")?;
+    assert!(rt; disk.next_entry(alloc, list)?.is_some());
+    for number in 1..=11 {
+        assert_eq!(rt;
+            call(alloc, &mut disk, number),
+            Err(DiskFault::Failed),
+            "call {number}"
+        );
+    }
+    assert!(rt; matches!(disk.next_entry(alloc, list), Err(DiskFault::Failed)));
+    assert!(rt; disk.next_entry(alloc, list)?.is_none());
+    assert_eq!(rt; disk.calls(), 15);
+    assert_eq!(rt; disk.faults(), 12);
+    assert_eq!(rt;
+        disk.read_all(alloc, "/t/a.txt")?
+            .ok_or("a file")?
+            .as_slice(),
+        b"one two one".as_slice()
+    );
+    Ok(())
+}
+
+#[test]
+fn directories_alone_have_names_to_sync(rt: HostRuntime) -> Result<(), Fail> {
+    let mut disk = linked(rt.alloc())?;
+    disk.sync_dir("/l")?;
+    disk.sync_dir("/")?;
+    for path in ["", "/x", "/t/a.txt", "/t/a.txt/.."] {
+        assert_eq!(rt; disk.sync_dir(path), Err(DiskFault::Absent), "{path}");
+    }
+    assert_eq!(rt; disk.sync("/t"), Err(DiskFault::Absent));
     Ok(())
 }

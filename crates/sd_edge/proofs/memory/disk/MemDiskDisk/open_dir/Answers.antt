@@ -12,5 +12,5 @@ returns-in_err-open-clause-refused c = holds_on_err _ (same_lists _ _ _ _ _ _ _ 
 pub returns-clause-entries : goal.returns-clause-entries
 returns-clause-entries c =
     let self = c.args.self.now in
-    lists_directory self.tree.top self.tree.nodes.entries (mem_state self) _ c.args.path.now c.in_ok-open.field-0.number _ c.in-Some.place _ _ c.reverse.new.self.items refl self.tree.sound.ordered
+    lists_directory self.medium.tree.top self.medium.tree.nodes.entries (mem_state self) _ c.args.path.now c.in_ok-open.field-0.number _ c.in-Some.place _ _ c.reverse.new.self.items refl self.medium.tree.sound.ordered
     c.in_ok-place.ensures c.in-Some.is c.is_directory.ensures c.if-not-is_directory.false c.in_ok-entries.ensures c.reverse.ensures.items (ap (option_map (told_list left_entries)) c.in_ok-open.ensures.added.opened)

@@ -6,5 +6,5 @@ use Rattle.sd_edge.proofs.memory.disk.MemDiskDisk.stat.Goals as goal
 
 pub returns-in-None-clause-absent : goal.returns-in-None-clause-absent
 returns-in-None-clause-absent c =
-    λ e. leads_to_something (mem_tree c.args.self.now.tree) c.args.self.now.tree.sound.is_tree c.args.path.now c.args.follow c.in-Some.place _ c.in_ok-place.ensures c.in-Some.is
+    λ e. leads_to_something (mem_tree c.args.self.now.medium.tree) c.args.self.now.medium.tree.sound.is_tree c.args.path.now c.args.follow c.in-Some.place _ c.in_ok-place.ensures c.in-Some.is
     (sym c.node.ensures ∙ ap now_of c.in-None.is)
