@@ -10,7 +10,7 @@ use Rattle.grep_matcher.specs.PlainLemmas.{text_lawful, text_end}
 use Rattle.grep_matcher.specs.Replaced.{replaced_from}
 use Rattle.sd_core.specs.Rewriting.{NewBytes}
 use Rattle.grep_matcher.proofs.CoverLemmas.{fair_cover_unique}
-use Rattle.sd_core.proofs.SearchLemmas.{take-append}
+use Rattle.sd_core.proofs.search.SearchLemmas.{take-append}
 use Rattle.grep_matcher.proofs.ReplacedLemmas.{own_bytes, from_start, within_cover}
 
 pub one_new_bytes : (find replacement bytes a b : List ℕ) (m n : ℕ) → NewBytes find replacement bytes a m → NewBytes find replacement bytes b n → (a ≡ b) × (m ≡ n)

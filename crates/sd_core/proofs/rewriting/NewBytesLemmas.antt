@@ -19,8 +19,8 @@ use Rattle.grep_matcher.proofs.CoverLemmas.{cover_from_chain}
 use Rattle.grep_matcher.specs.Plain.{end_of_text}
 use Rattle.grep_matcher.specs.PlainLemmas.{text_lawful}
 use Rattle.sd_core.specs.Temporary.{HasBytes, Exchanges, LeavesBytes}
-use Rattle.sd_core.proofs.FillingLemmas.{leads_to_file}
-use Rattle.sd_core.proofs.CreatingLemmas.{placed}
+use Rattle.sd_core.proofs.rewriting.FillingLemmas.{leads_to_file}
+use Rattle.sd_core.proofs.rewriting.CreatingLemmas.{placed}
 
 module _ (s0 : DiskState) (path find replacement bytes : List ℕ) (is : IsTree s0.tree) (it : IsFilePath s0.tree path) (reads : Reads s0 path bytes) where
   -- what is read is the file at the place

@@ -21,9 +21,9 @@ use Rattle.sd_edge.proofs.PathTextLemmas.{above, directory_stands, text_director
 use Rattle.sd_core.specs.declared.listing.Pending.{Pending}
 use Rattle.sd_core.specs.Chosen.{IsChosen, ListsChosen}
 use Rattle.sd_core.specs.Walk.{pending_in, StacksEntries, IsFolderAt, IsPendingAt, IsWithin, ListsBelow}
-use Rattle.sd_core.proofs.ChoiceLemmas.{child_text_below}
-use Rattle.sd_core.proofs.EntryLemmas.{names_of, strictly_sorted, told_names, each_told, in_from_any}
-use Rattle.sd_core.proofs.StackLemmas.{In, in_from_contains, contains_from_in, children_of, IsWalked, walk_start, walk_enter, walk_take, walk_pass, walk_end}
+use Rattle.sd_core.proofs.listing.ChoiceLemmas.{child_text_below}
+use Rattle.sd_core.proofs.listing.EntryLemmas.{names_of, strictly_sorted, told_names, each_told, in_from_any}
+use Rattle.sd_core.proofs.listing.StackLemmas.{In, in_from_contains, contains_from_in, children_of, IsWalked, walk_start, walk_enter, walk_take, walk_pass, walk_end}
 
 -- ---- kinds of nodes
 

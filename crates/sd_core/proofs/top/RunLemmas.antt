@@ -19,7 +19,7 @@ use Rattle.sd_core.specs.Words.{TreeOrder, tree_order}
 use Rattle.sd_core.specs.Globs.{IsValid, IsFirstInvalid}
 use Rattle.sd_core.specs.Headline.{HasNoRoom}
 use Rattle.sd_core.specs.Run.{HasRoom}
-use Rattle.sd_core.proofs.GlobsLemmas.{none_first}
+use Rattle.sd_core.proofs.sweep.GlobsLemmas.{none_first}
 
 -- where something stands is not nowhere
 stands_nowhere : (o : Option NameList) → IsSome o → o ≡ None → ⊥

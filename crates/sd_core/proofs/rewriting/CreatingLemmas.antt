@@ -14,7 +14,7 @@ use Rattle.sd_edge.specs.Disk.{DiskState, SameTree, SameLists, HasCause}
 use Rattle.sd_edge.specs.Files.{path_text, file_of, Creates, CannotCreate, IsTaken}
 use Rattle.sd_edge.proofs.PathLemmas.{reached_file}
 use Rattle.sd_edge.proofs.PathTextLemmas.{text_names}
-use Rattle.sd_core.proofs.FillingLemmas.{some_not_none}
+use Rattle.sd_core.proofs.rewriting.FillingLemmas.{some_not_none}
 use Rattle.sd_core.specs.Causes.{HasCauseOf}
 use Rattle.sd_core.specs.Rewriting.{hex_digit, reserved_name, reserved_names, IsFilePath, NoneFree}
 use Rattle.sd_core.specs.Temporary.{IsReservedPath, CreatesTemporary}

@@ -16,7 +16,7 @@ use Rattle.sd_edge.specs.Lists.{Tells, TellAll, ListsDirectory}
 use Rattle.sd_edge.specs.declared.meta.Kind.TheVariants as kind
 use Rattle.sd_edge.specs.declared.meta.RawEntry.{RawEntry}
 use Rattle.sd_core.specs.Walk.{HasLeft, ListsNames}
-use Rattle.sd_core.proofs.StackLemmas.{In, name_total}
+use Rattle.sd_core.proofs.listing.StackLemmas.{In, name_total}
 
 -- what is read of a new list are the directory's entries
 pub names_read : {V E : Type 0} (items : V → List RawEntry) (old new : DiskState) (path : List ℕ) (number : ℕ) (read : Result V E) → ListsDirectory old path number new

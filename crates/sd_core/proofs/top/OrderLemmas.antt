@@ -9,7 +9,7 @@ use Rattle.sd_edge.specs.Tree.{Tree}
 use Rattle.sd_core.specs.declared.report.Report.{Report}
 use Rattle.sd_core.specs.Words.{TreeOrder, tree_order, is_tree_form, is_plain_find, is_plain_replacement, is_value}
 use Rattle.sd_core.specs.Headline.{RewritesTree, LeavesTree}
-use Rattle.sd_core.proofs.SweepLemmas.{rewrites_leave}
+use Rattle.sd_core.proofs.sweep.SweepLemmas.{rewrites_leave}
 
 -- a find text that stands for itself isn't empty
 plain_is_long : (find : List ℕ) → is_plain_find find ≡ true → 0 < length find

@@ -5,7 +5,7 @@ use Rattle.std.specs.Cmp.{IsTotalOrder, tied_itself}
 use Rattle.sd_edge.specs.Tree.{NameList, Tree, name_list_cmp}
 use Rattle.sd_edge.specs.Files.{path_text}
 use Rattle.sd_core.specs.Chosen.{IsListOf, Chosen, ListsChosen}
-use Rattle.sd_core.proofs.StackLemmas.{In, in_from_contains, contains_from_in, in_from_all, place_total}
+use Rattle.sd_core.proofs.listing.StackLemmas.{In, in_from_contains, contains_from_in, in_from_all, place_total}
 
 -- what comes before itself isn't there
 not_less_itself : {X : Type 0} {c : X → X → Ordering} → IsTotalOrder c → (x : X) → c x x ≡ Less → {A : Type 0} → A

@@ -12,8 +12,8 @@ use Rattle.sd_edge.proofs.WayLemmas.{same_or_other, named_alike, file_has_no_way
 use Rattle.sd_edge.proofs.PathTextLemmas.{text_names}
 use Rattle.sd_core.specs.Rewriting.{reserved_name, IsFilePath, HasRisenBy, IsCleared}
 use Rattle.sd_core.specs.Temporary.{CreatesTemporary, AreTwoFiles, ChangesOnly, Moves, MayHaveMoved, IsRemoved, Exchanges, LeavesBytes}
-use Rattle.sd_core.proofs.FillingLemmas.{some_not_none}
-use Rattle.sd_core.proofs.CreatingLemmas.{placed, IsPlaced, reserved_is_name}
+use Rattle.sd_core.proofs.rewriting.FillingLemmas.{some_not_none}
+use Rattle.sd_core.proofs.rewriting.CreatingLemmas.{placed, IsPlaced, reserved_is_name}
 
 -- two faults were counted
 risen_twice : {a b c : ℕ} → HasRisen a b → HasRisen b c → HasRisenBy 2 a c

@@ -28,8 +28,8 @@ use Rattle.sd_core.specs.Words.{TreeOrder}
 use Rattle.sd_core.specs.Chosen.{Chosen, ListsChosen}
 use Rattle.sd_core.specs.Headline.{IsRewritten, RewritesOnly, change_of, CountsFile, Counts, RewritesTree, LeavesFiles, LeavesTree, HasNoRoomBeside, HasNoRoom}
 use Rattle.sd_core.specs.Sweep.{AreFilePaths, RewritesFiles}
-use Rattle.sd_core.proofs.FillingLemmas.{some_not_none}
-use Rattle.sd_core.proofs.StackLemmas.{In, in_from_contains, contains_from_in, place_total}
+use Rattle.sd_core.proofs.rewriting.FillingLemmas.{some_not_none}
+use Rattle.sd_core.proofs.listing.StackLemmas.{In, in_from_contains, contains_from_in, place_total}
 
 -- ---- files and places
 
