@@ -7,8 +7,6 @@
 mod closure;
 mod compile;
 mod later;
-#[cfg(test)]
-mod many_spots_tests;
 mod pass;
 mod plain;
 mod push;

@@ -1,6 +1,6 @@
 //! Patterns that are written out to many spots.
 
-use crate::{Bytes, Hir, Repeat, Searcher, Slots, group_count};
+use hir_core::{Bytes, Hir, Repeat, Searcher, Slots, group_count};
 use sd_base::NoMemory;
 use std::alloc::Global;
 use std::process::Abort;
