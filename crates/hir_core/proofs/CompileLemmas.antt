@@ -5,7 +5,7 @@ use Rattle.std.proofs.Math.ListN.{drop_of_length-le}
 use Rattle.hir_tree.specs.Core.{Core, empty, byte_in, char_in, look, group, pair, pair_all, choice, choice_all, copies, none, optional, plus, up_to, numbers}
 use Rattle.hir_tree.specs.declared.look.Look.{Look}
 use Rattle.hir_core.specs.Laid.{Lays, LaysEmpties, LaysFirst, Waits, IsProgram, GivesPreferred}
-use Rattle.hir_core.specs.Program.{spot_at, ClosesFall, Placed}
+use Rattle.hir_core.specs.Program.{spot_at, ClosesFall}
 use Rattle.hir_tree.specs.Runs.{begin, first, preferred}
 use Rattle.hir_core.specs.declared.spot.Spot.{Spot}
 use Rattle.hir_core.specs.declared.spot.Spot.TheVariants as spot

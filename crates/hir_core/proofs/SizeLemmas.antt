@@ -1,7 +1,6 @@
 -- How many numbers the cores of several parts take, and those of repeated parts, cut off at a limit.
-use Rattle.std.proofs.Common.{◌≡◌, ℕ, zero, suc, ◌+◌, ◌-◌, ◌*◌, ◌^◌, ◌<◌, ◌≤◌, min, max, Bool, true, false, List, [], ◌∷◌, map, length, drop, get_or, drop-cons, add-one, refl, sym, ap, ◌∙◌, inl, inr, arith}
+use Rattle.std.proofs.Common.{◌≡◌, ℕ, zero, suc, ◌+◌, ◌-◌, ◌*◌, ◌<◌, ◌≤◌, min, max, Bool, List, [], ◌∷◌, map, length, refl, ap, inl, inr, arith}
 use Rattle.std.proofs.lemmas.Bool.{cases_lt}
-use Rattle.std.proofs.Math.Nat.{mul-le-mul_left}
 use Rattle.hir_tree.specs.Core.{Core, empty, plus, at_least, optional, numbers, pair, pair_all, choice_all, one_byte, literal, copies, up_to, with_more}
 use Rattle.hir_core.specs.Laid.{total_numbers}
 use Rattle.hir_tree.proofs.CoreNumbersLemmas.{some_numbers, copies_numbers, optional_numbers, up_to_numbers}

@@ -1,5 +1,5 @@
-use Rattle.std.proofs.Common.{◌≡◌, ℕ, ◌+◌, ◌-◌, ◌<◌, [], ◌∷◌, ◌++◌, OnOk, map, true, false, length, ap, sym, ◌∙◌, subst, arith, rules}
-use Rattle.hir_tree.specs.Core.{Core, at_least, choice, choice_all, copies, empty, group, numbers, optional, pair, pair_all, plus, up_to, with_more}
+use Rattle.std.proofs.Common.{◌≡◌, ◌+◌, ◌-◌, [], ◌∷◌, ◌++◌, OnOk, map, true, false, ap, sym, ◌∙◌, subst, arith, rules}
+use Rattle.hir_tree.specs.Core.{Core, choice_all, copies, empty, group, numbers, pair, pair_all, plus, up_to}
 use Rattle.hir_tree.specs.Cores.{core_of}
 use Rattle.hir_core.specs.Laid.{Lays}
 use Rattle.hir_core.specs.declared.spot.Spot.TheVariants as spot

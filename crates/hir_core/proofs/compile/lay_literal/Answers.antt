@@ -1,4 +1,4 @@
-use Rattle.std.proofs.Common.{◌≡◌, ◌-◌, ◌+◌, get_or, sym, arith}
+use Rattle.std.proofs.Common.{◌≡◌, ◌-◌, ◌+◌, sym, arith}
 use Rattle.std.proofs.lemmas.Option.{get_or_from_slice_get}
 use Rattle.hir_tree.specs.Core.{one_byte, literal}
 use Rattle.hir_core.proofs.CompileLemmas.{on_ok, waits_pair, waits_row, lays_row}

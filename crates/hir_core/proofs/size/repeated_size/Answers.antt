@@ -1,5 +1,5 @@
-use Rattle.std.proofs.Common.{◌-◌, ◌^◌, ◌≡◌, ◌+◌, min, sym, ap, ◌∙◌, arith}
-use Rattle.hir_tree.specs.Core.{Core, numbers, repeat, up_to}
+use Rattle.std.proofs.Common.{◌-◌, ◌^◌, ◌≡◌, min, ap, ◌∙◌, arith}
+use Rattle.hir_tree.specs.Core.{numbers, up_to}
 use Rattle.hir_core.proofs.SizeLemmas.{copies_alone, copies_more}
 use Rattle.hir_core.proofs.size.repeated_size.Goals as goal
 
