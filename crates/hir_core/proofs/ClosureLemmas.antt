@@ -15,6 +15,9 @@ pub record Entry : Type 0 where
   pub spot : ℕ
   pub way : Way
 
+abbrev pub entry : ℕ → Way → Entry
+entry q w = record { spot = q; way = w }
+
 abbrev pub seen_by : Entry → List ℕ
 seen_by e = e.way.run.seen
 

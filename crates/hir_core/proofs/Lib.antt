@@ -23,4 +23,3 @@ mod StampsLemmas
 mod TrailLemmas
 mod TurnLemmas
 mod VisitLemmas
-mod WalkLemmas

@@ -14,6 +14,7 @@ use Rattle.hir_tree.specs.Looks.{holds}
 use Rattle.hir_tree.specs.Runs.{Run, begin, moved, mark, is_seen, byte_size, char_size, as_list, runs, first, preferred}
 use Rattle.hir_tree.specs.RunsLaws.{forget}
 use Rattle.hir_core.specs.Program.{spot_at, is_close, is_unmarked, Way, way, marked, opened, closed, follow, unseen, rank, gives, ClosesFall, Placed}
+use Rattle.hir_core.specs.Pass.{begins, groups_found}
 use Rattle.hir_core.specs.StackSearch.{has, members_below, members, Place, place_of, places_of, leads, LiesBefore, IsSound, AllSound, gives_at, first_at, pending, weight, Advances}
 use Rattle.hir_core.specs.declared.seen.Seen.{Seen}
 use Rattle.hir_core.specs.declared.spot.Spot.{Spot}
@@ -394,14 +395,9 @@ pub pending-one : (text : List ℕ) (spots : List Spot) (p : Place) → pending 
 unfolding pending
 pending-one text spots p = append-nil _
 
--- where the whole of a core stands in the program, the first runs have the groups that are preferred
-pub first-preferred : (text : List ℕ) (spots : List Spot) → ClosesFall spots → (core : Core) → Placed spots 0 (numbers (group 0 core)) (group 0 core)
-    → spot_at spots (numbers (group 0 core)) ≡ spot.Match → (groups at : ℕ) → at ≤ length text
-    → option_map (λ r. r.groups) (first_at text spots groups at) ≡ preferred core groups text at
-unfolding preferred
-first-preferred text spots falls core placed end groups at h =
-    ap (λ rs. option_map (λ r. r.groups) (first (map forget rs))) (program-runs text spots falls (group 0 core) placed end (begin at groups) h)
-    ∙ forgotten (runs text (group 0 core) 0 (begin at groups))
+-- what the groups of the first run hold, whether with what was seen or without
+pub first-found : (text : List ℕ) (spots : List Spot) (groups at : ℕ) → option_map (λ r. r.groups) (first_at text spots groups at) ≡ groups_found text spots groups at
+first-found text spots groups at = forgotten (begins text spots groups at)
   where
     forgotten : (rs : List Run) → option_map (λ r. r.groups) (first (map forget rs)) ≡ option_map (λ r. r.groups) (first rs)
     forgotten [] = refl

@@ -10,7 +10,7 @@ use Rattle.std.proofs.lemmas.List.Sums.{sum_by-set}
 use Rattle.hir_tree.specs.Looks.{holds}
 use Rattle.hir_tree.specs.Runs.{Run, moved, mark, is_seen, byte_size, char_size, as_list}
 use Rattle.hir_tree.specs.RunsLaws.{forget}
-use Rattle.hir_core.specs.Program.{spot_at, is_unmarked, tie, Way, way, marked, closed, follow, gives, ClosesFall}
+use Rattle.hir_core.specs.Program.{spot_at, is_unmarked, tie, Way, way, marked, opened, closed, follow, gives, ClosesFall}
 use Rattle.hir_core.specs.Trails.{Stop}
 use Rattle.hir_core.specs.Pass.{AllLater, first_of, some_run, taken, leads, leads_on, comes, keeps, was_visited, visiting, stop_gives, stops_give, Spent, TurnedTo}
 use Rattle.hir_core.specs.declared.spot.Spot.{Spot}
@@ -18,10 +18,17 @@ use Rattle.hir_core.specs.declared.spot.Spot.TheVariants as spot
 use Rattle.hir_tree.proofs.ListLemmas.{All-append}
 use Rattle.hir_tree.proofs.RunsLemmas.{TakesWithin, byte_size-within, char_size-within}
 use Rattle.hir_core.proofs.ProgramLemmas.{not_fail}
-use Rattle.hir_core.proofs.ClosureLemmas.{Entry, nonempty, pend, Children}
-use Rattle.hir_core.proofs.WalkLemmas.{entry, led_to}
+use Rattle.hir_core.proofs.ClosureLemmas.{Entry, entry, nonempty, pend, Children}
 use Rattle.hir_core.proofs.PlacedLemmas.{gives-at}
 use Rattle.hir_core.proofs.PassLemmas.{Stands, Stands-dropped, Stands-seen, Stands-led, Stands-kept, Stands-closed, Stands-match, Stands-begin, Stands-end, nowhere}
+
+-- where a spot leads without a byte
+abbrev pub led_to : List ℕ → Spot → Way → List Entry
+led_to text (spot.Jump f) t = entry f t ∷ []
+led_to text (spot.Split a b) t = entry a t ∷ entry b t ∷ []
+led_to text (spot.Open f) t = entry f (opened t) ∷ []
+led_to text (spot.Look l f) t = if holds l text t.run.at then entry f t ∷ [] else []
+led_to text _ t = []
 
 -- an entry without what its path saw
 abbrev pub bare : Entry → Stop
@@ -99,7 +106,7 @@ module _ (text : List ℕ) (spots : List Spot) (falls : ClosesFall spots) (at : 
     pub stands : Stands text spots falls at goal visited (flat_map (stop_gives text spots) kept) (entries ++ nowhere text spots falls at ∷ [])
 
   -- the spot of an entry leads where it says, once what its path saw is left out
-  led_bare : (s : Spot) (e : Entry) → map bare (led_to text spots s (marked e.spot e.way)) ≡ leads text s (bare e).1
+  led_bare : (s : Spot) (e : Entry) → map bare (led_to text s (marked e.spot e.way)) ≡ leads text s (bare e).1
   led_bare (spot.Look l f) e = cases (holds l text e.way.run.at)
     where
       cases : (b : Bool) → map bare (if b then entry f (marked e.spot e.way) ∷ [] else []) ≡ (if b then (f, (bare e).1) ∷ [] else [])
@@ -114,7 +121,7 @@ module _ (text : List ℕ) (spots : List Spot) (falls : ClosesFall spots) (at : 
   led_bare spot.Fail e = refl
   led_bare spot.Match e = refl
 
-  led_children : (s : Spot) (e : Entry) → e.way.run.at ≡ at → Children text spots falls at e (led_to text spots s (marked e.spot e.way))
+  led_children : (s : Spot) (e : Entry) → e.way.run.at ≡ at → Children text spots falls at e (led_to text s (marked e.spot e.way))
   led_children (spot.Look l f) e here = cases (holds l text e.way.run.at)
     where
       cases : (b : Bool) → AllByRecursion (λ (x : Entry). (x.way.run.at ≡ at) × (x.way.run.seen ≡ e.spot ∷ e.way.run.seen)) (if b then entry f (marked e.spot e.way) ∷ [] else [])
@@ -147,19 +154,19 @@ module _ (text : List ℕ) (spots : List Spot) (falls : ClosesFall spots) (at : 
       unseen = are e.spot ∙ new
 
       onward : (s : Spot) → spot_at spots e.spot ≡ s → is_unmarked s ≡ false → leads_on text s (bare e).1 ≡ []
-          → follow text spots (gives text spots) s (marked e.spot e.way) ≡ pend text spots falls at (led_to text spots s (marked e.spot e.way))
+          → follow text spots (gives text spots) s (marked e.spot e.way) ≡ pend text spots falls at (led_to text s (marked e.spot e.way))
           → Closing goal (slice_set bits e.spot true) (kept ++ leads_on text s (bare e).1) (leads text s (bare e).1 ++ map bare es)
       onward s k plain none_kept same = record {
         visited = e.spot ∷ visited;
-        entries = led_to text spots s (marked e.spot e.way) ++ es;
+        entries = led_to text s (marked e.spot e.way) ++ es;
         are_bits = AreBits-more bits visited e.spot lt are;
-        are_stack = map-append bare (led_to text spots s (marked e.spot e.way)) es ∙ ap (λ xs. xs ++ map bare es) (led_bare s e);
+        are_stack = map-append bare (led_to text s (marked e.spot e.way)) es ∙ ap (λ xs. xs ++ map bare es) (led_bare s e);
         stands =
-            subst (λ xs. Stands text spots falls at goal (e.spot ∷ visited) (flat_map (stop_gives text spots) xs) ((led_to text spots s (marked e.spot e.way) ++ es) ++ nowhere text spots falls at ∷ []))
+            subst (λ xs. Stands text spots falls at goal (e.spot ∷ visited) (flat_map (stop_gives text spots) xs) ((led_to text s (marked e.spot e.way) ++ es) ++ nowhere text spots falls at ∷ []))
             (sym (append-nil kept) ∙ ap (λ xs. kept ++ xs) (sym none_kept))
             (subst (λ xs. Stands text spots falls at goal (e.spot ∷ visited) (flat_map (stop_gives text spots) kept) xs)
-            (sym (append_assoc (led_to text spots s (marked e.spot e.way)) es (nowhere text spots falls at ∷ [])))
-            (Stands-led text spots falls at goal visited (flat_map (stop_gives text spots) kept) e (es ++ nowhere text spots falls at ∷ []) (led_to text spots s (marked e.spot e.way)) s
+            (sym (append_assoc (led_to text s (marked e.spot e.way)) es (nowhere text spots falls at ∷ [])))
+            (Stands-led text spots falls at goal visited (flat_map (stop_gives text spots) kept) e (es ++ nowhere text spots falls at ∷ []) (led_to text s (marked e.spot e.way)) s
             k plain unseen (led_children s e h.0.0) same h));
       }
 

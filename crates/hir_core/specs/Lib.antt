@@ -1,3 +1,4 @@
+pub mod Compiled
 pub mod Found
 pub mod Laid
 pub mod Masks
@@ -6,7 +7,6 @@ pub mod PlainText
 pub mod Program
 pub mod Rows
 pub mod Scan
-pub mod Searcher
 pub mod Stamps
 pub mod StackSearch
 pub mod Trails

@@ -14,7 +14,6 @@ use Rattle.hir_core.specs.Trails.{Stop, way_of, stops_on}
 use Rattle.hir_core.specs.declared.trail.Trail.{Trail}
 use Rattle.hir_core.specs.declared.closure.Turn.{Turn}
 use Rattle.hir_core.specs.declared.closure.Turn.TheVariants as turn
-use Rattle.hir_core.specs.declared.pass.Found.{Found}
 use Rattle.hir_core.specs.declared.pass.Best.{Best}
 
 -- the way of one of which nothing is known but its place
@@ -101,10 +100,6 @@ AllLater text at stops = AllByRecursion (λ (p : Stop). (at < p.1.run.at) × (p.
 -- each stops at a place, or after it
 abbrev pub AllFrom : List ℕ → ℕ → List Stop → Type 0
 AllFrom text at stops = AllByRecursion (λ (p : Stop). (at ≤ p.1.run.at) × (p.1.run.at ≤ length text)) stops
-
--- the run of a match that was found
-abbrev pub best_of : Option Found → Option Run
-best_of found = option_map (λ m. record { at = m.at; groups = m.groups.items; seen = [] }) found
 
 -- the run of the best match so far, if there is one
 abbrev pub best_in : Best → Option Run

@@ -2,9 +2,7 @@
 use Rattle.std.specs.Prelude.{◌≡◌, ℕ, ◌+◌, ◌≤◌, Bool, List, [], ◌∷◌, ◌++◌, length, drop, replicate, slice_set, Option, Some, None, nat_eq, option_map, option_and_then, if◌then◌else◌}
 use Rattle.std.specs.List.{starts_with}
 use Rattle.hir_tree.specs.Cores.{core_of}
-use Rattle.hir_core.specs.Pass.{groups_found}
 use Rattle.hir_tree.specs.Runs.{preferred}
-use Rattle.hir_core.specs.declared.spot.Spot.{Spot}
 use Rattle.hir_tree.specs.declared.hir.Hir.{Hir, Empty, Literal, ClassChars, ClassBytes, Look, Repetition', Capture', Concat', Alternation', Row_of-Hir, end_of-Hir, more_of-Hir}
 
 -- two texts joined, if both are there
@@ -54,8 +52,3 @@ text_found bytes groups text at = if stands_at bytes text at then Some (text_gro
 abbrev pub OneTextMatchesWhereItStands : Type 0
 OneTextMatchesWhereItStands = (hir : Hir) (bytes : List ℕ) → text_of hir ≡ Some bytes → (groups : ℕ) (text : List ℕ) (at : ℕ)
     → preferred (core_of hir) groups text at ≡ text_found bytes groups text at
-
--- a program, searched with groups up to an index, matches these bytes where they stand
-abbrev pub FindsText : List Spot → ℕ → List ℕ → Type 0
-FindsText spots groups bytes =
-    (text : List ℕ) (at : ℕ) → at ≤ length text → groups_found text spots groups at ≡ text_found bytes groups text at

@@ -7,8 +7,6 @@
 mod closure;
 mod compile;
 mod later;
-#[cfg(test)]
-mod many_spots_tests;
 mod pass;
 mod plain;
 mod push;
@@ -20,8 +18,6 @@ mod size;
 mod slots;
 mod spot;
 mod stack_search;
-#[cfg(test)]
-mod table_tests;
 mod trail;
 mod visited;
 

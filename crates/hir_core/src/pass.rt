@@ -6,7 +6,7 @@ ghost use Rattle.hir_core.specs.Program.{ClosesFall};
 ghost use Rattle.hir_core.specs.Scan.{IsFilterOf};
 ghost use Rattle.sd_base.specs.Steps.{TicksAtMost};
 ghost use Rattle.hir_core.specs.declared.spot.Spot.{Spot};
-ghost use Rattle.hir_core.specs.Pass.{stops_give, match_of, first_of, begins_unless, answer, first_from, best_of, best_in, AllLater, AllFrom, counted};
+ghost use Rattle.hir_core.specs.Pass.{stops_give, match_of, first_of, begins_unless, answer, first_from, best_in, AllLater, AllFrom, counted};
 
 use crate::closure::Closure;
 use crate::later::Later;
@@ -16,15 +16,6 @@ use crate::trail::Trail;
 use sd_base::{Ledger, NoMemory, Steps};
 use std::alloc::Global;
 use std::mem;
-
-/// A match that was found.
-#[derive(Drop)]
-pub struct Found {
-    /// The place of the text where it ends.
-    pub at: usize,
-    /// What the groups hold.
-    pub groups: Vec<Option<(usize, usize)>>,
-}
 
 /// The best match so far, in a list that is used again.
 #[derive(Drop)]
@@ -53,15 +44,6 @@ impl Best {
         ensures { result ≡ is_some (best_in self.now) }
     {
         self.end.is_some()
-    }
-
-    /// Hands the match out.
-    fn take(&mut self, alloc: Global) -> Option<Found>
-        ensures { best_of result ≡ best_in self.old }
-    {
-        let at = self.end.take()?;
-        let groups = mem::replace(&mut self.groups, Vec::new(alloc));
-        Some(Found { at, groups })
     }
 }
 
@@ -185,23 +167,22 @@ impl Pass {
         }
     }
 
-    /// The first run of the least place, from one on, at which a program gives a run. A filter of the program makes the
-    /// search quicker. Refuses for want of memory alone.
+    /// Looks for the first run of the least place, from one on, at which a program gives a run, and says whether there is one:
+    /// it is then the best match. A filter of the program makes the search quicker. Refuses for want of memory alone.
     pub fn search<L: Ledger>(
         &mut self,
-        alloc: Global,
         spots: &[Spot],
         filter: Option<&Scan>,
         text: &[u8],
         at: usize,
         groups: u32,
         steps: &mut Steps<L>,
-    ) -> Result<Option<Found>, NoMemory>
+    ) -> Result<bool, NoMemory>
         requires falls { ClosesFall spots.now }
         requires filters { IfSome filter (λ f. IsFilterOf spots.now f.now) }
         requires at { at ≤ length text.now }
-        ensures found { IfOk result
-            (λ found. best_of found ≡ first_from text.now spots.now groups (length text.now + 1 - at) at) }
+        ensures found { IfOk result (λ found. found ≡ is_some (best_in self.new.best)) }
+        ensures first { IfOk result (λ _. best_in self.new.best ≡ first_from text.now spots.now groups (length text.now + 1 - at) at) }
         ensures ticks { TicksAtMost L.noted ((length text.now + 1 - at) * counted spots.now) steps.old steps.new }
     {
         self.threads.clear();
@@ -211,13 +192,17 @@ impl Pass {
         while place <= text.len() {
             self.round(spots, text, place, groups, steps)?;
             if self.threads.is_empty() && self.best.is_some() {
-                return Ok(self.best.take(alloc));
+                return Ok(true);
             }
             place = self.next_place(filter, text, place + 1, &mut looked);
         }
-        Ok(self.best.take(alloc))
+        Ok(self.best.is_some())
+    }
+
+    /// What the groups of the best match hold.
+    pub fn groups(&self) -> &[Option<(usize, usize)>]
+        ensures { result.now ≡ self.now.best.groups.items }
+    {
+        &self.best.groups
     }
 }
-
-#[cfg(test)]
-mod tests;

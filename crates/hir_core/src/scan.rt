@@ -5,8 +5,6 @@ ghost use Rattle.std.specs.Prelude.{◌≡◌, ◌<◌, ◌≤◌, ◌^◌, ◌+
 mod bits;
 mod reach;
 mod takes;
-#[cfg(test)]
-mod tests;
 
 use crate::spot::Spot;
 use bits::{MATCH, joined};

@@ -1,31 +1,28 @@
 //! Searching texts for a pattern.
 
-ghost use Rattle.std.specs.Prelude.{◌≡◌, ℕ, ◌+◌, ◌-◌, ◌*◌, ◌≤◌, List, length, replicate, None, IfOk, IfErr, IfSome};
+ghost use Rattle.std.specs.Prelude.{◌≡◌, ◌+◌, ◌-◌, ◌*◌, ◌≤◌, length, replicate, None, IfOk, IfErr};
 ghost use Rattle.hir_tree.specs.Cores.{core_of};
 ghost use Rattle.hir_core.specs.Found.{IsFound};
-ghost use Rattle.hir_core.specs.PlainText.{FindsText};
-ghost use Rattle.hir_core.specs.Program.{ClosesFall};
 ghost use Rattle.hir_tree.specs.Runs.{preferred};
-ghost use Rattle.hir_core.specs.Masks.{HasBit-prop};
-ghost use Rattle.hir_core.specs.Scan.{IsFilterOf};
-ghost use Rattle.std.proofs.Props.{props};
 ghost use Rattle.hir_tree.specs.Spots.{groups_of, spots_of};
 ghost use Rattle.sd_base.specs.Steps.{TicksAtMost};
 
 use crate::compile::program;
-use crate::pass::Pass;
 use crate::plain::TextFinder;
 use crate::scan::Scan;
 use crate::spot::Spot;
-use crate::{Hir, Slots, group_count};
+use crate::{Hir, Slots, group_count, stack_search};
 use sd_base::{Ledger, NoMemory, Silent, Steps};
 use std::alloc::Global;
+use std::marker::Model;
 
-/// A pattern that was compiled for searching.
+/// A pattern that was compiled for searching. Contracts see the pattern.
 #[derive(Drop)]
 pub struct Searcher {
-    /// Where the lists of a search are made.
+    /// Where the search by a stack makes its lists.
     alloc: Global,
+    /// The pattern.
+    hir: Hir,
     /// The greatest index of a group.
     groups: u32,
     /// The pattern's program.
@@ -34,52 +31,65 @@ pub struct Searcher {
     filter: Option<Scan>,
     /// The search for the text that the pattern is, if it is one.
     text: Option<TextFinder>,
-    ghost falls: { ClosesFall spots.items },
-    ghost filters: { IfSome filter (IsFilterOf spots.items) } by { Prim.hlevel (HasBit-prop, props) },
-    ghost is_text: { IfSome text (FindsText spots.items groups) } by { Prim.hlevel props },
+}
+
+impl Model for Searcher {
+    ghost use Rattle.hir_tree.specs.declared.hir.Hir.{Hir};
+    ghost use Rattle.hir_tree.specs.contracts.hir.Hir as pattern;
+
+    ghost Value = { Hir };
+
+    ghost coded = { pattern.the_row.coded };
+
+    ghost use Rattle.hir_core.specs.Compiled.{IsCompiled};
+
+    ghost view = { λ s. s.hir };
+
+    ghost invariant = { λ s. IsCompiled s.hir s.groups s.spots.items s.filter s.text };
 }
 
 impl Searcher {
-    ghost use Rattle.hir_core.specs.Searcher.{finds, last_group, visits};
-
     /// A searcher of a pattern. Refuses for want of memory alone.
-    pub fn new(alloc: Global, hir: &Hir) -> Result<Searcher, NoMemory>
-        ensures finds { IfOk result (λ s. (text : List ℕ) (at : ℕ) → at ≤ length text
-            → finds s text at ≡ preferred (core_of hir.now) (groups_of hir.now) text at) }
-        ensures groups { IfOk result (λ s. last_group s ≡ groups_of hir.now) }
-        ensures visits { IfOk result (λ s. visits s ≤ spots_of hir.now) }
+    pub fn new(alloc: Global, hir: Hir) -> Result<Searcher, NoMemory>
+        ensures { IfOk result (λ searcher. searcher ≡ hir) }
     {
-        let spots = program(alloc, hir)?;
+        let spots = program(alloc, &hir)?;
         let filter = Scan::new(alloc, &spots)?;
-        let text = TextFinder::of_pattern(alloc, hir)?;
+        let text = TextFinder::of_pattern(alloc, &hir)?;
+        let groups = group_count(&hir);
         Ok(Searcher {
             alloc,
-            groups: group_count(hir),
+            hir,
+            groups,
             spots,
             filter,
             text,
         })
     }
 
+    /// The pattern.
+    pub fn hir(&self) -> &Hir
+        ensures { result.now ≡ self.now }
+    {
+        &self.hir
+    }
+
     /// Whether a place from `at` on has a match. The slots then hold the preferred match of the least such place, and else
     /// they are unset, also where the search refuses. It refuses for want of memory alone.
     pub fn search_at(&self, text: &[u8], at: usize, slots: &mut Slots) -> Result<bool, NoMemory>
         requires within { at ≤ length text.now }
-        requires slots { length slots.old ≡ last_group self.now + 1 }
-        ensures found { IfOk result (λ found. IsFound (finds self.now text.now) at (length text.now) found slots.new) }
+        requires slots { length slots.old ≡ groups_of self.now + 1 }
+        ensures found { IfOk result (λ found.
+            IsFound (preferred (core_of self.now) (groups_of self.now) text.now) at (length text.now) found slots.new) }
         ensures kept { length slots.new ≡ length slots.old }
         ensures refused { IfErr result (λ _. slots.new ≡ replicate (length slots.old) None) }
     {
-        match &self.text {
-            Some(finder) => Ok(finder.search(text, at, slots)),
-            None => self.search(
-                self.filter.as_ref(),
-                text,
-                at,
-                slots,
-                &mut Steps::new(Silent),
-            ),
+        if let Some(finder) = &self.text {
+            return Ok(finder.search(text, at, slots));
         }
+        let filter = self.filter.as_ref();
+        let mut steps = Steps::new(Silent);
+        slots.search(&self.spots, filter, text, at, self.groups, &mut steps)
     }
 
     /// [`search_at`](Searcher::search_at) with counted steps: one for each visit of a spot that takes a byte or a character,
@@ -92,50 +102,31 @@ impl Searcher {
         steps: &mut Steps<L>,
     ) -> Result<bool, NoMemory>
         requires within { at ≤ length text.now }
-        requires slots { length slots.old ≡ last_group self.now + 1 }
-        ensures found { IfOk result (λ found. IsFound (finds self.now text.now) at (length text.now) found slots.new) }
+        requires slots { length slots.old ≡ groups_of self.now + 1 }
+        ensures found { IfOk result (λ found.
+            IsFound (preferred (core_of self.now) (groups_of self.now) text.now) at (length text.now) found slots.new) }
         ensures kept { length slots.new ≡ length slots.old }
         ensures refused { IfErr result (λ _. slots.new ≡ replicate (length slots.old) None) }
-        ensures ticks { TicksAtMost L.noted ((length text.now + 1 - at) * visits self.now) steps.old steps.new }
+        ensures ticks { TicksAtMost L.noted ((length text.now + 1 - at) * spots_of self.now) steps.old steps.new }
     {
-        self.search(None, text, at, slots, steps)
+        slots.search(&self.spots, None, text, at, self.groups, steps)
     }
 
-    /// The search in one pass over the text. Refuses for want of memory alone.
-    fn search<L: Ledger>(
+    /// [`search_at`](Searcher::search_at) in the plainest way: a stack of alternatives, tried one after the other, as the
+    /// definitions say. It is a reference for tests, on short texts: its time may double with each byte of the text.
+    pub fn search_by_stack(
         &self,
-        filter: Option<&Scan>,
         text: &[u8],
         at: usize,
         slots: &mut Slots,
-        steps: &mut Steps<L>,
     ) -> Result<bool, NoMemory>
-        requires filters { IfSome filter (λ f. IsFilterOf self.now.spots.items f.now) }
         requires within { at ≤ length text.now }
-        requires slots { length slots.old ≡ last_group self.now + 1 }
-        ensures found { IfOk result (λ found. IsFound (finds self.now text.now) at (length text.now) found slots.new) }
+        requires slots { length slots.old ≡ groups_of self.now + 1 }
+        ensures found { IfOk result (λ found.
+            IsFound (preferred (core_of self.now) (groups_of self.now) text.now) at (length text.now) found slots.new) }
         ensures kept { length slots.new ≡ length slots.old }
         ensures refused { IfErr result (λ _. slots.new ≡ replicate (length slots.old) None) }
-        ensures ticks { TicksAtMost L.noted ((length text.now + 1 - at) * visits self.now) steps.old steps.new }
     {
-        slots.unset_all();
-        let mut pass = Pass::new(self.alloc);
-        let found = pass.search(
-            self.alloc,
-            &self.spots,
-            filter,
-            text,
-            at,
-            self.groups,
-            steps,
-        )?;
-        let Some(found) = found else {
-            return Ok(false);
-        };
-        slots.set_all(&found.groups);
-        Ok(true)
+        stack_search::search_at(self.alloc, &self.spots, text, at, slots)
     }
 }
-
-#[cfg(test)]
-mod tests;

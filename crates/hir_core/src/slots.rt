@@ -1,18 +1,29 @@
 //! The groups of a match.
 
-ghost use Rattle.std.specs.Prelude.{◌≡◌, ◌+◌, ◌<◌, ◌≤◌, length, map, replicate, slice_index_or, slice_set, EachIndex, IfOk, None, Some};
+ghost use Rattle.std.specs.Prelude.{◌≡◌, ◌+◌, ◌-◌, ◌*◌, ◌<◌, ◌≤◌, length, map, replicate, slice_index_or, slice_set, EachIndex, IfErr, IfOk, IfSome, None, Some};
 ghost use Rattle.grep_matcher.specs.Groups.{group_at};
-ghost use Rattle.hir_core.specs.Found.{IsInOrder, span_of};
+ghost use Rattle.hir_core.specs.Found.{IsFound, IsInOrder, span_of};
+ghost use Rattle.hir_core.specs.Pass.{counted, groups_found};
+ghost use Rattle.hir_core.specs.Program.{ClosesFall};
+ghost use Rattle.hir_core.specs.Scan.{IsFilterOf};
+ghost use Rattle.sd_base.specs.Steps.{TicksAtMost};
 
+use crate::pass::Pass;
+use crate::scan::Scan;
+use crate::spot::Spot;
 use grep_matcher::Match;
-use sd_base::NoMemory;
+use sd_base::{Ledger, NoMemory, Steps};
 use std::alloc::Global;
 use std::marker::Model;
 
-/// The spans of a match's groups, by their numbers. Group 0 is the whole match. A group that took no part is unset.
+/// The groups of a match, and the lists of the search that fills them, which the next search uses again.
+///
+/// Contracts see the groups' spans, by their numbers. Group 0 is the whole match. A group that took no part is unset.
 #[derive(Drop)]
 pub struct Slots {
     spans: Vec<Option<Match>>,
+    /// The search, and its lists.
+    pass: Pass,
 }
 
 impl Model for Slots {
@@ -31,7 +42,8 @@ impl Slots {
     {
         let mut spans = Vec::new(alloc);
         spans.resize(groups as usize + 1, None)?;
-        Ok(Slots { spans })
+        let pass = Pass::new(alloc);
+        Ok(Slots { spans, pass })
     }
 
     /// How many slots there are: one more than the greatest group's number.
@@ -49,33 +61,78 @@ impl Slots {
     }
 
     /// Unsets all slots.
-    pub fn unset_all(&mut self)
+    pub(crate) fn unset_all(&mut self)
         ensures { self.new ≡ replicate (length self.old) None }
     {
-        for span in self.spans.iter_mut() {
-            *span = None;
-        }
+        unset(&mut self.spans);
     }
 
     /// Sets group 0 to a span, and unsets the others.
-    pub fn set_whole(&mut self, start: usize, end: usize)
+    pub(crate) fn set_whole(&mut self, start: usize, end: usize)
         requires some { 0 < length self.old }
         requires order { start ≤ end }
         ensures { self.new ≡ slice_set (replicate (length self.old) None) 0 (Some (record { start = start; end = end })) }
     {
-        self.unset_all();
+        unset(&mut self.spans);
         self.spans[0] = Some(Match::new(start, end));
     }
 
     /// Sets the slots to the spans of as many groups.
-    pub fn set_all(&mut self, groups: &[Option<(usize, usize)>])
+    pub(crate) fn set_all(&mut self, groups: &[Option<(usize, usize)>])
         requires same { length groups.now ≡ length self.old }
         requires in_order { EachIndex groups.now (λ i. IsInOrder (slice_index_or groups.now i None)) }
         ensures { self.new ≡ map span_of groups.now }
     {
-        for (i, group) in groups.iter().enumerate() {
-            self.spans[i] = span_of(*group);
+        set(&mut self.spans, groups);
+    }
+
+    /// Whether a program gives a run at a place from `at` on. The slots then hold the groups of the first run of the least such
+    /// place, and else they are unset, also where the search refuses. A filter of the program makes the search quicker. Refuses
+    /// for want of memory alone.
+    pub(crate) fn search<L: Ledger>(
+        &mut self,
+        spots: &[Spot],
+        filter: Option<&Scan>,
+        text: &[u8],
+        at: usize,
+        groups: u32,
+        steps: &mut Steps<L>,
+    ) -> Result<bool, NoMemory>
+        requires falls { ClosesFall spots.now }
+        requires filters { IfSome filter (λ f. IsFilterOf spots.now f.now) }
+        requires within { at ≤ length text.now }
+        requires slots { length self.old ≡ groups + 1 }
+        ensures found { IfOk result (λ found. IsFound (groups_found text.now spots.now groups) at (length text.now) found self.new) }
+        ensures kept { length self.new ≡ length self.old }
+        ensures refused { IfErr result (λ _. self.new ≡ replicate (length self.old) None) }
+        ensures ticks { TicksAtMost L.noted ((length text.now + 1 - at) * counted spots.now) steps.old steps.new }
+    {
+        unset(&mut self.spans);
+        if !self.pass.search(spots, filter, text, at, groups, steps)? {
+            return Ok(false);
         }
+        set(&mut self.spans, self.pass.groups());
+        Ok(true)
+    }
+}
+
+/// Unsets all groups.
+fn unset(spans: &mut Vec<Option<Match>>)
+    ensures { spans.new.items ≡ replicate (length spans.old.items) None }
+{
+    for span in spans.iter_mut() {
+        *span = None;
+    }
+}
+
+/// Sets each group to its span.
+fn set(spans: &mut Vec<Option<Match>>, groups: &[Option<(usize, usize)>])
+    requires same { length groups.now ≡ length spans.old.items }
+    requires in_order { EachIndex groups.now (λ i. IsInOrder (slice_index_or groups.now i None)) }
+    ensures { spans.new.items ≡ map span_of groups.now }
+{
+    for (i, group) in groups.iter().enumerate() {
+        spans[i] = span_of(*group);
     }
 }
 
@@ -86,21 +143,4 @@ fn span_of(group: Option<(usize, usize)>) -> Option<Match>
 {
     let (start, end) = group?;
     Some(Match::new(start, end))
-}
-
-#[cfg(test)]
-mod tests {
-    use super::*;
-    use std::test::Fail;
-
-    #[test]
-    fn new_slots_are_unset(rt: HostRuntime) -> Result<(), Fail> {
-        let slots = Slots::new(rt.alloc(), 2)?;
-        assert_eq!(rt; slots.len(), 3);
-        for group in 0..4 {
-            assert!(rt; slots.get(group).is_none(), "{group}");
-        }
-        assert_eq!(rt; Slots::new(rt.alloc(), 0)?.len(), 1);
-        Ok(())
-    }
 }

@@ -5,10 +5,10 @@
 
 ghost use Rattle.std.specs.Prelude.{◌≡◌, ◌+◌, ◌-◌, ◌^◌, ◌<◌, ◌≤◌, [], ◌∷◌, ◌++◌, length, map, reverse, replicate, option_map, MatchOption, IfOk, IfErr, IfSome};
 ghost use Rattle.std.specs.List.{AllByRecursion};
-ghost use Rattle.hir_tree.specs.Core.{Core, group, numbers};
 ghost use Rattle.hir_core.specs.Found.{IsOfLeast, IsFound};
-ghost use Rattle.hir_core.specs.Program.{ClosesFall, Placed, spot_at, way, opened, closed};
-ghost use Rattle.hir_tree.specs.Runs.{begin, moved, as_list, preferred};
+ghost use Rattle.hir_core.specs.Pass.{groups_found};
+ghost use Rattle.hir_core.specs.Program.{ClosesFall, way, opened, closed};
+ghost use Rattle.hir_tree.specs.Runs.{begin, moved, as_list};
 ghost use Rattle.hir_core.specs.StackSearch.{place_of, run_of, places_of, leads, first_at, LiesBefore, Advances};
 
 use crate::holds;
@@ -249,8 +249,8 @@ pub fn first_from(
     Ok(None)
 }
 
-/// Whether a place from `at` on has a match. The slots then hold the preferred match of the least such place, and else
-/// they are unset, also where the search refuses. It refuses for want of memory alone.
+/// Whether a program gives a run at a place from `at` on. The slots then hold the groups of the first run of the least such
+/// place, and else they are unset, also where the search refuses. It refuses for want of memory alone.
 pub fn search_at(
     alloc: Global,
     spots: &[Spot],
@@ -261,10 +261,7 @@ pub fn search_at(
     requires falls { ClosesFall spots.now }
     requires within { at ≤ length text.now }
     requires some { 0 < length slots.old }
-    // the match of the core that is placed in the program
-    ensures found { IfOk result (λ found. (core : Core) → Placed spots.now 0 (numbers (group 0 core)) (group 0 core)
-        → spot_at spots.now (numbers (group 0 core)) ≡ Spot.Match
-        → IsFound (preferred core (length slots.old - 1) text.now) at (length text.now) found slots.new) }
+    ensures found { IfOk result (λ found. IsFound (groups_found text.now spots.now (length slots.old - 1)) at (length text.now) found slots.new) }
     ensures kept { length slots.new ≡ length slots.old }
     ensures refused { IfErr result (λ _. slots.new ≡ replicate (length slots.old) None) }
 {
@@ -275,6 +272,3 @@ pub fn search_at(
     slots.set_all(found.groups.as_slice());
     Ok(true)
 }
-
-#[cfg(test)]
-mod tests;

@@ -18,9 +18,9 @@ returns-then-is_some g c =
     let none_left = eqb-true _ _ (sym c.if-is_empty.ensures) in
     let empty : c.round.new.self.threads ≡ [] = nil_from_length _ (omega (arith, none_left)) in
     record {
-      found =
-          c.take.ensures
-          ∙ sym (answer-over c.args.text.now c.args.spots.now (c.loop-place.place + 1) c.args.groups c.round.new.self.threads (best_in c.round.new.self.best) empty (sym c.if-is_some.ensures))
+      found = c.if-is_some.ensures;
+      first =
+          sym (answer-over c.args.text.now c.args.spots.now (c.loop-place.place + 1) c.args.groups c.round.new.self.threads (best_in c.round.new.self.best) empty (sym c.if-is_some.ensures))
           ∙ c.in_ok-round.ensures.answer ∙ c.loop-place.invariant.answer;
       ticks =
           at_most_more
@@ -45,9 +45,9 @@ loop-place-preserved g c =
 pub returns : goal.returns
 returns g c =
     record {
-      found =
-          c.take-2.ensures
-          ∙ sym (answer-end c.args.text.now c.args.spots.now c.loop-place.place c.args.groups c.loop-place.self.threads (best_in c.loop-place.self.best) c.loop-place-test.false
+      found = c.is_some-2.ensures;
+      first =
+          sym (answer-end c.args.text.now c.args.spots.now c.loop-place.place c.args.groups c.loop-place.self.threads (best_in c.loop-place.self.best) c.loop-place-test.false
           c.loop-place.invariant.from)
           ∙ c.loop-place.invariant.answer;
       ticks =

@@ -1,14 +1,24 @@
-use Rattle.std.proofs.Common.{refl, arith}
+use Rattle.std.proofs.Common.{◌≤◌, IfSome, rules, arith}
+use Rattle.hir_tree.specs.Spots.{spots_of}
 use Rattle.hir_tree.specs.Tree.{tree_of}
+use Rattle.hir_core.specs.Pass.{counted}
+use Rattle.hir_core.specs.Scan.{IsFilterOf}
 use Rattle.hir_tree.proofs.CoreSpotsLemmas.{core_within}
 use Rattle.hir_core.proofs.ProgramVisitsLemmas.{counted-core}
-use Rattle.hir_core.proofs.SearcherLemmas.{finds-text}
 use Rattle.hir_core.proofs.searcher.Searcher.new.Goals as goal
 
-pub returns-clause-visits : goal.returns-clause-visits
-returns-clause-visits c =
-    omega (arith, counted-core _ c.in_ok-spots.spots.items c.in_ok-spots.ensures.stands, core_within (tree_of c.args.hir.now))
+pub invariant_of-result : goal.invariant_of-result
+invariant_of-result c = record {
+  groups = c.group_count-groups.ensures;
+  falls = c.in_ok-spots.ensures.falls;
+  preferred = c.in_ok-spots.ensures.preferred;
+  visits = visits;
+  filter = filter;
+  text = c.in_ok-text.ensures;
+}
+  where
+    visits : counted c.in_ok-spots.spots.items ≤ spots_of c.args.hir
+    visits = omega (arith, counted-core _ c.in_ok-spots.spots.items c.in_ok-spots.ensures.stands, core_within (tree_of c.args.hir))
 
-pub invariant_of-result-clause-is_text : goal.invariant_of-result-clause-is_text
-invariant_of-result-clause-is_text c =
-    finds-text c.in_ok-spots.spots.items c.group_count.result c.args.hir.now _ refl c.in_ok-spots.ensures.preferred _ c.in_ok-text.ensures
+    filter : IfSome c.in_ok-filter.filter (IsFilterOf c.in_ok-spots.spots.items)
+    filter = search rules

@@ -1,5 +1,5 @@
 use Rattle.std.proofs.Common.{◌≡◌, take, replicate, None}
-use Rattle.hir_core.proofs.slots.Slots.unset_all.Given as goal
+use Rattle.hir_core.proofs.slots.unset.Given as goal
 
 -- the slots so far are unset
 abbrev pub invariant-loop-span : goal.invariant-loop-span
