@@ -36,11 +36,10 @@ pub struct Searcher {
 impl Model for Searcher {
     ghost use Rattle.hir_tree.specs.declared.hir.Hir.{Hir};
     ghost use Rattle.hir_tree.specs.contracts.hir.Hir as pattern;
-    ghost use Rattle.std.specs.Coded.{codes};
 
     ghost Value = { Hir };
 
-    ghost coded = { Prim.hlevel (codes, pattern.the_row.coded) };
+    ghost coded = { pattern.the_row.coded };
 
     ghost use Rattle.hir_core.specs.Compiled.{IsCompiled};
 
