@@ -9,6 +9,7 @@
 
 mod byte_ranges;
 mod char_ranges;
+mod copying;
 mod core_laws;
 mod count;
 mod examples;
