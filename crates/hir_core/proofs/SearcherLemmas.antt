@@ -7,7 +7,7 @@ use Rattle.hir_core.specs.Found.{IsOfLeast, IsFound}
 use Rattle.hir_tree.specs.Cores.{core_of}
 use Rattle.hir_tree.specs.Spots.{groups_of}
 use Rattle.hir_core.specs.Compiled.{IsCompiled}
-use Rattle.hir_core.specs.PlainText.{text_of, text_found}
+use Rattle.hir_tree.specs.PlainText.{text_of, text_found}
 use Rattle.hir_tree.specs.Runs.{Run, first, preferred}
 use Rattle.hir_core.specs.Pass.{first_of, begins, groups_found, first_from, best_in}
 use Rattle.grep_matcher.specs.Span.{Span}
@@ -15,7 +15,7 @@ use Rattle.hir_core.specs.declared.pass.Best.{Best}
 use Rattle.hir_core.specs.declared.scan.Scan.{Scan}
 use Rattle.hir_tree.specs.declared.hir.Hir.{Hir}
 use Rattle.hir_core.specs.declared.spot.Spot.{Spot}
-use Rattle.hir_core.proofs.PlainTextLemmas.{preferred-text}
+use Rattle.hir_tree.proofs.PlainTextLemmas.{preferred-text}
 use Rattle.hir_core.proofs.SoundRunsLemmas.{IsWhole, first_from-whole}
 
 module _ {A : Type 0} (each : ℕ → Option A) (at to : ℕ) where
