@@ -1,8 +1,7 @@
 //! Patterns that are one text, and the search for one.
 
 ghost use Rattle.std.specs.Prelude.{◌≡◌, ◌+◌, ◌-◌, ◌<◌, ◌≤◌, ◌++◌, length, map, option_map, IfOk, IfSome, OnOk, Some, None, if◌then◌else◌};
-ghost use Rattle.hir_core.specs.Found.{IsFound, IsOfLeast};
-ghost use Rattle.hir_core.specs.PlainText.{place_found};
+ghost use Rattle.hir_core.specs.Found.{IsFound, IsOfLeast, place_found};
 ghost use Rattle.hir_tree.specs.PlainText.{joined_all, text_found, text_of};
 
 use crate::{Bytes, Hir, Slots};

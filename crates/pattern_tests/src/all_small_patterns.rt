@@ -82,7 +82,7 @@ fn compare(
     texts: &[Vec<u8>],
 ) -> Result<(usize, usize), Fail> {
     let alloc = rt.alloc();
-    let searcher = Searcher::new(alloc, pattern(alloc, signs)?)?;
+    let searcher = Searcher::new(alloc, &pattern(alloc, signs)?)?;
     let groups = group_count(searcher.hir());
     let mut wanted = Slots::new(alloc, groups)?;
     let mut slots = Slots::new(alloc, groups)?;

@@ -37,7 +37,7 @@ fn check(
     end: usize,
 ) -> Result<(), NoMemory> {
     let alloc = rt.alloc();
-    let searcher = Searcher::new(alloc, nested(alloc, counts, greedy)?)?;
+    let searcher = Searcher::new(alloc, &nested(alloc, counts, greedy)?)?;
     let groups = group_count(searcher.hir());
     let mut slots = Slots::new(alloc, groups)?;
     assert!(rt; slots.len() == groups as usize + 1);

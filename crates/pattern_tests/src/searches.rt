@@ -113,7 +113,7 @@ fn check(
     groups: &str,
 ) -> Result<(), Fail> {
     let alloc = rt.alloc();
-    let searcher = Searcher::new(alloc, pattern(alloc, signs.as_bytes())?)?;
+    let searcher = Searcher::new(alloc, &pattern(alloc, signs.as_bytes())?)?;
     let count = group_count(searcher.hir()) as usize;
     let mut slots = Slots::new(alloc, group_count(searcher.hir()))?;
     for way in [Way::InOnePass, Way::WithCountedSteps, Way::ByStack] {
@@ -172,7 +172,7 @@ fn check_again(
     groups: &str,
 ) -> Result<(), Fail> {
     let alloc = rt.alloc();
-    let searcher = Searcher::new(alloc, pattern(alloc, signs)?)?;
+    let searcher = Searcher::new(alloc, &pattern(alloc, signs)?)?;
     let text = b"user_i, user_id, a_id".as_slice();
     assert!(rt; at <= text.len() && slots.len() == group_count(searcher.hir()) as usize + 1);
     search(&searcher, Way::InOnePass, text, at, slots)?;
@@ -196,7 +196,7 @@ fn slots_are_used_again(rt: HostRuntime) -> Result<(), Fail> {
 /// Whether a search finds a match, and how many steps it notes.
 fn steps_of(rt: &impl AllocGlobal, signs: &[u8], text: &[u8]) -> Result<(bool, u64), Fail> {
     let alloc = rt.alloc();
-    let searcher = Searcher::new(alloc, pattern(alloc, signs)?)?;
+    let searcher = Searcher::new(alloc, &pattern(alloc, signs)?)?;
     let mut slots = Slots::new(alloc, group_count(searcher.hir()))?;
     let mut steps = Steps::new(Tally::default());
     let is_found = searcher.search_at_steps(text, 0, &mut slots, &mut steps)?;

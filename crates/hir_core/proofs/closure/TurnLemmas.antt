@@ -18,9 +18,9 @@ use Rattle.hir_core.specs.declared.spot.Spot.TheVariants as spot
 use Rattle.hir_tree.proofs.ListLemmas.{All-append}
 use Rattle.hir_tree.proofs.RunsLemmas.{TakesWithin, byte_size-within, char_size-within}
 use Rattle.hir_core.proofs.ProgramLemmas.{not_fail}
-use Rattle.hir_core.proofs.ClosureLemmas.{Entry, entry, nonempty, pend, Children}
+use Rattle.hir_core.proofs.closure.ClosureLemmas.{Entry, entry, nonempty, pend, Children}
 use Rattle.hir_core.proofs.PlacedLemmas.{gives-at}
-use Rattle.hir_core.proofs.PassLemmas.{Stands, Stands-dropped, Stands-seen, Stands-led, Stands-kept, Stands-closed, Stands-match, Stands-begin, Stands-end, nowhere}
+use Rattle.hir_core.proofs.pass.PassLemmas.{Stands, Stands-dropped, Stands-seen, Stands-led, Stands-kept, Stands-closed, Stands-match, Stands-begin, Stands-end, nowhere}
 
 -- where a spot leads without a byte
 abbrev pub led_to : List ℕ → Spot → Way → List Entry

@@ -14,7 +14,7 @@ use Rattle.hir_core.specs.StackSearch.{LiesBefore, IsSound, AllSound}
 use Rattle.hir_core.specs.declared.spot.Spot.{Spot}
 use Rattle.hir_core.specs.declared.spot.Spot.TheVariants as spot
 use Rattle.hir_tree.proofs.ListLemmas.{All-append}
-use Rattle.hir_core.proofs.StackLemmas.{past, leads-sound, sound-begin}
+use Rattle.hir_core.proofs.stack_search.StackLemmas.{past, leads-sound, sound-begin}
 
 -- what the so many groups of a run hold lies before its end
 pub record IsWhole (count : ℕ) (r : Run) : Type 0 where

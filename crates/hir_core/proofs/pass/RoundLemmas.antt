@@ -9,7 +9,7 @@ use Rattle.hir_core.specs.Trails.{Stop}
 use Rattle.hir_core.specs.Pass.{first_of, some_run, stop_gives, stops_give, begins, begins_unless, first_from, answer, Spent, Followed, AllLater, AllFrom}
 use Rattle.hir_core.specs.declared.spot.Spot.{Spot}
 use Rattle.hir_tree.proofs.ListLemmas.{All-weaker}
-use Rattle.hir_core.proofs.PassLemmas.{first_of_two}
+use Rattle.hir_core.proofs.pass.PassLemmas.{first_of_two}
 
 -- what comes after doesn't matter to two lists of which the first runs are the same
 first_then : (xs ys zs : List Run) → first_of xs ≡ first_of ys → first_of (xs ++ zs) ≡ first_of (ys ++ zs)

@@ -7,8 +7,8 @@ use Rattle.hir_core.specs.Masks.{HasBit, IsPart, match_bit, row_place, next_of, 
 use Rattle.hir_core.specs.Scan.{IsFilterOf}
 use Rattle.hir_core.specs.declared.spot.Spot.{Spot}
 use Rattle.hir_core.specs.declared.scan.Scan.{Scan}
-use Rattle.hir_core.proofs.MaskLemmas.{HasBit-none, HasBit-above, HasBit-or_left, HasBit-or_right, HasBit-and, HasBit-eight}
-use Rattle.hir_core.proofs.DeadLemmas.{AreDead-part, IsDead-taker, spot_size-within, one_byte, NoRun-dead}
+use Rattle.hir_core.proofs.scan.bits.MaskLemmas.{HasBit-none, HasBit-above, HasBit-or_left, HasBit-or_right, HasBit-and, HasBit-eight}
+use Rattle.hir_core.proofs.scan.reach.DeadLemmas.{AreDead-part, IsDead-taker, spot_size-within, one_byte, NoRun-dead}
 
 -- What the filter has looked at: no run begins before `from`, and none that begins from there on, unless a spot of the state
 -- gives something at the place.

@@ -3,7 +3,7 @@ use Rattle.std.proofs.Common.{◌≡◌, ℕ, zero, suc, ◌+◌, ◌-◌, ◌<�
 use Rattle.std.specs.Prelude.{slice_get, slice_set, option_map}
 use Rattle.std.specs.List.{starts_with}
 use Rattle.std.proofs.lemmas.Bool.Decides.{Decides-eqb}
-use Rattle.std.proofs.lemmas.List.{take_more}
+use Rattle.std.proofs.lemmas.List.{map-set, take_more}
 use Rattle.std.proofs.lemmas.Option.{none-some, same_Some, slice_get_within, get_or_from_slice_get}
 use Rattle.std.proofs.lemmas.Slice.Eq.{starts_is}
 use Rattle.memchr.specs.Find.{OccursAt, FindsNeedle}
@@ -12,8 +12,7 @@ use Rattle.grep_matcher.specs.PlainLemmas.{text_fits}
 use Rattle.grep_matcher.specs.Span.{Span}
 use Rattle.hir_tree.specs.PlainText.{joined, joined_all, text_of, stands_at, text_groups, text_found}
 use Rattle.hir_tree.specs.declared.hir.Hir.{Hir}
-use Rattle.hir_core.specs.Found.{IsOfLeast, span_of}
-use Rattle.hir_core.specs.PlainText.{place_found}
+use Rattle.hir_core.specs.Found.{IsOfLeast, span_of, place_found}
 
 -- the text of the parts from one on is that of the part, and of the parts after it
 pub texts_from : (parts : List Hir) (i : ℕ) (d : Hir) → i < length parts

@@ -11,8 +11,8 @@ use Rattle.hir_core.specs.declared.spot.Spot.{Spot}
 use Rattle.hir_core.specs.declared.spot.Spot.TheVariants as spot
 use Rattle.hir_tree.proofs.CoreNumbersLemmas.{some_numbers}
 use Rattle.hir_core.proofs.PlacedLemmas.{program-runs}
-use Rattle.hir_core.proofs.SizeLemmas.{copies_on, up_to_on, up_to_last}
-use Rattle.hir_core.proofs.PlacingLemmas.{Same, Placed-same, program-falls}
+use Rattle.hir_core.proofs.size.SizeLemmas.{copies_on, up_to_on, up_to_last}
+use Rattle.hir_core.proofs.compile.PlacingLemmas.{Same, Placed-same, program-falls}
 
 -- the place that was pushed
 pushed_at : (old : List Spot) (s : Spot) (n : ℕ) → length old ≡ n → spot_at (old ++ s ∷ []) n ≡ s

@@ -13,7 +13,7 @@ use Rattle.hir_core.specs.declared.spot.Spot.{Spot}
 use Rattle.hir_core.specs.declared.spot.Spot.TheVariants as spot
 use Rattle.hir_core.proofs.PlacedLemmas.{gives-at, gives-close}
 use Rattle.hir_core.proofs.PruningLemmas.{Subset, unseen_before, mono}
-use Rattle.hir_core.proofs.ClosureLemmas.{Entry, entry, seen_by, nonempty, pend, Covers, Children, Covers-expand, Covers-kept, Covers-seen}
+use Rattle.hir_core.proofs.closure.ClosureLemmas.{Entry, entry, seen_by, nonempty, pend, Covers, Children, Covers-expand, Covers-kept, Covers-seen}
 
 -- what comes after something doesn't matter
 pub first_before : (xs ys zs : List Run) → nonempty xs ≡ true → first (map forget (xs ++ ys)) ≡ first (map forget (xs ++ zs))

@@ -1,11 +1,12 @@
 -- From the first run of the least place to what a searcher finds.
-use Rattle.std.proofs.Common.{◌≡◌, ℕ, zero, suc, ◌+◌, ◌-◌, ◌≤◌, Bool, true, false, inl, inr, List, [], ◌∷◌, length, Option, Some, None, true≢false, refl, sym, ap, ap₂, ◌∙◌, subst, arith}
+use Rattle.std.proofs.Common.{◌≡◌, ℕ, zero, suc, ◌+◌, ◌-◌, ◌≤◌, Bool, true, false, inl, inr, List, [], ◌∷◌, length, Option, Some, None, true≢false, refl, sym, ap, ◌∙◌, subst, arith}
 use Rattle.std.specs.Prelude.{option_map}
 use Rattle.std.specs.Option.{is_some, option_or}
 use Rattle.std.proofs.lemmas.Bool.{cases_lt, false≢true}
 use Rattle.hir_core.specs.Found.{IsOfLeast, IsFound}
 use Rattle.hir_tree.specs.Cores.{core_of}
 use Rattle.hir_tree.specs.Spots.{groups_of}
+use Rattle.hir_tree.specs.Tree.{tree_of}
 use Rattle.hir_core.specs.Compiled.{IsCompiled}
 use Rattle.hir_tree.specs.PlainText.{text_of, text_found}
 use Rattle.hir_tree.specs.Runs.{Run, first, preferred}
@@ -16,7 +17,7 @@ use Rattle.hir_core.specs.declared.scan.Scan.{Scan}
 use Rattle.hir_tree.specs.declared.hir.Hir.{Hir}
 use Rattle.hir_core.specs.declared.spot.Spot.{Spot}
 use Rattle.hir_tree.proofs.PlainTextLemmas.{preferred-text}
-use Rattle.hir_core.proofs.SoundRunsLemmas.{IsWhole, first_from-whole}
+use Rattle.hir_core.proofs.searcher.SoundRunsLemmas.{IsWhole, first_from-whole}
 
 module _ {A : Type 0} (each : ℕ → Option A) (at to : ℕ) where
   -- the first place has something
@@ -117,4 +118,4 @@ module _ (hir : Hir) (groups : ℕ) (spots : List Spot) (scan : Option Scan) (by
       → IsFound (preferred (core_of pattern) (groups_of pattern) text) at (length text) found slots
   found-by_text needle e n k =
       found-same (text_found needle n text) (preferred (core_of pattern) (groups_of pattern) text) at (length text)
-      (λ p within. ap (λ m. text_found needle m text p) k ∙ sym (preferred-text pattern needle (ap text_of (sym same) ∙ sym compiled.text ∙ e) (groups_of pattern) text p)) found slots
+      (λ p within. ap (λ m. text_found needle m text p) k ∙ sym (preferred-text (tree_of pattern) needle (ap text_of (sym same) ∙ sym compiled.text ∙ e) (groups_of pattern) text p)) found slots
