@@ -21,8 +21,8 @@ use Rattle.glob_match.specs.Places.{Holds}
 use Rattle.glob_match.specs.Onward.{GoesOn, IsOnward, IsOnwardFrom, depth_after}
 use Rattle.glob_match.specs.Captures.{between, captured, LeadsOn, IsEnd, IsFirst, Captures}
 use Rattle.glob_match.specs.Walk.{Stand, turned, Moves, PassesAt, IsNearest, moved, passed_over, IsPieceStep, entered, IsLooked, IsOpenStep, IsParting, closing, IsWalkStep, HasCapture, AreAfter}
-use Rattle.glob_match.proofs.MatchingLemmas.{piece_rest, opened_rest, parted_rest, closed_rest, piece_is, open_is, none_or_last, length_last, reverse_last}
-use Rattle.glob_match.proofs.CapturesLemmas.{least_same, Finishes, MovesIn, PassesIn, finish_moved, finish_passed, open_taking, open_looking, open_passing, part_taking, part_looked, part_looking, part_passing, close_taking, close_passing}
+use Rattle.glob_match.proofs.matching.MatchingLemmas.{piece_rest, opened_rest, parted_rest, closed_rest, piece_is, open_is, none_or_last, length_last, reverse_last}
+use Rattle.glob_match.proofs.walk.CapturesLemmas.{least_same, Finishes, MovesIn, PassesIn, finish_moved, finish_passed, open_taking, open_looking, open_passing, part_taking, part_looked, part_looking, part_passing, close_taking, close_passing}
 
 -- ---- from where the walk stands, one may go on to the path's end
 

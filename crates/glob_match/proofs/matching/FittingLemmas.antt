@@ -7,7 +7,7 @@ use Rattle.glob_match.specs.Takes.{Takes, FitsUnder, Fits}
 use Rattle.glob_match.specs.Places.{IsReached}
 use Rattle.glob_match.specs.declared.walk.Capture.{Capture}
 use Rattle.glob_match.specs.Captures.{Captures, GlobCaptures}
-use Rattle.glob_match.proofs.PlacesLemmas.{some_true}
+use Rattle.glob_match.proofs.places.PlacesLemmas.{some_true}
 
 -- one more `!` turns the answer
 turned : (b odd : Bool) → (not (beq b (not odd)) ≡ true) ↔ ¬ (not (beq b odd) ≡ true)

@@ -16,8 +16,8 @@ use Rattle.glob_match.specs.Takes.{PieceTakes, OptionTakes}
 use Rattle.glob_match.specs.Places.{Holds, IsUnion, IsNowhere, OpenBrace, IsOfPlaces}
 use Rattle.glob_match.specs.Onward.{GoesOn, depth_after, IsOnwardFrom, AreOnward}
 use Rattle.glob_match.specs.Backward.{IsStepBack, IsEndAlone, depths_from, IsKept, IsPieceBack, IsTokenStepBack}
-use Rattle.glob_match.proofs.ReadingLemmas.{drop_next}
-use Rattle.glob_match.proofs.MatchingLemmas.{AreOfPlaces, without_last, with_one_more, none_or_last, reverse_last, piece_is, piece_rest, open_is, opened_rest, parted_rest, closed_rest}
+use Rattle.glob_match.proofs.parse.ReadingLemmas.{drop_next}
+use Rattle.glob_match.proofs.matching.MatchingLemmas.{AreOfPlaces, without_last, with_one_more, none_or_last, reverse_last, piece_is, piece_rest, open_is, opened_rest, parted_rest, closed_rest}
 
 -- ---- a piece or a brace before what stands after it
 

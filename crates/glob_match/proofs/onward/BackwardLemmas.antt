@@ -8,7 +8,7 @@ use Rattle.glob_match.specs.declared.piece.Piece.TheVariants.{One, AnyRun, AnyDe
 use Rattle.glob_match.specs.Takes.{IsAfterSeparator}
 use Rattle.glob_match.specs.Places.{Holds, TakesAt}
 use Rattle.glob_match.specs.Backward.{LeadsInto, IsStepBack}
-use Rattle.glob_match.proofs.PlacesLemmas.{some_true, set_here, set_elsewhere}
+use Rattle.glob_match.proofs.places.PlacesLemmas.{some_true, set_here, set_elsewhere}
 
 -- a set that is turned, place by place from its end, into the places of P: the places from k on are done, those before are the old ones
 pub record IsTurnedFrom (P : ℕ → Type 0) (old now : List Bool) (k : ℕ) : Type 0 where

@@ -19,8 +19,8 @@ use Rattle.std.specs.Option.{option_and_then}
 use Rattle.std.proofs.lemmas.List.{append-nil}
 use Rattle.glob_match.specs.Reading.{before, escape, symbols_after, negations, is_sign, character_of, found, class_of, class_body, class_at, star_tails, star_before, star_at, token_at, tokens_from, pieces_of_symbols, pieces_of_tokens, pieces_of}
 use Rattle.glob_match.specs.Validity.{after_at, after_symbol, ends_at, is_end, no_longer_escaped, after_character_at, after_character, may_end}
-use Rattle.glob_match.proofs.ReadingLemmas.{plain_first, passed, token_first, no_token_first}
-use Rattle.glob_match.proofs.NestingLemmas.{nests, nests_by, nests_end}
+use Rattle.glob_match.proofs.parse.ReadingLemmas.{plain_first, passed, token_first, no_token_first}
+use Rattle.glob_match.proofs.parse.NestingLemmas.{nests, nests_by, nests_end}
 
 -- ---- the test on symbols
 

@@ -10,7 +10,7 @@ use Rattle.grep_matcher.specs.declared.fault.Fault.TheVariants.{Matcher, NoMemor
 use Rattle.grep_matcher.specs.Faults.{IsCaused}
 use Rattle.grep_matcher.specs.Visits.{End, at_the_end, at_answer, broken_off, Visits, VisitsCover, IsStopped, IsAnswered}
 use Rattle.grep_matcher.specs.Replaced.{Written, Replaces, Extends, LiesWithin}
-use Rattle.grep_matcher.proofs.CoverLemmas.{Chain, after_span, chain_earlier, chain_exists, cover_from_chain, Decides}
+use Rattle.grep_matcher.proofs.laws.CoverLemmas.{Chain, after_span, chain_earlier, chain_exists, cover_from_chain, Decides}
 
 -- what is known of the place where a search goes on: an end that is refused lies before it
 pub record IsState (n from : ℕ) (skip : Option ℕ) : Type 0 where

@@ -1,7 +1,7 @@
 -- Whether braces nest well, token by token.
 use Rattle.std.proofs.Common.{◌≡◌, ◌↔◌, ◌==◌, ℕ, zero, suc, Bool, true, false, List, [], ◌∷◌, Option, Some, None, IsSome, ◌+◌, ◌<◌, length, drop, get_or, arith, refl, sym, ap, subst, ◌∙◌}
 use Rattle.std.proofs.lemmas.Bool.{ne_eqb}
-use Rattle.glob_match.proofs.ReadingLemmas.{drop_next}
+use Rattle.glob_match.proofs.parse.ReadingLemmas.{drop_next}
 use Rattle.glob_match.specs.declared.piece.Piece.{Piece}
 use Rattle.glob_match.specs.declared.piece.Token.{Token}
 use Rattle.glob_match.specs.declared.piece.Token.TheVariants as token

@@ -14,7 +14,7 @@ use Rattle.std.specs.Str.Parse.{ParsesUnsigned, digits_value}
 use Rattle.memchr.specs.Find.{IsFirstByte, is_byte}
 use Rattle.grep_matcher.specs.Replaced.{Extends}
 use Rattle.grep_matcher.specs.Reached.{Reached, at_first, by_a_call}
-use Rattle.grep_matcher.proofs.ReachedLemmas.{reached_on}
+use Rattle.grep_matcher.proofs.references.ReachedLemmas.{reached_on}
 use Rattle.grep_matcher.specs.References.{is_word, name_at, Target, number, named, target, Reference, reference_at, reference_by, begins_with, braced, after_dollar, Piece, byte, two_dollars, group, Front, front, reference_or, dollars_or_byte, pieces_after, pieces, meaning, expand, Adds, Looks, Keeps, Appends, Answers}
 
 word_is_ascii : (b : ℕ) → is_word b ≡ true → b < 128

@@ -6,7 +6,7 @@ use Rattle.std.proofs.lemmas.Str.{encodes-append, encodes-chars, length-encode}
 use Rattle.std.proofs.Math.ListN.{get_or-append}
 use Rattle.std.proofs.Math.Seq.{get_or-append_seam}
 use Rattle.std.specs.Char.{len_utf8}
-use Rattle.glob_match.proofs.ReadingLemmas.{drop_next}
+use Rattle.glob_match.proofs.parse.ReadingLemmas.{drop_next}
 use Rattle.glob_match.specs.Captures.{byte_place, AreBytePlaces}
 
 -- the loop over the characters so far: the byte of each place before the one reached, and the byte of this
