@@ -1,5 +1,8 @@
-use super::*;
-use sd_edge::{MemDisk, MemSink, MemSource};
+//! Runs of the program on disks in memory.
+
+use sd_core::{Ended, Error, Why, run};
+use sd_edge::{DiskFault, MemDisk, MemSink, MemSource, Words};
+use std::alloc::Global;
 use std::test::Fail;
 
 const TREE_COMMAND: [&str; 6] = ["--root", "/t", "--", "one", "1", "*.txt"];
@@ -15,13 +18,19 @@ fn two_files(alloc: Global) -> Result<MemDisk, Fail> {
 
 /// What a run ended with, and what it printed.
 #[derive(Drop)]
-struct Run {
-    ended: Ended,
-    out: MemSink,
-    err: MemSink,
+pub struct Run {
+    pub ended: Ended,
+    pub out: MemSink,
+    pub err: MemSink,
 }
 
-fn run_words(alloc: Global, disk: &mut MemDisk, words: &[&str], room: usize) -> Result<Run, Fail> {
+/// Runs the words without input. What is printed has so many bytes of room.
+pub fn run_words(
+    alloc: Global,
+    disk: &mut MemDisk,
+    words: &[&str],
+    room: usize,
+) -> Result<Run, Fail> {
     let mut list = Words::new(alloc);
     for word in words {
         list.push(word)?;
@@ -34,7 +43,7 @@ fn run_words(alloc: Global, disk: &mut MemDisk, words: &[&str], room: usize) -> 
 }
 
 /// Whether the file at a path holds these bytes.
-fn holds(alloc: Global, disk: &MemDisk, path: &str, bytes: &[u8]) -> Result<bool, Fail> {
+pub fn holds(alloc: Global, disk: &MemDisk, path: &str, bytes: &[u8]) -> Result<bool, Fail> {
     match disk.read_all(alloc, path)? {
         None => Ok(false),
         Some(held) => Ok(held.as_slice() == bytes),

@@ -1,5 +1,7 @@
-use super::*;
-use crate::Kind;
+//! The disk in memory, by its own calls.
+
+use sd_edge::{BuildFault, Disk, DiskFault, Ident, Kind, MemDisk};
+use std::alloc::Global;
 use std::test::Fail;
 
 /// A disk with `/t/a.txt` and a link `/l` to `t`.
