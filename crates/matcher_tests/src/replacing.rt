@@ -95,9 +95,11 @@ fn a_lent_closure_counts_the_pairs(rt: HostRuntime) -> Result<(), Fail> {
     let alloc = rt.alloc();
     let pairs = Pairs { first: b'-' };
     let mut caps = pairs.new_captures()?;
+    assert!(rt; pairs.captures(PAIRS, &mut caps)?);
+    assert_eq!(rt; caps.get(1), Some(Match::new(1, 2)));
     let mut dst = b"> ".to_vec(alloc)?;
-    let counted = replaced_and_counted(&pairs, PAIRS, &mut caps, b"+", &mut dst);
-    assert!(rt; matches!(counted, Ok(2)));
+    let counted = replaced_and_counted(&pairs, PAIRS, &mut caps, b"+", &mut dst).ok();
+    assert_eq!(rt; counted, Some(2));
     assert_eq!(rt; dst.as_slice(), b"> ++.".as_slice());
     Ok(())
 }

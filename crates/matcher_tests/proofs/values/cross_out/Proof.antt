@@ -91,7 +91,7 @@ cross_out_spec 𝓤 𝓛 𝓜 𝓡 wired =
     let K = triple_of 𝓛 h.signature (h.spec 𝓛 𝓜.mem 𝓡.returns) in
     let k : K.Ghost = (((α ∷ [], tt), (full_share, tt), tt, (r, tt), (mut_slice_vals r, tt)), tt) in
     nothing ! $ move ! (1 ∷ 0 ∷ []) $ join ! $ nothing ! $ move ! (4 ∷ 0 ∷ []) $ join ! $ join ! $ nothing ! $ move ! (1 ∷ 0 ∷ []) $ use2 𝓛 (raw (K.pre k)) (id⊢ 𝓤 _) $
-    calls_at ! (framed 𝓤 𝓛.H 𝓜 (tables 𝓤 𝓛.H 𝓜 𝓡 𝓡.env)) K (h-thm.met 𝓤 𝓛 𝓜 𝓡 (code.calls-grep_matcher::tests::values::cross 𝓡.env wired)) k (and_then ! (get ! refl) (no_more !)) (λ v'.
+    calls_at ! (framed 𝓤 𝓛.H 𝓜 (tables 𝓤 𝓛.H 𝓜 𝓡 𝓡.env)) K (h-thm.met 𝓤 𝓛 𝓜 𝓡 (code.calls-matcher_tests::values::cross 𝓡.env wired)) k (and_then ! (get ! refl) (no_more !)) (λ v'.
     use1 𝓛 (later (some (λ (u : Unit {0}). ((‵ (flft (α ∷ []) full_share) ⊛ ‵ ftrue) ⊛ ‵ (unit.own_val u (v' ∷ []))) ⊛
     some (λ (us : List ℕ × Unit {0}). ‵ (lasts h.ended k.0.0 k.0.3 us) ⊛ raw (fact 𝓤 (us.0 ≡ replicate (length r.now) 120)))))) (id⊢ 𝓤 _) $
     await ! tt $ pick ! (λ u. split ! $ split ! $ split ! $ lft_end ! tt $ move ! (2 ∷ []) $ feq_l ! (λ is_unit. lands_as ! (ap only is_unit) refl (tt, tt) $
