@@ -1,4 +1,4 @@
-//! Tests of the program, of the disk in memory and of counted steps by public calls alone.
+//! Tests of the program and of the disk in memory by public calls alone.
 //!
 //! They stand above the crates that they test, so that none of those is proved a second time for its tests.
 #![tactic(auto)]
@@ -9,5 +9,3 @@ mod chosen_files;
 mod memory_disks;
 #[cfg(test)]
 mod runs;
-#[cfg(test)]
-mod steps;
