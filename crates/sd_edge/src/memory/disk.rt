@@ -499,6 +499,3 @@ impl Disk for MemDisk {
         }
     }
 }
-
-#[cfg(test)]
-mod tests;
