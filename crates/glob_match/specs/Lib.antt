@@ -11,3 +11,5 @@ pub mod Reading
 pub mod Takes
 pub mod Validity
 pub mod Walk
+pub use Rattle.sd_base.specs.Steps
+pub use Rattle.sd_base.specs.StepsView

@@ -29,8 +29,6 @@ mod onward;
 mod parse;
 mod piece;
 mod places;
-#[cfg(test)]
-mod slow;
 mod validity;
 mod walk;
 

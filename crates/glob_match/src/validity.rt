@@ -144,29 +144,3 @@ pub fn glob_valid(glob: &str) -> bool
         Some(end) => end.is_end(),
     }
 }
-
-#[cfg(test)]
-mod tests {
-    use super::*;
-    use std::test::Fail;
-
-    #[test]
-    fn tells_valid_globs(rt: HostRuntime) -> Result<(), Fail> {
-        let cases = [
-            ("{a", false),
-            ("{{{{{{{{{{{}}}}}}}}}}}", false),
-            ("{{{{{{{{{{}}}}}}}}}}", true),
-            ("[!]", false),
-            ("a\\", false),
-            ("[]a]", true),
-            ("a/{b,c[}]*}", true),
-            ("x{a,}", true),
-            ("!!*.md", true),
-            ("", true),
-        ];
-        for (glob, wanted) in cases {
-            assert_eq!(rt; glob_valid(glob), wanted, "{glob}");
-        }
-        Ok(())
-    }
-}

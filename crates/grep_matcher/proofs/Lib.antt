@@ -1,9 +1,4 @@
-pub mod ByteSetLemmas
-pub mod CoverCallLemmas
-pub mod CoverLemmas
+pub use Rattle.grep_matcher.proofs.laws.CoverLemmas
 pub mod GatheredLemmas
-pub mod GroupLemmas
-pub mod ReachedLemmas
-pub mod ReferenceLemmas
-pub mod ReplacedLemmas
-pub mod SpanLemmas
+pub use Rattle.grep_matcher.proofs.references.ReferenceLemmas
+pub use Rattle.grep_matcher.proofs.laws.ReplacedLemmas

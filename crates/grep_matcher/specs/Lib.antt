@@ -5,7 +5,6 @@ pub mod Cover
 pub mod Faults
 pub mod Groups
 pub mod NoMatch
-pub mod Pairs
 pub mod Plain
 pub mod PlainLemmas
 pub mod Reached

@@ -21,8 +21,6 @@ mod matcher;
 mod reference_examples;
 mod references;
 mod span;
-#[cfg(test)]
-mod tests;
 mod visiting;
 
 pub use byte_set::ByteSet;

@@ -5,7 +5,7 @@ use Rattle.hir_tree.specs.Spots.{groups_of, spots_of}
 use Rattle.hir_tree.specs.declared.hir.Hir.{Hir}
 use Rattle.hir_core.specs.Laid.{GivesPreferred}
 use Rattle.hir_core.specs.Pass.{counted}
-use Rattle.hir_core.specs.PlainText.{text_of}
+use Rattle.hir_tree.specs.PlainText.{text_of}
 use Rattle.hir_core.specs.Program.{ClosesFall}
 use Rattle.hir_core.specs.Scan.{IsFilterOf}
 use Rattle.hir_core.specs.declared.scan.Scan.{Scan}

@@ -1,6 +1,7 @@
 -- What a search finds, and how slots hold it.
-use Rattle.std.specs.Prelude.{◌≡◌, ⊤, ℕ, ◌<◌, ◌≤◌, Bool, true, false, List, length, map, replicate, Option, Some, None}
+use Rattle.std.specs.Prelude.{◌≡◌, ⊤, ℕ, ◌<◌, ◌≤◌, Bool, true, false, List, length, map, replicate, Option, Some, None, if◌then◌else◌}
 use Rattle.grep_matcher.specs.Span.{Span}
+use Rattle.hir_tree.specs.PlainText.{stands_at}
 
 -- a group that is set ends where it starts, or later
 abbrev pub IsInOrder : Option (ℕ × ℕ) → Type 0
@@ -23,3 +24,7 @@ abbrev pub IsFound : (ℕ → Option (List (Option (ℕ × ℕ)))) → ℕ → �
 IsFound each from to true slots =
     (groups : List (Option (ℕ × ℕ))) × IsOfLeast each from to (Some groups) × (slots ≡ map span_of groups)
 IsFound each from to false slots = IsOfLeast each from to None × (slots ≡ replicate (length slots) None)
+
+-- the place, where the bytes stand there
+abbrev pub place_found : List ℕ → List ℕ → ℕ → Option ℕ
+place_found bytes text at = if stands_at bytes text at then Some at else None

@@ -30,12 +30,11 @@ pub use hir_tree::{
     ascii_words_stand_as_in_the_examples, broken_sides_count_as_in_the_examples,
     characters_stand_beside_a_place, choices_join_runs, group_count,
     groups_match_as_in_the_examples, holds, lines_start_and_end_as_in_the_examples,
-    numbers_do_not_matter, preferred_is_the_first_run, preferred_matches_are_whole,
-    repetitions_match_as_in_the_examples, rounds_are_not_cut_off, runs_go_forward,
-    sets_and_looks_match_as_in_the_examples, spots, trees_in_a_row_are_sound_where_each_is,
-    trees_in_a_row_have_the_groups_of_each, trees_in_a_row_take_the_spots_of_each,
-    words_stand_as_in_the_examples,
+    numbers_do_not_matter, one_text_matches_where_it_stands, preferred_is_the_first_run,
+    preferred_matches_are_whole, repetitions_match_as_in_the_examples, rounds_are_not_cut_off,
+    runs_go_forward, sets_and_looks_match_as_in_the_examples, spots,
+    trees_in_a_row_are_sound_where_each_is, trees_in_a_row_have_the_groups_of_each,
+    trees_in_a_row_take_the_spots_of_each, words_stand_as_in_the_examples,
 };
-pub use plain::one_text_matches_where_it_stands;
 pub use searcher::Searcher;
 pub use slots::Slots;

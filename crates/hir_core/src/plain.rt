@@ -1,8 +1,8 @@
 //! Patterns that are one text, and the search for one.
 
 ghost use Rattle.std.specs.Prelude.{◌≡◌, ◌+◌, ◌-◌, ◌<◌, ◌≤◌, ◌++◌, length, map, option_map, IfOk, IfSome, OnOk, Some, None, if◌then◌else◌};
-ghost use Rattle.hir_core.specs.Found.{IsFound, IsOfLeast};
-ghost use Rattle.hir_core.specs.PlainText.{OneTextMatchesWhereItStands, joined_all, place_found, text_found, text_of};
+ghost use Rattle.hir_core.specs.Found.{IsFound, IsOfLeast, place_found};
+ghost use Rattle.hir_tree.specs.PlainText.{joined_all, text_found, text_of};
 
 use crate::{Bytes, Hir, Slots};
 use memchr::memmem::{Finder, FinderBuilder};
@@ -134,8 +134,3 @@ impl TextFinder {
         }
     }
 }
-
-/// The preferred match of a pattern that is one text is that text, where it stands.
-pub fn one_text_matches_where_it_stands()
-    ensures { OneTextMatchesWhereItStands }
-{}

@@ -5,6 +5,7 @@ ghost use Rattle.hir_tree.specs.Cores.{core_of};
 ghost use Rattle.hir_core.specs.Found.{IsFound};
 ghost use Rattle.hir_tree.specs.Runs.{preferred};
 ghost use Rattle.hir_tree.specs.Spots.{groups_of, spots_of};
+ghost use Rattle.hir_tree.specs.Tree.{tree_of};
 ghost use Rattle.sd_base.specs.Steps.{TicksAtMost};
 
 use crate::compile::program;
@@ -36,11 +37,10 @@ pub struct Searcher {
 impl Model for Searcher {
     ghost use Rattle.hir_tree.specs.declared.hir.Hir.{Hir};
     ghost use Rattle.hir_tree.specs.contracts.hir.Hir as pattern;
-    ghost use Rattle.std.specs.Coded.{codes};
 
     ghost Value = { Hir };
 
-    ghost coded = { Prim.hlevel (codes, pattern.the_row.coded) };
+    ghost coded = { pattern.the_row.coded };
 
     ghost use Rattle.hir_core.specs.Compiled.{IsCompiled};
 
@@ -50,17 +50,18 @@ impl Model for Searcher {
 }
 
 impl Searcher {
-    /// A searcher of a pattern. Refuses for want of memory alone.
-    pub fn new(alloc: Global, hir: Hir) -> Result<Searcher, NoMemory>
-        ensures { IfOk result (λ searcher. searcher ≡ hir) }
+    /// A searcher of a pattern, of which it keeps a copy. Refuses for want of memory alone.
+    pub fn new(alloc: Global, hir: &Hir) -> Result<Searcher, NoMemory>
+        ensures { IfOk result (λ searcher. tree_of searcher ≡ tree_of hir.now) }
     {
-        let spots = program(alloc, &hir)?;
+        let copy = hir.try_clone(alloc)?;
+        let spots = program(alloc, &copy)?;
         let filter = Scan::new(alloc, &spots)?;
-        let text = TextFinder::of_pattern(alloc, &hir)?;
-        let groups = group_count(&hir);
+        let text = TextFinder::of_pattern(alloc, &copy)?;
+        let groups = group_count(&copy);
         Ok(Searcher {
             alloc,
-            hir,
+            hir: copy,
             groups,
             spots,
             filter,

@@ -6,3 +6,4 @@ pub mod ListLemmas
 pub use Rattle.hir_tree.proofs.runs_laws.NumbersLemmas
 pub mod RunsComputing
 pub use Rattle.hir_tree.proofs.runs_laws.RunsLemmas
+pub use Rattle.hir_tree.proofs.plain_text.PlainTextLemmas

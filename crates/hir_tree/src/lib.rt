@@ -9,6 +9,7 @@
 
 mod byte_ranges;
 mod char_ranges;
+mod copying;
 mod core_laws;
 mod count;
 mod examples;
@@ -16,6 +17,7 @@ mod hir;
 mod laws;
 mod lists;
 mod look;
+mod plain_text;
 mod range_laws;
 mod ranges;
 mod runs_examples;
@@ -38,6 +40,7 @@ pub use hir::{Group, Hir, Hirs, Repeat};
 pub use laws::{a_set_takes_the_member_that_begins_at_a_place, characters_stand_beside_a_place};
 pub use lists::Bytes;
 pub use look::{Look, holds};
+pub use plain_text::one_text_matches_where_it_stands;
 pub use range_laws::{a_set_has_one_list_of_ranges, a_set_has_what_its_ranges_hold};
 pub use runs_examples::{
     groups_match_as_in_the_examples, repetitions_match_as_in_the_examples,

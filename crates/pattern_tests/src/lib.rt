@@ -4,10 +4,16 @@
 #![tactic(auto)]
 
 #[cfg(test)]
+mod all_small_patterns;
+#[cfg(test)]
 mod lists;
 #[cfg(test)]
 mod looks;
 #[cfg(test)]
 mod many_spots;
+#[cfg(test)]
+mod patterns;
+#[cfg(test)]
+mod searches;
 #[cfg(test)]
 mod trees;

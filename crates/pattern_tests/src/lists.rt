@@ -84,3 +84,34 @@ fn the_characters_round_the_gap_are_neighbours(rt: HostRuntime) -> Result<(), Fa
     );
     Ok(())
 }
+
+#[test]
+fn members_of_a_set_of_bytes(rt: HostRuntime) -> Result<(), Fail> {
+    let mut set = ByteRanges::new(rt.alloc());
+    set.add(b'a', b'f')?;
+    set.add(b'0', b'9')?;
+    assert!(rt; b"059acf".iter().all(|byte| set.contains(*byte)));
+    assert!(rt; !b"/:`g\xff".iter().any(|byte| set.contains(*byte)));
+    let copy = set.try_clone(rt.alloc())?;
+    check_bytes(&rt, &copy, &[(b'0', b'9'), (b'a', b'f')]);
+    let one = ByteRanges::of_byte(rt.alloc(), b'x')?;
+    check_bytes(&rt, &one, &[(b'x', b'x')]);
+    Ok(())
+}
+
+#[test]
+fn members_of_a_set_of_characters(rt: HostRuntime) -> Result<(), Fail> {
+    let mut set = CharRanges::new(rt.alloc());
+    set.add('à', 'é')?;
+    set.add('x', 'z')?;
+    set.add('\u{D7FF}', '\u{E000}')?;
+    assert!(rt; "xzàé\u{D7FF}\u{E000}".chars().all(|c| set.contains(c)));
+    assert!(rt; !"w{ßê\u{E001}".chars().any(|c| set.contains(c)));
+    let copy = set.try_clone(rt.alloc())?;
+    check_chars(
+        &rt,
+        &copy,
+        &[('x', 'z'), ('à', 'é'), ('\u{D7FF}', '\u{E000}')],
+    );
+    Ok(())
+}

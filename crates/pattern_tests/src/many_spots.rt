@@ -1,17 +1,11 @@
 //! Patterns that are written out to many spots.
 
+use crate::searches::{Way, search};
 use hir_core::{Bytes, Hir, Repeat, Searcher, Slots, group_count};
 use sd_base::NoMemory;
 use std::alloc::Global;
 use std::process::Abort;
 use std::test::Fail;
-
-/// `x`
-fn letter(alloc: Global) -> Result<Hir, NoMemory> {
-    let mut bytes = Bytes::new(alloc);
-    bytes.push(b'x')?;
-    Ok(Hir::Literal(bytes))
-}
 
 /// A part, at most so many times.
 fn up_to(alloc: Global, count: u32, greedy: bool, part: Hir) -> Result<Hir, NoMemory> {
@@ -23,59 +17,42 @@ fn up_to(alloc: Global, count: u32, greedy: bool, part: Hir) -> Result<Hir, NoMe
     }))
 }
 
+/// `x`, at most so many times, and that at most so many times, and so on.
+fn nested(alloc: Global, counts: &[u32], greedy: bool) -> Result<Hir, NoMemory> {
+    let mut bytes = Bytes::new(alloc);
+    bytes.push(b'x')?;
+    let mut hir = Hir::Literal(bytes);
+    for count in counts {
+        hir = up_to(alloc, *count, greedy, hir)?;
+    }
+    Ok(hir)
+}
+
 /// The match from the start of a text ends here.
 fn check(
-    rt: &impl Abort,
-    alloc: Global,
-    searcher: &Searcher,
+    rt: &(impl Abort + AllocGlobal),
+    counts: &[u32],
+    greedy: bool,
     text: &[u8],
     end: usize,
 ) -> Result<(), NoMemory> {
-    let mut slots = Slots::new(alloc, group_count(searcher.hir()))?;
-    assert!(rt; searcher.search_at(text, 0, &mut slots)?);
+    let alloc = rt.alloc();
+    let searcher = Searcher::new(alloc, &nested(alloc, counts, greedy)?)?;
+    let groups = group_count(searcher.hir());
+    let mut slots = Slots::new(alloc, groups)?;
+    assert!(rt; slots.len() == groups as usize + 1);
+    assert!(rt; search(&searcher, Way::InOnePass, text, 0, &mut slots)?);
     let span = slots.get(0).map(|span| (span.start(), span.end()));
     assert_eq!(rt; span, Some((0, end)));
     Ok(())
 }
 
-// `x{0,500000}`
+// `x{0,500000}`, greedy and lazy, `(?:x{0,1000}){0,1000}` and `(?:(?:x{0,100}){0,100}){0,50}`
 #[test]
-fn a_repetition_of_many_parts(rt: HostRuntime) -> Result<(), Fail> {
-    let alloc = rt.alloc();
-    let searcher = Searcher::new(alloc, up_to(alloc, 500_000, true, letter(alloc)?)?)?;
-    check(&rt, alloc, &searcher, b"xxx", 3)?;
-    check(&rt, alloc, &searcher, b"xyx", 1)?;
-    Ok(())
-}
-
-// `x{0,500000}?` takes as little as it can.
-#[test]
-fn a_lazy_repetition_of_many_parts(rt: HostRuntime) -> Result<(), Fail> {
-    let alloc = rt.alloc();
-    let searcher = Searcher::new(alloc, up_to(alloc, 500_000, false, letter(alloc)?)?)?;
-    check(&rt, alloc, &searcher, b"xxx", 0)?;
-    Ok(())
-}
-
-// `(?:x{0,1000}){0,1000}`
-#[test]
-fn many_repetitions_of_many_parts(rt: HostRuntime) -> Result<(), Fail> {
-    let alloc = rt.alloc();
-    let inner = up_to(alloc, 1000, true, letter(alloc)?)?;
-    let searcher = Searcher::new(alloc, up_to(alloc, 1000, true, inner)?)?;
-    check(&rt, alloc, &searcher, b"xxx", 3)?;
-    check(&rt, alloc, &searcher, b"y", 0)?;
-    Ok(())
-}
-
-// `(?:(?:x{0,100}){0,100}){0,50}`
-#[test]
-fn repetitions_three_deep(rt: HostRuntime) -> Result<(), Fail> {
-    let alloc = rt.alloc();
-    let first = up_to(alloc, 100, true, letter(alloc)?)?;
-    let second = up_to(alloc, 100, true, first)?;
-    let searcher = Searcher::new(alloc, up_to(alloc, 50, true, second)?)?;
-    check(&rt, alloc, &searcher, b"xxx", 3)?;
-    check(&rt, alloc, &searcher, b"y", 0)?;
+fn patterns_of_many_spots_are_built_searched_and_dropped(rt: HostRuntime) -> Result<(), Fail> {
+    check(&rt, &[500_000], true, b"xyx", 1)?;
+    check(&rt, &[500_000], false, b"xxx", 0)?;
+    check(&rt, &[1000, 1000], true, b"xxx", 3)?;
+    check(&rt, &[100, 100, 50], true, b"xxx", 3)?;
     Ok(())
 }

@@ -238,6 +238,3 @@ fn read_list<D: Disk>(alloc: Global, disk: &mut D, list: ListId) -> Result<Vec<R
     }
     Ok(entries)
 }
-
-#[cfg(test)]
-mod tests;

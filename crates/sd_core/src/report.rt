@@ -127,25 +127,3 @@ pub fn print_error<E: Sink, T: Display>(err: &mut E, text: &T) {
     let mut texting = Texting { sink: err };
     let _printed = writeln!(texting, "error: {text}");
 }
-
-#[cfg(test)]
-mod tests {
-    use super::*;
-    use sd_edge::MemSink;
-    use std::test::Fail;
-
-    #[test]
-    fn the_longest_report_has_room(rt: HostRuntime) -> Result<(), Fail> {
-        let mut out = MemSink::new(rt.alloc(), 1000)?;
-        let report = Report {
-            chosen: u128::MAX,
-            changed: u128::MAX,
-            replaced: u128::MAX,
-        };
-        print_report(&mut out, &report)?;
-        let text =
-            b"chosen 340282366920938463463374607431768211455, changed 340282366920938463463374607431768211455, replaced 340282366920938463463374607431768211455\n";
-        assert_eq!(rt; out.bytes(), text.as_slice());
-        Ok(())
-    }
-}

@@ -126,6 +126,3 @@ fn end_with<E: Sink>(err: &mut E, why: Why) -> Ended
     };
     Ended { status, why }
 }
-
-#[cfg(test)]
-mod tests;

@@ -454,6 +454,3 @@ impl Disk for MemDisk {
         }
     }
 }
-
-#[cfg(test)]
-mod tests;

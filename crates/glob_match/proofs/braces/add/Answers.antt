@@ -1,7 +1,7 @@
 use Rattle.std.proofs.Common.{◌≡◌, ◌↔◌, ◌⊎◌, get_or, true, false, arith, rules}
 use Rattle.std.proofs.lemmas.Grind.{common_steps}
 use Rattle.sd_base.proofs.StepsLemmas.{ticked_add, ticked_as}
-use Rattle.glob_match.proofs.PlacesLemmas.{union_more, union_all}
+use Rattle.glob_match.proofs.places.PlacesLemmas.{union_more, union_all}
 use Rattle.glob_match.proofs.braces.add.Goals as goal
 
 pub loop-place-preserved : goal.loop-place-preserved

@@ -1,5 +1,5 @@
 use Rattle.sd_base.specs.Steps.{IsTicked}
-use Rattle.glob_match.proofs.PlacesLemmas.{IsTurned, HoldsOneOf}
+use Rattle.glob_match.proofs.places.PlacesLemmas.{IsTurned, HoldsOneOf}
 use Rattle.glob_match.proofs.braces.add.Given as goal
 
 abbrev pub invariant-loop-place : goal.invariant-loop-place

@@ -1,7 +1,7 @@
 use Rattle.std.proofs.Common.{◌+◌, ◌≤◌, length, arith}
 use Rattle.std.proofs.lemmas.Iterator.{YieldsList-from_chars}
 use Rattle.std.proofs.lemmas.Iterator.Consumers.{YieldsList-so_far, YieldsList-turn, YieldsList-end}
-use Rattle.glob_match.proofs.BytesLemmas.{bytes_fit, bytes_more, bytes_all}
+use Rattle.glob_match.proofs.captures.BytesLemmas.{bytes_fit, bytes_more, bytes_all}
 use Rattle.glob_match.proofs.captures.byte_places.Goals as goal
 
 pub overflow_add-at : goal.overflow_add-at

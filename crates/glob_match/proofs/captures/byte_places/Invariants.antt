@@ -1,4 +1,4 @@
-use Rattle.glob_match.proofs.BytesLemmas.{BytesSoFar}
+use Rattle.glob_match.proofs.captures.BytesLemmas.{BytesSoFar}
 use Rattle.glob_match.proofs.captures.byte_places.Given as goal
 
 abbrev pub invariant-loop-c : goal.invariant-loop-c

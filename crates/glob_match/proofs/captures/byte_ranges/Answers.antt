@@ -3,7 +3,7 @@ use Rattle.std.proofs.lemmas.List.{take_all}
 use Rattle.std.specs.declared.ops.Range.{Range}
 use Rattle.std.proofs.Common.{ℕ}
 use Rattle.glob_match.specs.Captures.{byte_range, LiesOnBoundaries}
-use Rattle.glob_match.proofs.CaptureRangesLemmas.{ranges_cut}
+use Rattle.glob_match.proofs.captures.CaptureRangesLemmas.{ranges_cut}
 use Rattle.glob_match.proofs.captures.byte_ranges.Goals as goal
 
 pub returns-clause-boundaries : goal.returns-clause-boundaries

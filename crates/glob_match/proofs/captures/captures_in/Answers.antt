@@ -1,7 +1,7 @@
 use Rattle.std.proofs.Common.{ap, sym, ◌∙◌, Some}
 use Rattle.glob_match.specs.Reading.{pieces_of_tokens}
-use Rattle.glob_match.proofs.FittingLemmas.{found_plain, found_turned, found_none}
-use Rattle.glob_match.proofs.CaptureRangesLemmas.{found_lie}
+use Rattle.glob_match.proofs.matching.FittingLemmas.{found_plain, found_turned, found_none}
+use Rattle.glob_match.proofs.captures.CaptureRangesLemmas.{found_lie}
 use Rattle.glob_match.proofs.captures.captures_in.Goals as goal
 
 pub returns-then-not-negated-clause-captured : goal.returns-then-not-negated-clause-captured

@@ -8,7 +8,7 @@ use Rattle.glob_match.specs.Pieces.Options.{no_options, option}
 use Rattle.glob_match.specs.Takes.{PieceTakes, IsAfterSeparator}
 use Rattle.glob_match.specs.Captures.{between, LeadsOn, IsEnd}
 use Rattle.glob_match.specs.Examples.{character}
-use Rattle.glob_match.proofs.DerivationLemmas.{Derives, not_taken, leads_not, leads, by_nothing, by_piece, by_character, by_brace, by_this_option, by_other_letter, has_captures, no_separator, pass}
+use Rattle.glob_match.proofs.examples.DerivationLemmas.{Derives, not_taken, leads_not, leads, by_nothing, by_piece, by_character, by_brace, by_this_option, by_other_letter, has_captures, no_separator, pass}
 use Rattle.glob_match.proofs.examples.captures_are_as_in_the_examples.Goals as goal
 
 pub returns-clause-one_character : goal.returns-clause-one_character

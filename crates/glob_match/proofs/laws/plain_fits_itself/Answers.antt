@@ -15,7 +15,7 @@ use Rattle.glob_match.specs.Laws.{IsPlain}
 use Rattle.glob_match.specs.Reading.{Rest, before, found, negations, symbols_after, token_at, tokens_from, with_piece, rest_of, all_outside, pieces_of_tokens, pieces_of_symbols, pieces_of}
 use Rattle.glob_match.specs.Reading.Rest.{outside}
 use Rattle.glob_match.specs.Takes.{Takes, FitsRead}
-use Rattle.glob_match.proofs.ReadingLemmas.{plain_first, token_first}
+use Rattle.glob_match.proofs.parse.ReadingLemmas.{plain_first, token_first}
 use Rattle.glob_match.proofs.laws.plain_fits_itself.Goals as goal
 
 -- the pieces of characters

@@ -3,9 +3,9 @@ use Rattle.std.proofs.Math.ListN.{drop_of_length-le}
 use Rattle.std.proofs.Math.Nat.{mul-le-mul_right}
 use Rattle.sd_base.proofs.StepsLemmas.{ticked_none, at_most, at_most_add, at_most_more}
 use Rattle.glob_match.specs.declared.piece.Token.{Token}
-use Rattle.glob_match.proofs.ReadingLemmas.{drop_next}
-use Rattle.glob_match.proofs.PlacesLemmas.{written}
-use Rattle.glob_match.proofs.MatchingLemmas.{MatchedSoFar, matched_none, matched_more, matched_all}
+use Rattle.glob_match.proofs.parse.ReadingLemmas.{drop_next}
+use Rattle.glob_match.proofs.places.PlacesLemmas.{written}
+use Rattle.glob_match.proofs.matching.MatchingLemmas.{MatchedSoFar, matched_none, matched_more, matched_all}
 use Rattle.glob_match.proofs.matching.places_after.Goals as goal
 
 pub loop-token-init : goal.loop-token-init

@@ -1,6 +1,6 @@
 use Rattle.std.proofs.Common.{◌+◌, ◌*◌, drop, length}
 use Rattle.sd_base.specs.Steps.{TicksAtMost}
-use Rattle.glob_match.proofs.MatchingLemmas.{MatchedSoFar}
+use Rattle.glob_match.proofs.matching.MatchingLemmas.{MatchedSoFar}
 use Rattle.glob_match.proofs.matching.places_after.Given as goal
 
 abbrev pub invariant-loop-token : goal.invariant-loop-token

@@ -2,7 +2,7 @@ use Rattle.std.proofs.Common.{◌≡◌, ◌↔◌, ◌⊎◌, ◌-◌, get_or, 
 use Rattle.std.proofs.lemmas.Grind.{common_steps}
 use Rattle.glob_match.specs.Takes.{IsAfterSeparator}
 use Rattle.glob_match.specs.declared.piece.Piece.TheVariants.{AnyDepth}
-use Rattle.glob_match.proofs.BackwardLemmas.{piece_back_none, depth_back_more, turned_back}
+use Rattle.glob_match.proofs.onward.BackwardLemmas.{piece_back_none, depth_back_more, turned_back}
 use Rattle.glob_match.proofs.onward.before_depth.Goals as goal
 
 pub loop-place-init : goal.loop-place-init

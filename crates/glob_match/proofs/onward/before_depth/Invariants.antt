@@ -1,5 +1,5 @@
 use Rattle.glob_match.specs.declared.piece.Piece.TheVariants.{AnyDepth}
-use Rattle.glob_match.proofs.BackwardLemmas.{PieceBackSoFar}
+use Rattle.glob_match.proofs.onward.BackwardLemmas.{PieceBackSoFar}
 use Rattle.glob_match.proofs.onward.before_depth.Given as goal
 
 abbrev pub invariant-loop-place : goal.invariant-loop-place

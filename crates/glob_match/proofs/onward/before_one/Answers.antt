@@ -1,7 +1,7 @@
 use Rattle.std.proofs.Common.{◌≡◌, ◌↔◌, ◌-◌, true, arith}
 use Rattle.std.proofs.lemmas.Grind.{common_steps}
 use Rattle.glob_match.specs.Places.{TakesAt}
-use Rattle.glob_match.proofs.BackwardLemmas.{one_back_none, one_back_more, turned_back}
+use Rattle.glob_match.proofs.onward.BackwardLemmas.{one_back_none, one_back_more, turned_back}
 use Rattle.glob_match.proofs.onward.before_one.Goals as goal
 
 pub loop-place-init : goal.loop-place-init

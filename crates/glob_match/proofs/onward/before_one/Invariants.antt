@@ -1,4 +1,4 @@
-use Rattle.glob_match.proofs.BackwardLemmas.{OneBackSoFar}
+use Rattle.glob_match.proofs.onward.BackwardLemmas.{OneBackSoFar}
 use Rattle.glob_match.proofs.onward.before_one.Given as goal
 
 abbrev pub invariant-loop-place : goal.invariant-loop-place

@@ -1,7 +1,7 @@
 use Rattle.std.proofs.Common.{◌≡◌, ◌↔◌, ◌⊎◌, ◌-◌, get_or, true, false, arith}
 use Rattle.std.proofs.lemmas.Grind.{common_steps}
 use Rattle.glob_match.specs.declared.piece.Piece.TheVariants.{AnyRest}
-use Rattle.glob_match.proofs.BackwardLemmas.{piece_back_none, rest_back_more, turned_back}
+use Rattle.glob_match.proofs.onward.BackwardLemmas.{piece_back_none, rest_back_more, turned_back}
 use Rattle.glob_match.proofs.onward.before_rest.Goals as goal
 
 pub loop-place-init : goal.loop-place-init

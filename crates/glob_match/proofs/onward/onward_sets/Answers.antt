@@ -1,6 +1,6 @@
 use Rattle.std.proofs.Common.{◌≡◌, ◌-◌, ◌∷◌, ◌++◌, [], Bool, List, suc, length, get_or, arith, ap, ◌∙◌}
-use Rattle.glob_match.proofs.PlacesLemmas.{written}
-use Rattle.glob_match.proofs.OnwardLemmas.{depths_long, onward_next}
+use Rattle.glob_match.proofs.places.PlacesLemmas.{written}
+use Rattle.glob_match.proofs.onward.OnwardLemmas.{depths_long, onward_next}
 use Rattle.glob_match.specs.Backward.{depths_from}
 use Rattle.glob_match.proofs.onward.onward_sets.Goals as goal
 

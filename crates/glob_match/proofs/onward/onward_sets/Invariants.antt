@@ -1,5 +1,5 @@
 use Rattle.std.proofs.Common.{drop}
-use Rattle.glob_match.proofs.OnwardLemmas.{OnwardSoFar, depth_at}
+use Rattle.glob_match.proofs.onward.OnwardLemmas.{OnwardSoFar, depth_at}
 use Rattle.glob_match.proofs.onward.onward_sets.Given as goal
 
 abbrev pub invariant-loop-at : goal.invariant-loop-at

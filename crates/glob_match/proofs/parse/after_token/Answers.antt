@@ -1,4 +1,4 @@
-use Rattle.glob_match.proofs.ReadingLemmas.{after_passed}
+use Rattle.glob_match.proofs.parse.ReadingLemmas.{after_passed}
 use Rattle.glob_match.proofs.parse.after_token.Goals as goal
 
 pub returns-clause-passed : goal.returns-clause-passed

@@ -1,6 +1,6 @@
 use Rattle.std.proofs.Common.{ap, ◌∙◌}
 use Rattle.std.proofs.Math.ListN.{drop_of_length-le}
-use Rattle.glob_match.proofs.NestingLemmas.{nests, nests_by, nests_end, nests_eleven}
+use Rattle.glob_match.proofs.parse.NestingLemmas.{nests, nests_by, nests_end, nests_eleven}
 use Rattle.glob_match.proofs.parse.nests_well.Goals as goal
 
 pub returns-in-Open : goal.returns-in-Open

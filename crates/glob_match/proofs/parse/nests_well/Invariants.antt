@@ -1,5 +1,5 @@
 use Rattle.std.proofs.Common.{◌≡◌, ◌≤◌, drop}
-use Rattle.glob_match.proofs.NestingLemmas.{nests}
+use Rattle.glob_match.proofs.parse.NestingLemmas.{nests}
 use Rattle.glob_match.proofs.parse.nests_well.Given as goal
 
 abbrev pub invariant-loop-token : goal.invariant-loop-token

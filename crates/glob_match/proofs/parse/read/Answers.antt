@@ -1,5 +1,5 @@
 use Rattle.std.proofs.Common.{◌≤◌, false, true, length, arith, subst}
-use Rattle.glob_match.proofs.ReadingLemmas.{IsAtMost, symbols_at_most, tokens_at_most}
+use Rattle.glob_match.proofs.parse.ReadingLemmas.{IsAtMost, symbols_at_most, tokens_at_most}
 use Rattle.glob_match.proofs.parse.read.Goals as goal
 use Rattle.glob_match.proofs.parse.read.Goals.{then-nests_well, else-nests_well}
 

@@ -1,6 +1,6 @@
 use Rattle.std.proofs.Common.{arith, subst, true, false, eq-eqb}
 use Rattle.std.proofs.lemmas.Bool.{ne_eqb}
-use Rattle.glob_match.proofs.ReadingLemmas.{SymbolsSoFar, symbols_escaped, symbols_backslash, symbols_plain}
+use Rattle.glob_match.proofs.parse.ReadingLemmas.{SymbolsSoFar, symbols_escaped, symbols_backslash, symbols_plain}
 use Rattle.glob_match.proofs.parse.symbols_of.Goals as goal
 use Rattle.glob_match.proofs.parse.symbols_of.Goals.{then-escaped+in_ok-push, else-escaped+then-c-eq92, else-escaped+else-c-eq92+in_ok-push-2}
 

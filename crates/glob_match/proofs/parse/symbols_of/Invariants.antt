@@ -1,4 +1,4 @@
-use Rattle.glob_match.proofs.ReadingLemmas.{SymbolsSoFar}
+use Rattle.glob_match.proofs.parse.ReadingLemmas.{SymbolsSoFar}
 use Rattle.glob_match.proofs.parse.symbols_of.Given as goal
 
 abbrev pub invariant-loop-c : goal.invariant-loop-c

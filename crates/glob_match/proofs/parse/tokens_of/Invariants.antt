@@ -1,5 +1,5 @@
 use Rattle.std.proofs.Common.{length}
-use Rattle.glob_match.proofs.ReadingLemmas.{TokensSoFar}
+use Rattle.glob_match.proofs.parse.ReadingLemmas.{TokensSoFar}
 use Rattle.glob_match.proofs.parse.tokens_of.Given as goal
 
 abbrev pub invariant-loop-rest : goal.invariant-loop-rest

@@ -2,7 +2,7 @@ use Rattle.std.proofs.Common.{◌≡◌, ◌↔◌, ◌⊎◌, get_or, true, fal
 use Rattle.std.proofs.lemmas.Grind.{common_steps}
 use Rattle.glob_match.specs.Takes.{IsAfterSeparator}
 use Rattle.sd_base.proofs.StepsLemmas.{ticked_add, ticked_as}
-use Rattle.glob_match.proofs.PlacesLemmas.{depth_more, turned_all}
+use Rattle.glob_match.proofs.places.PlacesLemmas.{depth_more, turned_all}
 use Rattle.glob_match.proofs.places.after_depth.Goals as goal
 use Rattle.glob_match.proofs.places.after_depth.Goals.{then-here, else-here}
 

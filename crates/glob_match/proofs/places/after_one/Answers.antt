@@ -2,7 +2,7 @@ use Rattle.std.proofs.Common.{◌≡◌, ◌↔◌, get_or, true, false, arith}
 use Rattle.std.proofs.lemmas.Grind.{common_steps}
 use Rattle.glob_match.specs.Places.{TakesAt}
 use Rattle.sd_base.proofs.StepsLemmas.{ticked_add, ticked_as}
-use Rattle.glob_match.proofs.PlacesLemmas.{one_more, turned_all}
+use Rattle.glob_match.proofs.places.PlacesLemmas.{one_more, turned_all}
 use Rattle.glob_match.proofs.places.after_one.Goals as goal
 
 pub loop-place-preserved : goal.loop-place-preserved

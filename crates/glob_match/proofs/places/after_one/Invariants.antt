@@ -1,5 +1,5 @@
 use Rattle.sd_base.specs.Steps.{IsTicked}
-use Rattle.glob_match.proofs.PlacesLemmas.{OneSoFar}
+use Rattle.glob_match.proofs.places.PlacesLemmas.{OneSoFar}
 use Rattle.glob_match.proofs.places.after_one.Given as goal
 
 abbrev pub invariant-loop-place : goal.invariant-loop-place

@@ -1,7 +1,7 @@
 use Rattle.std.proofs.Common.{◌≡◌, ◌↔◌, ◌⊎◌, get_or, true, false, arith}
 use Rattle.std.proofs.lemmas.Grind.{common_steps}
 use Rattle.sd_base.proofs.StepsLemmas.{ticked_add, ticked_as}
-use Rattle.glob_match.proofs.PlacesLemmas.{rest_more, turned_all}
+use Rattle.glob_match.proofs.places.PlacesLemmas.{rest_more, turned_all}
 use Rattle.glob_match.proofs.places.after_rest.Goals as goal
 
 pub loop-to-preserved : goal.loop-to-preserved

@@ -1,6 +1,6 @@
 use Rattle.glob_match.specs.declared.piece.Piece.TheVariants.{AnyRest}
 use Rattle.sd_base.specs.Steps.{IsTicked}
-use Rattle.glob_match.proofs.PlacesLemmas.{StarSoFar}
+use Rattle.glob_match.proofs.places.PlacesLemmas.{StarSoFar}
 use Rattle.glob_match.proofs.places.after_rest.Given as goal
 
 abbrev pub invariant-loop-to : goal.invariant-loop-to

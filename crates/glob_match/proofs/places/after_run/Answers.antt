@@ -1,7 +1,7 @@
 use Rattle.std.proofs.Common.{◌≡◌, ◌≢◌, ◌↔◌, ◌⊎◌, get_or, slice_get, Some, true, false, arith}
 use Rattle.std.proofs.lemmas.Grind.{common_steps}
 use Rattle.sd_base.proofs.StepsLemmas.{ticked_add, ticked_as}
-use Rattle.glob_match.proofs.PlacesLemmas.{run_more, turned_all}
+use Rattle.glob_match.proofs.places.PlacesLemmas.{run_more, turned_all}
 use Rattle.glob_match.proofs.places.after_run.Goals as goal
 
 pub loop-place-preserved : goal.loop-place-preserved

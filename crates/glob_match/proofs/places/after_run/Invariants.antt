@@ -1,5 +1,5 @@
 use Rattle.sd_base.specs.Steps.{IsTicked}
-use Rattle.glob_match.proofs.PlacesLemmas.{RunSoFar}
+use Rattle.glob_match.proofs.places.PlacesLemmas.{RunSoFar}
 use Rattle.glob_match.proofs.places.after_run.Given as goal
 
 abbrev pub invariant-loop-place : goal.invariant-loop-place

@@ -1,4 +1,4 @@
-use Rattle.glob_match.proofs.PlacesLemmas.{start_more}
+use Rattle.glob_match.proofs.places.PlacesLemmas.{start_more}
 use Rattle.glob_match.proofs.places.start_alone.Goals as goal
 
 pub loop-preserved : goal.loop-preserved

@@ -2,7 +2,7 @@ use Rattle.std.proofs.Common.{◌≡◌, chars, sym, ◌∙◌}
 use Rattle.std.proofs.lemmas.List.{map-id}
 use Rattle.std.proofs.lemmas.Iterator.Consumers.{YieldsList-end}
 use Rattle.std.proofs.lemmas.Iterator.{YieldsList-from_chars}
-use Rattle.glob_match.proofs.ValidityLemmas.{characters_more, characters_end, characters_none}
+use Rattle.glob_match.proofs.validity.ValidityLemmas.{characters_more, characters_end, characters_none}
 use Rattle.glob_match.proofs.validity.glob_valid.Goals as goal
 
 pub loop-c-preserved : goal.loop-c-preserved

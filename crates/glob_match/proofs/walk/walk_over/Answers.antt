@@ -1,9 +1,9 @@
 use Rattle.std.proofs.Common.{List, arith, subst, sym}
 use Rattle.glob_match.specs.declared.piece.Token.{Token}
 use Rattle.glob_match.specs.Walk.{Stand, stand_of}
-use Rattle.glob_match.proofs.ReadingLemmas.{drop_next}
+use Rattle.glob_match.proofs.parse.ReadingLemmas.{drop_next}
 use Rattle.std.proofs.Math.ListN.{drop_of_length-le}
-use Rattle.glob_match.proofs.CaptureWalkLemmas.{WalkedSoFar, walked_none, walked_more, walked_empty, walked_all}
+use Rattle.glob_match.proofs.walk.CaptureWalkLemmas.{WalkedSoFar, walked_none, walked_more, walked_empty, walked_all}
 use Rattle.glob_match.proofs.walk.walk_over.Goals as goal
 
 pub loop-token-init : goal.loop-token-init

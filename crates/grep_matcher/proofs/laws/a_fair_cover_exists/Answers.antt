@@ -1,4 +1,4 @@
-use Rattle.grep_matcher.proofs.CoverCallLemmas.{cover_exists}
+use Rattle.grep_matcher.proofs.visiting.CoverCallLemmas.{cover_exists}
 use Rattle.grep_matcher.proofs.laws.a_fair_cover_exists.Goals as goal
 
 pub returns : goal.returns

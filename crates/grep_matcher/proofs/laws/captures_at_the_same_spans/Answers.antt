@@ -1,5 +1,5 @@
-use Rattle.grep_matcher.proofs.CoverLemmas.{fair_cover_unique}
-use Rattle.grep_matcher.proofs.GroupLemmas.{none_captured}
+use Rattle.grep_matcher.proofs.laws.CoverLemmas.{fair_cover_unique}
+use Rattle.grep_matcher.proofs.captures.GroupLemmas.{none_captured}
 use Rattle.grep_matcher.proofs.laws.captures_at_the_same_spans.Goals as goal
 
 pub returns-clause-same : goal.returns-clause-same

@@ -1,4 +1,4 @@
-use Rattle.grep_matcher.proofs.CoverLemmas.{fair_cover_unique}
+use Rattle.grep_matcher.proofs.laws.CoverLemmas.{fair_cover_unique}
 use Rattle.grep_matcher.proofs.laws.one_fair_cover.Goals as goal
 
 pub returns : goal.returns

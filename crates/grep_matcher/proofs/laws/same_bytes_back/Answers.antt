@@ -1,5 +1,5 @@
 use Rattle.std.proofs.Common.{length}
-use Rattle.grep_matcher.proofs.ReplacedLemmas.{own_bytes, from_start}
+use Rattle.grep_matcher.proofs.laws.ReplacedLemmas.{own_bytes, from_start}
 use Rattle.grep_matcher.proofs.laws.same_bytes_back.Goals as goal
 
 pub returns : goal.returns

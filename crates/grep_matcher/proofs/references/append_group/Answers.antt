@@ -1,7 +1,7 @@
 use Rattle.std.proofs.Common.{ap, subst, Option, ℕ}
 use Rattle.grep_matcher.specs.CaptureRefs.{target_of}
 use Rattle.grep_matcher.specs.Reached.{at_first}
-use Rattle.grep_matcher.proofs.ReferenceLemmas.{number_added, name_added, nothing_added, one_added, one_looked}
+use Rattle.grep_matcher.proofs.references.ReferenceLemmas.{number_added, name_added, nothing_added, one_added, one_looked}
 use Rattle.grep_matcher.proofs.references.append_group.Goals as goal
 
 pub returns-in-Number-clause-added : goal.returns-in-Number-clause-added

@@ -1,7 +1,7 @@
 use Rattle.std.proofs.Common.{◌∙◌, sym, refl, [], append-nil}
 use Rattle.grep_matcher.specs.Reached.{at_first}
-use Rattle.grep_matcher.proofs.ReachedLemmas.{reached_on}
-use Rattle.grep_matcher.proofs.ReferenceLemmas.{turn, last_turn, tail_is, extends_twice, keeps_on, appends_on, answers_on}
+use Rattle.grep_matcher.proofs.references.ReachedLemmas.{reached_on}
+use Rattle.grep_matcher.proofs.references.ReferenceLemmas.{turn, last_turn, tail_is, extends_twice, keeps_on, appends_on, answers_on}
 use Rattle.grep_matcher.proofs.references.interpolate.Goals as goal
 
 pub append_front-requires-clause-keeps : goal.append_front-requires-clause-keeps

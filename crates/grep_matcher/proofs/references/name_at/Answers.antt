@@ -1,5 +1,5 @@
 use Rattle.std.proofs.Common.{arith}
-use Rattle.grep_matcher.proofs.ReferenceLemmas.{name_found}
+use Rattle.grep_matcher.proofs.references.ReferenceLemmas.{name_found}
 use Rattle.grep_matcher.proofs.references.name_at.Goals as goal
 
 pub returns-in_default : goal.returns-in_default

@@ -1,4 +1,4 @@
-use Rattle.grep_matcher.proofs.ReferenceLemmas.{read_number, read_name}
+use Rattle.grep_matcher.proofs.references.ReferenceLemmas.{read_number, read_name}
 use Rattle.grep_matcher.proofs.references.target.Goals as goal
 
 pub returns-in-Ok : goal.returns-in-Ok

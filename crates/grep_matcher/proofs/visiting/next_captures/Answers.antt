@@ -1,5 +1,5 @@
 use Rattle.std.proofs.Common.{rules, ◌≡◌, true, Some, length}
-use Rattle.grep_matcher.proofs.GroupLemmas.{first_found, accepted, refused}
+use Rattle.grep_matcher.proofs.captures.GroupLemmas.{first_found, accepted, refused}
 use Rattle.grep_matcher.proofs.visiting.next_captures.Goals as goal
 
 pub returns-then-not-is_refused-clause-found : goal.returns-then-not-is_refused-clause-found

@@ -1,13 +1,13 @@
-use Rattle.std.proofs.Common.{◌≡◌, ℕ, ◌+◌, ◌-◌, ◌<◌, [], ◌∷◌, ◌++◌, OnOk, map, true, false, length, ap, sym, ◌∙◌, subst, arith, rules}
-use Rattle.hir_tree.specs.Core.{Core, at_least, choice, choice_all, copies, empty, group, numbers, optional, pair, pair_all, plus, up_to, with_more}
+use Rattle.std.proofs.Common.{◌≡◌, ◌+◌, ◌-◌, [], ◌∷◌, ◌++◌, OnOk, map, true, false, ap, sym, ◌∙◌, subst, arith, rules}
+use Rattle.hir_tree.specs.Core.{Core, choice_all, copies, empty, group, numbers, pair, pair_all, plus, up_to}
 use Rattle.hir_tree.specs.Cores.{core_of}
 use Rattle.hir_core.specs.Laid.{Lays}
 use Rattle.hir_core.specs.declared.spot.Spot.TheVariants as spot
 use Rattle.hir_tree.specs.declared.hir.Hir.{the_lemmas}
 use Rattle.hir_tree.proofs.CoreNumbersLemmas.{optional_numbers, some_numbers}
 use Rattle.hir_tree.proofs.CoresLemmas.{core_concat, core_alternation}
-use Rattle.hir_core.proofs.CompileLemmas.{on_ok, length_pushed, lays_group, lays_greedy, lays_lazy, lays_last, lays_empties, waits_pair, waits_choice, waits_choices, choices_hold, waits_row, row_holds, waits_copies, waits_lazy, waits_greedy}
-use Rattle.hir_core.proofs.SizeLemmas.{copies_alone, copies_more, copies_below, copies_endless, copies_hold, up_to_some, up_to_one, up_to_hold}
+use Rattle.hir_core.proofs.compile.CompileLemmas.{on_ok, length_pushed, lays_group, lays_greedy, lays_lazy, lays_last, lays_empties, waits_pair, waits_choice, waits_choices, choices_hold, waits_row, row_holds, waits_copies, waits_lazy, waits_greedy}
+use Rattle.hir_core.proofs.size.SizeLemmas.{copies_alone, copies_more, copies_below, copies_endless, copies_hold, up_to_some, up_to_one, up_to_hold}
 use Rattle.hir_core.proofs.compile.+compile.Goals as goal
 
 pub compile-lay_row-requires : goal.compile-lay_row-requires

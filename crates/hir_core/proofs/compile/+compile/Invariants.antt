@@ -2,7 +2,7 @@ use Rattle.std.proofs.Common.{◌≡◌, ℕ, ◌+◌, ◌-◌, ◌≤◌, true,
 use Rattle.hir_tree.specs.Core.{Core, choice_all, copies, numbers, pair_all, up_to}
 use Rattle.hir_tree.specs.Cores.{core_of}
 use Rattle.hir_core.specs.Laid.{Waits}
-use Rattle.hir_core.proofs.CompileLemmas.{WaitsEmpties}
+use Rattle.hir_core.proofs.compile.CompileLemmas.{WaitsEmpties}
 use Rattle.hir_core.proofs.compile.+compile.Given as goal
 
 abbrev pub invariant-lay_row-loop-i : goal.invariant-lay_row-loop-i

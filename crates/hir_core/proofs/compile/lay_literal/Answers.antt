@@ -1,7 +1,7 @@
-use Rattle.std.proofs.Common.{◌≡◌, ◌-◌, ◌+◌, get_or, sym, arith}
+use Rattle.std.proofs.Common.{◌≡◌, ◌-◌, ◌+◌, sym, arith}
 use Rattle.std.proofs.lemmas.Option.{get_or_from_slice_get}
 use Rattle.hir_tree.specs.Core.{one_byte, literal}
-use Rattle.hir_core.proofs.CompileLemmas.{on_ok, waits_pair, waits_row, lays_row}
+use Rattle.hir_core.proofs.compile.CompileLemmas.{on_ok, waits_pair, waits_row, lays_row}
 use Rattle.hir_core.proofs.compile.lay_literal.Goals as goal
 
 pub loop-i-preserved : goal.loop-i-preserved

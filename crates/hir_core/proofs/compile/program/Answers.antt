@@ -2,7 +2,7 @@ use Rattle.std.proofs.Common.{◌≡◌, ◌+◌, [], ◌∷◌, vec_len, ap, ar
 use Rattle.hir_tree.specs.Core.{numbers}
 use Rattle.hir_tree.specs.Cores.{core_of}
 use Rattle.hir_core.specs.declared.spot.Spot.TheVariants as spot
-use Rattle.hir_core.proofs.CompileLemmas.{program-placed, program-closes, program-preferred}
+use Rattle.hir_core.proofs.compile.CompileLemmas.{program-placed, program-closes, program-preferred}
 use Rattle.hir_core.proofs.compile.program.Goals as goal
 
 pub returns-clause-stands : goal.returns-clause-stands

@@ -1,6 +1,6 @@
 use Rattle.std.proofs.Common.{sym, ap, ◌∙◌, map}
-use Rattle.hir_core.specs.PlainText.{joined_all, text_of}
-use Rattle.hir_core.proofs.PlainTextLemmas.{text_concat}
+use Rattle.hir_tree.specs.PlainText.{joined_all, text_of}
+use Rattle.hir_tree.proofs.PlainTextLemmas.{text_concat}
 use Rattle.hir_core.proofs.plain.+plain.Goals as goal
 
 pub append-returns-in-Concat : goal.append-returns-in-Concat

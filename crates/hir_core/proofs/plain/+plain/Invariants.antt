@@ -1,5 +1,5 @@
 use Rattle.std.proofs.Common.{◌≡◌, ◌++◌, map, drop, option_map}
-use Rattle.hir_core.specs.PlainText.{joined_all, text_of}
+use Rattle.hir_tree.specs.PlainText.{joined_all, text_of}
 use Rattle.hir_core.proofs.plain.+plain.Given as goal
 
 abbrev pub invariant-append_all-loop-part : goal.invariant-append_all-loop-part

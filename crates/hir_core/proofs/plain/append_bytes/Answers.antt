@@ -1,4 +1,4 @@
-use Rattle.hir_core.proofs.PlainTextLemmas.{byte-appended}
+use Rattle.hir_core.proofs.plain.PlainTextLemmas.{byte-appended}
 use Rattle.hir_core.proofs.plain.append_bytes.Goals as goal
 
 pub loop-i-preserved : goal.loop-i-preserved

@@ -5,7 +5,7 @@ use Rattle.hir_tree.specs.Cores.{core_of}
 use Rattle.hir_tree.specs.Hirs.{parts_of}
 use Rattle.hir_core.specs.Laid.{total_numbers}
 use Rattle.hir_tree.proofs.CoresLemmas.{core_concat, core_alternation}
-use Rattle.hir_core.proofs.SizeLemmas.{row_total, choice_total}
+use Rattle.hir_core.proofs.size.SizeLemmas.{row_total, choice_total}
 use Rattle.hir_core.proofs.size.+size.Goals as goal
 
 pub size-returns-in-Concat : goal.size-returns-in-Concat

@@ -1,7 +1,7 @@
 use Rattle.std.proofs.Common.{◌≡◌, ◌+◌, ◌-◌, ◌*◌, ◌^◌, min, ap, ◌∙◌, arith}
 use Rattle.hir_tree.specs.Core.{numbers}
 use Rattle.hir_tree.proofs.CoreNumbersLemmas.{copies_numbers}
-use Rattle.hir_core.proofs.SizeLemmas.{cut_product}
+use Rattle.hir_core.proofs.size.SizeLemmas.{cut_product}
 use Rattle.hir_core.proofs.size.copies_size.Goals as goal
 
 pub returns : goal.returns

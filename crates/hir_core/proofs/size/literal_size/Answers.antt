@@ -1,5 +1,5 @@
 use Rattle.std.proofs.Common.{arith}
-use Rattle.hir_core.proofs.SizeLemmas.{literal_numbers}
+use Rattle.hir_core.proofs.size.SizeLemmas.{literal_numbers}
 use Rattle.hir_core.proofs.size.literal_size.Goals as goal
 
 pub returns : goal.returns

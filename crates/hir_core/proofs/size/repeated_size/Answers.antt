@@ -1,6 +1,6 @@
-use Rattle.std.proofs.Common.{◌-◌, ◌^◌, ◌≡◌, ◌+◌, min, sym, ap, ◌∙◌, arith}
-use Rattle.hir_tree.specs.Core.{Core, numbers, repeat, up_to}
-use Rattle.hir_core.proofs.SizeLemmas.{copies_alone, copies_more}
+use Rattle.std.proofs.Common.{◌-◌, ◌^◌, ◌≡◌, min, ap, ◌∙◌, arith}
+use Rattle.hir_tree.specs.Core.{numbers, up_to}
+use Rattle.hir_core.proofs.size.SizeLemmas.{copies_alone, copies_more}
 use Rattle.hir_core.proofs.size.repeated_size.Goals as goal
 
 pub returns-in-0-2 : goal.returns-in-0-2

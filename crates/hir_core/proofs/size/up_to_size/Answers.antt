@@ -1,6 +1,6 @@
 use Rattle.std.proofs.Common.{◌≡◌, ◌+◌, ◌-◌, ◌*◌, ◌^◌, min, ap, ◌∙◌, arith}
 use Rattle.hir_tree.specs.Core.{numbers}
-use Rattle.hir_core.proofs.SizeLemmas.{cut_product, up_to_counted}
+use Rattle.hir_core.proofs.size.SizeLemmas.{cut_product, up_to_counted}
 use Rattle.hir_core.proofs.size.up_to_size.Goals as goal
 
 pub returns : goal.returns

@@ -1,7 +1,7 @@
 use Rattle.std.proofs.Common.{◌<◌, ◌^◌, length, arith}
 use Rattle.hir_tree.specs.Runs.{byte_size, char_size}
 use Rattle.hir_tree.proofs.RunsLemmas.{byte_size-within, char_size-within}
-use Rattle.hir_core.proofs.StackLemmas.{room}
+use Rattle.hir_core.proofs.stack_search.StackLemmas.{room}
 use Rattle.hir_core.proofs.stack_search.lead.Goals as goal
 
 pub go_past-requires : goal.go_past-requires

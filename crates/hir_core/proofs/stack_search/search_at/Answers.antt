@@ -3,7 +3,7 @@ use Rattle.hir_core.specs.Found.{span_of}
 use Rattle.std.proofs.lemmas.List.{length-replicate}
 use Rattle.hir_core.specs.Pass.{groups_found}
 use Rattle.hir_core.specs.StackSearch.{first_at, run_of}
-use Rattle.hir_core.proofs.StackLemmas.{first-found, least-none, least-some}
+use Rattle.hir_core.proofs.stack_search.StackLemmas.{first-found, least-none, least-some}
 use Rattle.hir_core.proofs.stack_search.search_at.Goals as goal
 
 pub returns-in_default-clause-found : goal.returns-in_default-clause-found

@@ -1,4 +1,4 @@
-use Rattle.sd_core.proofs.ChosenLemmas.{one_chosen, one_list_of_paths}
+use Rattle.sd_core.proofs.laws.ChosenLemmas.{one_chosen, one_list_of_paths}
 use Rattle.sd_core.proofs.laws.one_list_of_chosen_files.Goals as goal
 
 pub returns-clause-places : goal.returns-clause-places

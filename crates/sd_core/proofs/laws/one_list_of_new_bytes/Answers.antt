@@ -1,4 +1,4 @@
-use Rattle.sd_core.proofs.OneReplacementLemmas.{one_new_bytes, replaced_by_itself}
+use Rattle.sd_core.proofs.laws.OneReplacementLemmas.{one_new_bytes, replaced_by_itself}
 use Rattle.sd_core.proofs.laws.one_list_of_new_bytes.Goals as goal
 
 pub returns-clause-one : goal.returns-clause-one

@@ -1,6 +1,6 @@
 use Rattle.std.proofs.Common.{◌∙◌, sym}
 use Rattle.std.proofs.lemmas.Bool.{false≢true}
-use Rattle.sd_core.proofs.ListingLemmas.{none_chosen}
+use Rattle.sd_core.proofs.listing.ListingLemmas.{none_chosen}
 use Rattle.sd_core.proofs.listing.chosen_files.Goals as goal
 
 pub returns-then-not-is_dir-clause-chosen : goal.returns-then-not-is_dir-clause-chosen

@@ -1,4 +1,4 @@
-use Rattle.sd_core.proofs.EntryLemmas.{names_read}
+use Rattle.sd_core.proofs.listing.EntryLemmas.{names_read}
 use Rattle.sd_core.proofs.listing.entries_of.Goals as goal
 
 pub returns-clause-names : goal.returns-clause-names

@@ -1,6 +1,6 @@
 use Rattle.std.proofs.Common.{◌∙◌, refl, sym}
 use Rattle.std.proofs.lemmas.Bool.{false≢true, ltb-true, lt-ltb}
-use Rattle.sd_core.proofs.ChoiceLemmas.{StandsWithin, chosen_fits, fitting_chosen, has_names, names_are}
+use Rattle.sd_core.proofs.listing.ChoiceLemmas.{StandsWithin, chosen_fits, fitting_chosen, has_names, names_are}
 use Rattle.sd_core.proofs.listing.is_chosen.Goals as goal
 
 pub returns-in_default-clause-chosen : goal.returns-in_default-clause-chosen

@@ -1,6 +1,6 @@
 use Rattle.std.proofs.Common.{sym, ◌∙◌, ap, ◌++◌, lit<}
 use Rattle.std.proofs.lemmas.Str.Pattern.{strip_prefix_char}
-use Rattle.sd_core.proofs.ChoiceLemmas.{names_follow}
+use Rattle.sd_core.proofs.listing.ChoiceLemmas.{names_follow}
 use Rattle.sd_core.proofs.listing.names_below.Goals as goal
 
 pub returns-else-eq : goal.returns-else-eq

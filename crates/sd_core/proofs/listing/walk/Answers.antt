@@ -1,7 +1,7 @@
 use Rattle.std.proofs.Common.{◌∙◌, arith, rules, sym}
 use Rattle.std.proofs.lemmas.Bool.{false≢true}
 use Rattle.std.proofs.lemmas.List.{nil_from_length}
-use Rattle.sd_core.proofs.ListingLemmas.{came_first, came_in, came_last, came_on, came_past, folder_leads, next_leads, next_of, next_reached}
+use Rattle.sd_core.proofs.listing.ListingLemmas.{came_first, came_in, came_last, came_on, came_past, folder_leads, next_leads, next_of, next_reached}
 use Rattle.sd_core.proofs.listing.walk.Goals as goal
 
 pub push_entries-requires : goal.push_entries-requires

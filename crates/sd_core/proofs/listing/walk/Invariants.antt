@@ -2,7 +2,7 @@ use Rattle.std.proofs.Common.{◌+◌, ◌≤◌, IsTrue, vec_len}
 use Rattle.sd_edge.specs.Disk.{SameTree}
 use Rattle.sd_edge.specs.Tree.{NameList}
 use Rattle.sd_core.specs.Walk.{IsFolderAt, LeavesLists, listable}
-use Rattle.sd_core.proofs.ListingLemmas.{HasCome}
+use Rattle.sd_core.proofs.listing.ListingLemmas.{HasCome}
 use Rattle.sd_core.proofs.listing.walk.Given as goal
 
 -- the disk is as the listing leaves it; on a told one the chosen files so far, and those at or below the pending nodes, are all

@@ -1,6 +1,6 @@
 use Rattle.std.proofs.Common.{◌++◌, ap, ◌∙◌, codes}
 use Rattle.sd_core.specs.Report.{report_text}
-use Rattle.sd_core.proofs.ReportLemmas.{pushed}
+use Rattle.sd_core.proofs.report.ReportLemmas.{pushed}
 use Rattle.sd_core.proofs.report.line_of.Goals as goal
 
 pub returns : goal.returns

@@ -1,5 +1,5 @@
 use Rattle.std.proofs.Common.{arith}
-use Rattle.sd_core.proofs.ReportLemmas.{rest_within, some_more}
+use Rattle.sd_core.proofs.report.ReportLemmas.{rest_within, some_more}
 use Rattle.sd_core.proofs.report.write_all.Goals as goal
 
 pub loop-at-preserved : goal.loop-at-preserved

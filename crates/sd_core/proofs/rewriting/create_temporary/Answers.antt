@@ -1,7 +1,7 @@
 use Rattle.std.proofs.Common.{◌≡◌, ◌≢◌, rules, subst, sym, arith, ◌+◌}
 use Rattle.sd_edge.specs.declared.fault.DiskFault.TheVariants as disk
 use Rattle.sd_core.specs.Temporary.{IsReservedPath}
-use Rattle.sd_core.proofs.CreatingLemmas.{created, none_absent, one_more, none_free, same_error, step_cause}
+use Rattle.sd_core.proofs.rewriting.CreatingLemmas.{created, none_absent, one_more, none_free, same_error, step_cause}
 use Rattle.sd_core.proofs.rewriting.create_temporary.Goals as goal
 use Rattle.sd_core.proofs.rewriting.create_temporary.Goals.{else-loop-number-test, then-loop-number-test+in_ok-temporary+in-Err+else-ne+else-number-lt65535}
 

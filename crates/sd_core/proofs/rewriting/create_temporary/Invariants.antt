@@ -1,5 +1,5 @@
 use Rattle.sd_edge.specs.Paths.{parts_of}
-use Rattle.sd_core.proofs.CreatingLemmas.{IsTried}
+use Rattle.sd_core.proofs.rewriting.CreatingLemmas.{IsTried}
 use Rattle.sd_core.proofs.rewriting.create_temporary.Given as goal
 
 -- so far each reserved name was taken

@@ -1,8 +1,8 @@
 use Rattle.std.proofs.Common.{◌≡◌, ◌≢◌, ◌∙◌, inl, inr, sym, ap, Err}
 use Rattle.sd_edge.specs.declared.fault.DiskFault.{DiskFault}
 use Rattle.sd_edge.specs.declared.fault.DiskFault.TheVariants as disk
-use Rattle.sd_core.proofs.CreatingLemmas.{risen_since}
-use Rattle.sd_core.proofs.ExchangeLemmas.{are_two, exchanged, left, cleared}
+use Rattle.sd_core.proofs.rewriting.CreatingLemmas.{risen_since}
+use Rattle.sd_core.proofs.rewriting.ExchangeLemmas.{are_two, exchanged, left, cleared}
 use Rattle.sd_core.proofs.rewriting.exchange.Goals as goal
 
 pub fill_and_rename-requires : goal.fill_and_rename-requires

@@ -1,7 +1,7 @@
 use Rattle.std.proofs.Common.{inl, arith}
 use Rattle.sd_edge.proofs.WayLemmas.{same_ways, writes_ways, may_write_ways}
-use Rattle.sd_core.proofs.CreatingLemmas.{step_cause}
-use Rattle.sd_core.proofs.FillingLemmas.{at_err, at_ok, passed_on, then_ways, renaming_ways, after_refusal, leads_to_file, at_source, filled, synced, filled_only, wrote_only, moved, after_renaming, can_rename}
+use Rattle.sd_core.proofs.rewriting.CreatingLemmas.{step_cause}
+use Rattle.sd_core.proofs.rewriting.FillingLemmas.{at_err, at_ok, passed_on, then_ways, renaming_ways, after_refusal, leads_to_file, at_source, filled, synced, filled_only, wrote_only, moved, after_renaming, can_rename}
 use Rattle.sd_core.proofs.rewriting.fill_and_rename.Goals as goal
 
 pub returns-in_err-write_file-clause-refused : goal.returns-in_err-write_file-clause-refused

@@ -1,4 +1,4 @@
-use Rattle.sd_core.proofs.ReservedPathLemmas.{before_found, none_found}
+use Rattle.sd_core.proofs.rewriting.ReservedPathLemmas.{before_found, none_found}
 use Rattle.sd_core.proofs.rewriting.folder_of.Goals as goal
 
 pub returns-in-None : goal.returns-in-None

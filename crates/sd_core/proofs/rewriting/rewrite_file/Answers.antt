@@ -1,8 +1,8 @@
 use Rattle.std.proofs.Common.{◌∙◌, arith, subst, List, ℕ}
 use Rattle.sd_core.specs.Rewriting.{NewBytes}
-use Rattle.sd_core.proofs.CreatingLemmas.{step_cause}
-use Rattle.sd_core.proofs.FillingLemmas.{at_err, passed_on}
-use Rattle.sd_core.proofs.NewBytesLemmas.{reads_file, passed_as, same_file, changed_file, left_file, cleared_since, none_found, new_bytes, differ, same}
+use Rattle.sd_core.proofs.rewriting.CreatingLemmas.{step_cause}
+use Rattle.sd_core.proofs.rewriting.FillingLemmas.{at_err, passed_on}
+use Rattle.sd_core.proofs.rewriting.NewBytesLemmas.{reads_file, passed_as, same_file, changed_file, left_file, cleared_since, none_found, new_bytes, differ, same}
 use Rattle.sd_core.proofs.rewriting.rewrite_file.Goals as goal
 use Rattle.sd_core.proofs.rewriting.rewrite_file.Goals.{then-changed+in_ok-exchange, else-changed}
 

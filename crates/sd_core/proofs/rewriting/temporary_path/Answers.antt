@@ -1,5 +1,5 @@
 use Rattle.std.proofs.Common.{◌∙◌, arith}
-use Rattle.sd_core.proofs.ReservedPathLemmas.{written_beside}
+use Rattle.sd_core.proofs.rewriting.ReservedPathLemmas.{written_beside}
 use Rattle.sd_core.proofs.rewriting.temporary_path.Goals as goal
 
 pub returns : goal.returns

@@ -1,5 +1,5 @@
 use Rattle.std.proofs.Common.{◌≡◌, ◌+◌, ◌∙◌, refl, sym, cond, rules, arith, add-zero, ap, Err}
-use Rattle.sd_core.proofs.SweepLemmas.{next_file, next_path, swept_none, swept_more, swept_all, left_at, no_room, failed_job}
+use Rattle.sd_core.proofs.sweep.SweepLemmas.{next_file, next_path, swept_none, swept_more, swept_all, left_at, no_room, failed_job}
 use Rattle.sd_core.proofs.sweep.rewrite_all.Goals as goal
 use Rattle.sd_core.proofs.sweep.rewrite_all.Goals.{then-rewrite, else-rewrite}
 

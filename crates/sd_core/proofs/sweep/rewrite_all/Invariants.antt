@@ -3,7 +3,7 @@ use Rattle.std.specs.Prelude.{IsTrue}
 use Rattle.sd_edge.specs.Disk.{SameLists}
 use Rattle.sd_edge.specs.Tree.{NameList}
 use Rattle.sd_core.specs.Sweep.{AreFilePaths}
-use Rattle.sd_core.proofs.SweepLemmas.{IsSweptTo}
+use Rattle.sd_core.proofs.sweep.SweepLemmas.{IsSweptTo}
 use Rattle.sd_core.proofs.sweep.rewrite_all.Given as goal
 
 -- on a told disk the files so far are rewritten and counted

@@ -2,8 +2,8 @@ use Rattle.std.proofs.Common.{◌∙◌, sym, subst}
 use Rattle.std.proofs.lemmas.Result.{IfOk-weaker, on_err_weaker}
 use Rattle.sd_core.specs.Chosen.{ListsChosen}
 use Rattle.sd_core.specs.WordsRead.{order_of}
-use Rattle.sd_core.proofs.GlobsLemmas.{invalid_told}
-use Rattle.sd_core.proofs.SweepLemmas.{file_paths, rewrites_tree, leaves_tree, no_room_in_tree}
+use Rattle.sd_core.proofs.sweep.GlobsLemmas.{invalid_told}
+use Rattle.sd_core.proofs.sweep.SweepLemmas.{file_paths, rewrites_tree, leaves_tree, no_room_in_tree}
 use Rattle.sd_core.proofs.sweep.sweep.Goals as goal
 
 pub returns-in_err-globs-clause-invalid : goal.returns-in_err-globs-clause-invalid

@@ -7,8 +7,8 @@ use Rattle.sd_core.specs.Globs.{IsFirstInvalid}
 use Rattle.sd_core.specs.Headline.{HasNoRoom}
 use Rattle.sd_core.specs.Words.{TreeOrder}
 use Rattle.sd_core.specs.WordsRead.{order_of}
-use Rattle.sd_core.proofs.OrderLemmas.{order_finds, rewritten_leave}
-use Rattle.sd_core.proofs.RunLemmas.{completes, same_fault, risen_by, no_other}
+use Rattle.sd_core.proofs.top.OrderLemmas.{order_finds, rewritten_leave}
+use Rattle.sd_core.proofs.top.RunLemmas.{completes, same_fault, risen_by, no_other}
 use Rattle.sd_core.proofs.top.run.Goals as goal
 
 pub sweep-requires : goal.sweep-requires

@@ -5,7 +5,7 @@ use Rattle.std.proofs.lemmas.Str.{chars_from_encodes}
 use Rattle.std.proofs.lemmas.Option.{slice_get_read}
 use Rattle.sd_base.proofs.StepsLemmas.{at_most_more}
 use Rattle.glob_match.specs.Reading.{pieces_of_tokens}
-use Rattle.glob_match.proofs.FittingLemmas.{fits_valid}
+use Rattle.glob_match.proofs.matching.FittingLemmas.{fits_valid}
 use Rattle.glob_match.proofs.glob.Glob.fits_steps.Goals as goal
 
 pub returns-clause-answer : goal.returns-clause-answer

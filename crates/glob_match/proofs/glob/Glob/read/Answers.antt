@@ -1,7 +1,7 @@
 use Rattle.std.proofs.Common.{◌≡◌, chars, ◌∙◌, arith, rules, length-drop, Some, None}
 use Rattle.std.proofs.lemmas.Str.{chars_from_encodes}
 use Rattle.glob_match.specs.Reading.{negations}
-use Rattle.glob_match.proofs.FittingLemmas.{read_whole}
+use Rattle.glob_match.proofs.matching.FittingLemmas.{read_whole}
 use Rattle.glob_match.proofs.glob.Glob.read.Goals as goal
 
 pub returns-in_default : goal.returns-in_default

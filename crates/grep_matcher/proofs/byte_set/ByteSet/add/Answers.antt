@@ -1,5 +1,5 @@
 use Rattle.std.proofs.Common.{rules}
-use Rattle.grep_matcher.proofs.ByteSetLemmas.{byte_added_at}
+use Rattle.grep_matcher.proofs.byte_set.ByteSetLemmas.{byte_added_at}
 use Rattle.grep_matcher.proofs.byte_set.ByteSet.add.Goals as goal
 
 pub returns : goal.returns

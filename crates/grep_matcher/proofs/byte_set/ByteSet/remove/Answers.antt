@@ -1,5 +1,5 @@
 use Rattle.std.proofs.Common.{rules}
-use Rattle.grep_matcher.proofs.ByteSetLemmas.{byte_removed_at}
+use Rattle.grep_matcher.proofs.byte_set.ByteSetLemmas.{byte_removed_at}
 use Rattle.grep_matcher.proofs.byte_set.ByteSet.remove.Goals as goal
 
 pub returns : goal.returns

@@ -1,6 +1,6 @@
 use Rattle.std.proofs.Common.{Bool, not, ◌&&◌, ◌∙◌, ap, arith}
 use Rattle.grep_matcher.specs.ByteSets.{is_in}
-use Rattle.grep_matcher.proofs.ByteSetLemmas.{range_done}
+use Rattle.grep_matcher.proofs.byte_set.ByteSetLemmas.{range_done}
 use Rattle.grep_matcher.proofs.byte_set.ByteSet.remove_all.Goals as goal
 
 pub returns : goal.returns

@@ -1,7 +1,7 @@
 use Rattle.std.proofs.Common.{rules, ◌≡◌, refl, [], Ok, Err}
 use Rattle.grep_matcher.specs.References.{Adds, group_text}
-use Rattle.grep_matcher.proofs.ReachedLemmas.{reached_keeps}
-use Rattle.grep_matcher.proofs.ReferenceLemmas.{with_texts}
+use Rattle.grep_matcher.proofs.references.ReachedLemmas.{reached_keeps}
+use Rattle.grep_matcher.proofs.references.ReferenceLemmas.{with_texts}
 use Rattle.grep_matcher.proofs.captures.Captures.interpolate.Goals as goal
 
 pub interpolate-requires-clause-keeps : goal.interpolate-requires-clause-keeps

@@ -1,4 +1,4 @@
-use Rattle.grep_matcher.proofs.CoverCallLemmas.{some_last, some_last_broken}
+use Rattle.grep_matcher.proofs.visiting.CoverCallLemmas.{some_last, some_last_broken}
 use Rattle.grep_matcher.proofs.matcher.Matcher.captures_iter_at.Goals as goal
 
 pub returns-clause-visited : goal.returns-clause-visited

@@ -2,8 +2,8 @@ use Rattle.std.proofs.Common.{◌+◌, ◌-◌, length, true}
 use Rattle.grep_matcher.specs.Callable.{TakesCaptures}
 use Rattle.grep_matcher.specs.Groups.{captured}
 use Rattle.grep_matcher.specs.Visits.{WithGroups}
-use Rattle.grep_matcher.proofs.GroupLemmas.{captured_lawful}
-use Rattle.grep_matcher.proofs.CoverCallLemmas.{Leads}
+use Rattle.grep_matcher.proofs.captures.GroupLemmas.{captured_lawful}
+use Rattle.grep_matcher.proofs.visiting.CoverCallLemmas.{Leads}
 use Rattle.grep_matcher.proofs.matcher.Matcher.captures_visit_at.Given as goal
 
 -- the calls so far, before those to come, are those along the cover

@@ -1,4 +1,4 @@
-use Rattle.grep_matcher.proofs.CoverCallLemmas.{written_forgets}
+use Rattle.grep_matcher.proofs.visiting.CoverCallLemmas.{written_forgets}
 use Rattle.grep_matcher.proofs.matcher.Matcher.replace.Goals as goal
 
 pub returns-clause-replaced : goal.returns-clause-replaced

@@ -1,6 +1,6 @@
 use Rattle.std.proofs.Common.{rules, ◌≡◌, ◌++◌, [], Ok, arith, slice_range}
 use Rattle.grep_matcher.specs.Visits.{at_the_end, at_answer}
-use Rattle.grep_matcher.proofs.CoverCallLemmas.{leads_start, turn, stop_as, over, written_by, replaced_one, extends_more, still, memory_caused}
+use Rattle.grep_matcher.proofs.visiting.CoverCallLemmas.{leads_start, turn, stop_as, over, written_by, replaced_one, extends_more, still, memory_caused}
 use Rattle.grep_matcher.proofs.matcher.Matcher.replace_by.Goals as goal
 
 pub spans-init : goal.spans-init

@@ -1,7 +1,7 @@
 use Rattle.std.proofs.Common.{◌+◌, ◌-◌, ◌≤◌, length, true, Ok}
 use Rattle.grep_matcher.specs.Callable.{TakesSpans}
 use Rattle.grep_matcher.specs.Replaced.{Extends, Replaces}
-use Rattle.grep_matcher.proofs.CoverCallLemmas.{Leads}
+use Rattle.grep_matcher.proofs.visiting.CoverCallLemmas.{Leads}
 use Rattle.grep_matcher.proofs.matcher.Matcher.replace_by.Given as goal
 
 -- the calls so far, before those to come, are those along the cover

@@ -1,7 +1,7 @@
 use Rattle.std.proofs.Common.{rules, refl, ◌≡◌, ◌++◌, [], Ok, Some, arith, slice_range, length}
 use Rattle.grep_matcher.specs.Visits.{at_the_end, at_answer, AppendsWithGroups}
-use Rattle.grep_matcher.proofs.GroupLemmas.{first_accepted, none_found}
-use Rattle.grep_matcher.proofs.CoverCallLemmas.{leads_start, leads_end, turn, stop_as, written_by, replaced_one, extends_more, still, memory_caused}
+use Rattle.grep_matcher.proofs.captures.GroupLemmas.{first_accepted, none_found}
+use Rattle.grep_matcher.proofs.visiting.CoverCallLemmas.{leads_start, leads_end, turn, stop_as, written_by, replaced_one, extends_more, still, memory_caused}
 use Rattle.grep_matcher.proofs.matcher.Matcher.replace_with_captures_at_by.Goals as goal
 
 pub spans-init : goal.spans-init

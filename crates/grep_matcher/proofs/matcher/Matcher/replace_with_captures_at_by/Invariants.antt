@@ -3,8 +3,8 @@ use Rattle.grep_matcher.specs.Callable.{TakesCaptures}
 use Rattle.grep_matcher.specs.Groups.{captured}
 use Rattle.grep_matcher.specs.Replaced.{Extends, Replaces}
 use Rattle.grep_matcher.specs.Visits.{AppendsWithGroups}
-use Rattle.grep_matcher.proofs.GroupLemmas.{captured_lawful}
-use Rattle.grep_matcher.proofs.CoverCallLemmas.{Leads}
+use Rattle.grep_matcher.proofs.captures.GroupLemmas.{captured_lawful}
+use Rattle.grep_matcher.proofs.visiting.CoverCallLemmas.{Leads}
 use Rattle.grep_matcher.proofs.matcher.Matcher.replace_with_captures_at_by.Given as goal
 
 -- the calls so far, before those to come, are those along the cover

@@ -1,7 +1,7 @@
 use Rattle.std.proofs.Common.{refl, Some, Ok, Err, length}
 use Rattle.grep_matcher.specs.Visits.{at_the_end, at_answer}
-use Rattle.grep_matcher.proofs.GroupLemmas.{first_accepted, none_found}
-use Rattle.grep_matcher.proofs.CoverCallLemmas.{leads_start, leads_broken, leads_end, turn, stop_as, on_err, still}
+use Rattle.grep_matcher.proofs.captures.GroupLemmas.{first_accepted, none_found}
+use Rattle.grep_matcher.proofs.visiting.CoverCallLemmas.{leads_start, leads_broken, leads_end, turn, stop_as, on_err, still}
 use Rattle.grep_matcher.proofs.matcher.Matcher.try_captures_visit_at.Goals as goal
 
 pub loop-caps-init : goal.loop-caps-init

@@ -1,6 +1,6 @@
 use Rattle.std.proofs.Common.{Ok, Err, refl}
 use Rattle.grep_matcher.specs.Visits.{at_the_end, at_answer}
-use Rattle.grep_matcher.proofs.CoverCallLemmas.{leads_start, leads_broken, turn, stop_as, over, on_err, still}
+use Rattle.grep_matcher.proofs.visiting.CoverCallLemmas.{leads_start, leads_broken, turn, stop_as, over, on_err, still}
 use Rattle.grep_matcher.proofs.matcher.Matcher.try_visit_at.Goals as goal
 
 pub loop-found-init : goal.loop-found-init

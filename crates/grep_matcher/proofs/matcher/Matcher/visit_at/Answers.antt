@@ -1,5 +1,5 @@
 use Rattle.grep_matcher.specs.Visits.{at_the_end, at_answer}
-use Rattle.grep_matcher.proofs.CoverCallLemmas.{leads_start, leads_broken, turn, stop, over, on_err, still}
+use Rattle.grep_matcher.proofs.visiting.CoverCallLemmas.{leads_start, leads_broken, turn, stop, over, on_err, still}
 use Rattle.grep_matcher.proofs.matcher.Matcher.visit_at.Goals as goal
 
 pub loop-found-init : goal.loop-found-init

@@ -1,6 +1,6 @@
 use Rattle.std.proofs.Common.{◌+◌, ◌-◌, length, true}
 use Rattle.grep_matcher.specs.Callable.{TakesSpans}
-use Rattle.grep_matcher.proofs.CoverCallLemmas.{Leads}
+use Rattle.grep_matcher.proofs.visiting.CoverCallLemmas.{Leads}
 use Rattle.grep_matcher.proofs.matcher.Matcher.visit_at.Given as goal
 
 -- the calls so far, before those to come, are those along the cover

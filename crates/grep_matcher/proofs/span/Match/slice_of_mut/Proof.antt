@@ -27,7 +27,7 @@ use types.Logic.{Logic}
 use seplogic.Ra.Ura.{Ura}
 use Rattle.std.proofs.raw_atomic.Walks.{proved}
 use Rattle.std.specs.Prelude.{slice_range}
-use Rattle.grep_matcher.proofs.SpanLemmas.{length-span, span_lent, lends_span}
+use Rattle.grep_matcher.proofs.span.SpanLemmas.{length-span, span_lent, lends_span}
 use Rattle.grep_matcher.specs.contracts.span.Match.{the_row as R}
 use Rattle.grep_matcher.proofs.span.Match.TheLaws.{lowers, the_row_copy}
 use Rattle.grep_matcher.specs.contracts.span.Match.slice_of_mut as f

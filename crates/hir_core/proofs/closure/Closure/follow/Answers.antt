@@ -3,8 +3,8 @@ use Rattle.std.specs.Option.{option_or}
 use Rattle.hir_core.specs.Program.{Way}
 use Rattle.hir_core.specs.Trails.{Stop, way_of, stops_of, stops_on}
 use Rattle.hir_core.specs.Pass.{first_of, stops_give}
-use Rattle.hir_core.proofs.TurnLemmas.{Follows-begin, Follows-at, Follows-match, Follows-turn, Follows-falls, Follows-end, length-visiting}
-use Rattle.hir_core.proofs.VisitLemmas.{CountsVisits-none, CountsVisits-add, CountsVisits-turn}
+use Rattle.hir_core.proofs.closure.TurnLemmas.{Follows-begin, Follows-at, Follows-match, Follows-turn, Follows-falls, Follows-end, length-visiting}
+use Rattle.hir_core.proofs.closure.VisitLemmas.{CountsVisits-none, CountsVisits-add, CountsVisits-turn}
 use Rattle.hir_core.proofs.closure.Closure.follow.Goals as goal
 
 pub loop-here-init : goal.loop-here-init

@@ -1,7 +1,7 @@
 use Rattle.std.proofs.Common.{◌≡◌, ◌++◌, length}
 use Rattle.hir_core.specs.Trails.{way_of, stops_on}
 use Rattle.hir_core.specs.Pass.{CountsVisits, first_of, stop_gives, stops_give}
-use Rattle.hir_core.proofs.TurnLemmas.{Follows, turn_weight}
+use Rattle.hir_core.proofs.closure.TurnLemmas.{Follows, turn_weight}
 use Rattle.hir_core.proofs.closure.Closure.follow.Given as goal
 
 -- what was kept, and the alternatives, have the first run of what was kept before and the thread

@@ -1,7 +1,7 @@
 use Rattle.std.proofs.Common.{refl, ◌∙◌}
 use Rattle.hir_core.specs.Trails.{way_of}
-use Rattle.hir_core.proofs.RoundLemmas.{threads_from, Rounds-followed, Rounds-found}
-use Rattle.hir_core.proofs.VisitLemmas.{CountsVisits-none, CountsVisits-add}
+use Rattle.hir_core.proofs.pass.RoundLemmas.{threads_from, Rounds-followed, Rounds-found}
+use Rattle.hir_core.proofs.closure.VisitLemmas.{CountsVisits-none, CountsVisits-add}
 use Rattle.hir_core.proofs.closure.Closure.follow_all.Goals as goal
 
 pub loop-i-init : goal.loop-i-init

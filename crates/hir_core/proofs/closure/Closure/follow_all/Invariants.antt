@@ -1,6 +1,6 @@
 use Rattle.std.proofs.Common.{◌≡◌, ◌++◌, length, drop}
 use Rattle.hir_core.specs.Pass.{CountsVisits, first_of, stops_give}
-use Rattle.hir_core.proofs.RoundLemmas.{Rounds}
+use Rattle.hir_core.proofs.pass.RoundLemmas.{Rounds}
 use Rattle.hir_core.proofs.closure.Closure.follow_all.Given as goal
 
 -- what was kept, and the threads that are left, have the first run of what was kept before and all threads

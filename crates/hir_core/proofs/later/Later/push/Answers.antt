@@ -1,6 +1,6 @@
 use Rattle.std.proofs.Common.{◌≡◌, ◌++◌, arith}
 use Rattle.std.proofs.lemmas.Grind.{common_steps}
-use Rattle.hir_core.proofs.RowsLemmas.{rows-push}
+use Rattle.hir_core.proofs.later.RowsLemmas.{rows-push}
 use Rattle.hir_core.proofs.later.Later.push.Goals as goal
 
 pub returns : goal.returns

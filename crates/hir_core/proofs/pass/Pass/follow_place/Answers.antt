@@ -1,4 +1,4 @@
-use Rattle.hir_core.proofs.VisitLemmas.{CountsVisits-add, CountsVisits-place}
+use Rattle.hir_core.proofs.closure.VisitLemmas.{CountsVisits-add, CountsVisits-place}
 use Rattle.hir_core.proofs.pass.Pass.follow_place.Goals as goal
 
 pub returns-in_err-found-clause-ticks : goal.returns-in_err-found-clause-ticks

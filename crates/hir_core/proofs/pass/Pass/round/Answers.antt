@@ -3,7 +3,7 @@ use Rattle.std.specs.Option.{option_or}
 use Rattle.hir_tree.specs.Runs.{Run}
 use Rattle.hir_core.specs.Trails.{Stop}
 use Rattle.hir_core.specs.Pass.{stops_give, match_of, answer, best_in}
-use Rattle.hir_core.proofs.RoundLemmas.{answer-round}
+use Rattle.hir_core.proofs.pass.RoundLemmas.{answer-round}
 use Rattle.hir_core.proofs.pass.Pass.round.Goals as goal
 
 pub returns-clause-answer : goal.returns-clause-answer

@@ -3,8 +3,8 @@ use Rattle.std.proofs.lemmas.List.{nil_from_length}
 use Rattle.std.proofs.lemmas.Bool.{eqb-true}
 use Rattle.sd_base.proofs.StepsLemmas.{at_most_more, at_most_add}
 use Rattle.hir_core.specs.Pass.{best_in, counted}
-use Rattle.hir_core.proofs.RoundLemmas.{answer-over, answer-end}
-use Rattle.hir_core.proofs.VisitLemmas.{places_to, places_more, all_places}
+use Rattle.hir_core.proofs.pass.RoundLemmas.{answer-over, answer-end}
+use Rattle.hir_core.proofs.closure.VisitLemmas.{places_to, places_more, all_places}
 use Rattle.hir_core.proofs.pass.Pass.search.Goals as goal
 
 pub returns-in_err-round-clause-ticks : goal.returns-in_err-round-clause-ticks

@@ -1,7 +1,6 @@
 use Rattle.std.proofs.Common.{ℕ, ◌+◌, List, Some, None, length, refl, subst, arith}
-use Rattle.hir_core.specs.Found.{IsOfLeast}
-use Rattle.hir_core.specs.PlainText.{place_found}
-use Rattle.hir_core.proofs.PlainTextLemmas.{found-least}
+use Rattle.hir_core.specs.Found.{IsOfLeast, place_found}
+use Rattle.hir_core.proofs.plain.PlainTextLemmas.{found-least}
 use Rattle.hir_core.proofs.plain.TextFinder.find.Goals as goal
 
 pub returns-in-None-clause-least : goal.returns-in-None-clause-least

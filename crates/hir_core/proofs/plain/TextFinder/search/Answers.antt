@@ -1,6 +1,6 @@
 use Rattle.std.proofs.Common.{◌-◌, Some, length}
-use Rattle.hir_core.specs.PlainText.{text_groups}
-use Rattle.hir_core.proofs.PlainTextLemmas.{groups-least, whole-spans}
+use Rattle.hir_tree.specs.PlainText.{text_groups}
+use Rattle.hir_core.proofs.plain.PlainTextLemmas.{groups-least, whole-spans}
 use Rattle.hir_core.proofs.plain.TextFinder.search.Goals as goal
 
 pub returns-in-Some-clause-found : goal.returns-in-Some-clause-found

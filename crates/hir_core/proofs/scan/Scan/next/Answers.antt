@@ -1,5 +1,5 @@
 use Rattle.std.proofs.Common.{◌≡◌, ℕ, ◌+◌, ◌<◌, ◌⊎◌, inl, inr, slice_index, bit_and, bit_or, subst, sym, arith}
-use Rattle.hir_core.proofs.ScanLemmas.{Looked, Steps-read, Looked-next, Looked-over, Looked-quiet, Looked-end}
+use Rattle.hir_core.proofs.scan.ScanLemmas.{Looked, Steps-read, Looked-next, Looked-over, Looked-quiet, Looked-end}
 use Rattle.hir_core.proofs.scan.Scan.next.Goals as goal
 use Rattle.hir_core.proofs.scan.Scan.next.Goals.{else-byte-ge128-via-then-byte-ge128+else-tried-self-ne0, else-byte-ge128-via-else-byte-ge128}
 

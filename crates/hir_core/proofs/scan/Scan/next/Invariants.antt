@@ -1,5 +1,5 @@
 use Rattle.std.proofs.Common.{◌-◌, length}
-use Rattle.hir_core.proofs.ScanLemmas.{Looked}
+use Rattle.hir_core.proofs.scan.ScanLemmas.{Looked}
 use Rattle.hir_core.proofs.scan.Scan.next.Given as goal
 
 -- no run begins before `from`, nor from there on, unless a spot of the state gives something at the place

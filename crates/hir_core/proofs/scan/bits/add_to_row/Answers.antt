@@ -1,6 +1,6 @@
 use Rattle.std.proofs.Common.{ℕ, ◌+◌, ◌*◌, List, get_or, bit_or, sym, subst, arith}
 use Rattle.hir_core.specs.Masks.{Grows}
-use Rattle.hir_core.proofs.MaskLemmas.{HasBit-or_left, Grows-set, RowHas, Row-set, Row-skip}
+use Rattle.hir_core.proofs.scan.bits.MaskLemmas.{HasBit-or_left, Grows-set, RowHas, Row-set, Row-skip}
 use Rattle.hir_core.proofs.scan.bits.add_to_row.Goals as goal
 use Rattle.hir_core.proofs.scan.bits.add_to_row.Goals.{then-eight-bit-eq1, else-eight-bit-eq1}
 

@@ -1,5 +1,5 @@
 use Rattle.std.proofs.Common.{◌+◌, inl, inr, arith}
-use Rattle.hir_core.proofs.MaskLemmas.{Joins-begin, Joins-next, Joins-end}
+use Rattle.hir_core.proofs.scan.bits.MaskLemmas.{Joins-begin, Joins-next, Joins-end}
 use Rattle.hir_core.proofs.scan.bits.joined.Goals as goal
 
 pub loop-row-init : goal.loop-row-init

@@ -1,4 +1,4 @@
-use Rattle.hir_core.proofs.MaskLemmas.{Joins}
+use Rattle.hir_core.proofs.scan.bits.MaskLemmas.{Joins}
 use Rattle.hir_core.proofs.scan.bits.joined.Given as goal
 
 -- the rows so far were joined

@@ -1,4 +1,4 @@
-use Rattle.hir_core.proofs.MaskLemmas.{HasBit-or_left, HasBit-set}
+use Rattle.hir_core.proofs.scan.bits.MaskLemmas.{HasBit-or_left, HasBit-set}
 use Rattle.hir_core.proofs.scan.bits.with_bit.Goals as goal
 
 pub returns-clause-kept : goal.returns-clause-kept

@@ -1,8 +1,8 @@
 use Rattle.std.proofs.Common.{◌≡◌, ℕ, ◌+◌, List, length, sym, ap, ◌∙◌, subst, arith}
 use Rattle.std.specs.Prelude.{take, drop, ◌++◌}
 use Rattle.hir_core.specs.Masks.{Grows, Covers}
-use Rattle.hir_core.proofs.DeadLemmas.{AfterHas, AfterHas-next}
-use Rattle.hir_core.proofs.ReachLemmas.{lent_back}
+use Rattle.hir_core.proofs.scan.reach.DeadLemmas.{AfterHas, AfterHas-next}
+use Rattle.hir_core.proofs.scan.reach.ReachLemmas.{lent_back}
 use Rattle.hir_core.proofs.scan.reach.after.Goals as goal
 
 pub loop-i-preserved : goal.loop-i-preserved

@@ -1,5 +1,5 @@
 use Rattle.std.proofs.Common.{◌≡◌, length}
-use Rattle.hir_core.proofs.DeadLemmas.{AfterHas}
+use Rattle.hir_core.proofs.scan.reach.DeadLemmas.{AfterHas}
 use Rattle.hir_core.proofs.scan.reach.after.Given as goal
 
 -- the rows cover what comes after the spots so far

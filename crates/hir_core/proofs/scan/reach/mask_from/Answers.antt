@@ -1,6 +1,6 @@
 use Rattle.std.proofs.Common.{slice_index, sym, ap, ◌∙◌, true≢false}
 use Rattle.hir_core.specs.Masks.{is_reached}
-use Rattle.hir_core.proofs.DeadLemmas.{Covers-reached}
+use Rattle.hir_core.proofs.scan.reach.DeadLemmas.{Covers-reached}
 use Rattle.hir_core.proofs.scan.reach.mask_from.Goals as goal
 
 pub returns-then-reached_match : goal.returns-then-reached_match

@@ -1,6 +1,6 @@
 use Rattle.std.proofs.Common.{◌≡◌, [], subst, arith}
 use Rattle.std.proofs.lemmas.List.{nil_from_length}
-use Rattle.hir_core.proofs.ReachLemmas.{Walks, Walks-visited, walk_weight-visited, Walks-end}
+use Rattle.hir_core.proofs.scan.reach.ReachLemmas.{Walks, Walks-visited, walk_weight-visited, Walks-end}
 use Rattle.hir_core.proofs.scan.reach.reach.Goals as goal
 
 pub loop-place-preserved : goal.loop-place-preserved

@@ -1,4 +1,4 @@
-use Rattle.hir_core.proofs.ReachLemmas.{Walks, walk_weight}
+use Rattle.hir_core.proofs.scan.reach.ReachLemmas.{Walks, walk_weight}
 use Rattle.hir_core.proofs.scan.reach.reach.Given as goal
 
 -- where spots lead that were reached, that was reached, or is on the stack

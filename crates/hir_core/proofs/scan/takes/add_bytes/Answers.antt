@@ -1,6 +1,6 @@
 use Rattle.std.proofs.Common.{inl, inr, sym, arith}
 use Rattle.std.proofs.lemmas.Option.{get_or_from_slice_get}
-use Rattle.hir_core.proofs.SetLemmas.{in_set-more}
+use Rattle.hir_core.proofs.scan.takes.SetLemmas.{in_set-more}
 use Rattle.hir_core.proofs.scan.takes.add_bytes.Goals as goal
 
 pub loop-i-preserved : goal.loop-i-preserved

@@ -1,6 +1,6 @@
 use Rattle.std.proofs.Common.{sym, ◌∙◌, arith}
 use Rattle.std.proofs.lemmas.Option.{get_or_from_slice_get}
-use Rattle.hir_core.proofs.SetLemmas.{has_wide-here, has_wide-later, has_wide-end}
+use Rattle.hir_core.proofs.scan.takes.SetLemmas.{has_wide-here, has_wide-later, has_wide-end}
 use Rattle.hir_core.proofs.scan.takes.has_wide.Goals as goal
 
 pub returns-then-get-gt127 : goal.returns-then-get-gt127

@@ -4,7 +4,7 @@ use Rattle.hir_tree.specs.Tree.{tree_of}
 use Rattle.hir_core.specs.Pass.{counted}
 use Rattle.hir_core.specs.Scan.{IsFilterOf}
 use Rattle.hir_tree.proofs.CoreSpotsLemmas.{core_within}
-use Rattle.hir_core.proofs.ProgramVisitsLemmas.{counted-core}
+use Rattle.hir_core.proofs.searcher.ProgramVisitsLemmas.{counted-core}
 use Rattle.hir_core.proofs.searcher.Searcher.new.Goals as goal
 
 pub invariant_of-result : goal.invariant_of-result
@@ -17,8 +17,8 @@ invariant_of-result c = record {
   text = c.in_ok-text.ensures;
 }
   where
-    visits : counted c.in_ok-spots.spots.items ≤ spots_of c.args.hir
-    visits = omega (arith, counted-core _ c.in_ok-spots.spots.items c.in_ok-spots.ensures.stands, core_within (tree_of c.args.hir))
+    visits : counted c.in_ok-spots.spots.items ≤ spots_of c.in_ok-copy.copy
+    visits = omega (arith, counted-core _ c.in_ok-spots.spots.items c.in_ok-spots.ensures.stands, core_within (tree_of c.in_ok-copy.copy))
 
     filter : IfSome c.in_ok-filter.filter (IsFilterOf c.in_ok-spots.spots.items)
     filter = search rules

@@ -1,6 +1,6 @@
-use Rattle.std.proofs.Common.{◌≡◌, ◌+◌, ◌-◌, length, arith}
+use Rattle.std.proofs.Common.{◌≡◌, ◌-◌, length, arith}
 use Rattle.hir_tree.specs.Spots.{groups_of}
-use Rattle.hir_core.proofs.SearcherLemmas.{found-by_text}
+use Rattle.hir_core.proofs.searcher.SearcherLemmas.{found-by_text}
 use Rattle.hir_core.proofs.searcher.Searcher.search_at.Goals as goal
 
 pub returns-in-Some-clause-found : goal.returns-in-Some-clause-found

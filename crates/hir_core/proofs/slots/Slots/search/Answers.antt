@@ -1,10 +1,10 @@
-use Rattle.std.proofs.Common.{◌≡◌, ◌+◌, true, false, length, map, sym, ap, ◌∙◌}
+use Rattle.std.proofs.Common.{◌≡◌, true, false, length, map, sym, ap, ◌∙◌}
 use Rattle.std.specs.Option.{is_some}
 use Rattle.std.proofs.lemmas.List.{length-map, length-replicate}
 use Rattle.hir_core.specs.Found.{span_of}
 use Rattle.hir_core.specs.Pass.{best_in}
-use Rattle.hir_core.proofs.SearcherLemmas.{best-none, best-some, best-whole}
-use Rattle.hir_core.proofs.SoundRunsLemmas.{whole-in_order}
+use Rattle.hir_core.proofs.searcher.SearcherLemmas.{best-none, best-some, best-whole}
+use Rattle.hir_core.proofs.searcher.SoundRunsLemmas.{whole-in_order}
 use Rattle.hir_core.proofs.slots.Slots.search.Goals as goal
 
 pub returns-then-not-branch-clause-found : goal.returns-then-not-branch-clause-found

@@ -1,5 +1,5 @@
 use Rattle.std.proofs.Common.{refl}
-use Rattle.hir_core.proofs.StackLemmas.{members-none}
+use Rattle.hir_core.proofs.stack_search.StackLemmas.{members-none}
 use Rattle.hir_core.proofs.stack_search.Alternative.begin_at.Goals as goal
 
 pub returns : goal.returns

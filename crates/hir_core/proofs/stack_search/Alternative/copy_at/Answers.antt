@@ -1,5 +1,5 @@
 use Rattle.std.proofs.Common.{refl}
-use Rattle.hir_core.proofs.StackLemmas.{members-same}
+use Rattle.hir_core.proofs.stack_search.StackLemmas.{members-same}
 use Rattle.hir_core.proofs.stack_search.Alternative.copy_at.Goals as goal
 
 pub returns : goal.returns

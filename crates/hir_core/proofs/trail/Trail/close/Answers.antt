@@ -1,6 +1,6 @@
 use Rattle.std.proofs.Common.{ap, ◌∙◌, None}
 use Rattle.std.specs.Prelude.{slice_index_or}
-use Rattle.hir_core.proofs.TrailLemmas.{alternatives-ended}
+use Rattle.hir_core.proofs.trail.TrailLemmas.{alternatives-ended}
 use Rattle.hir_core.proofs.trail.Trail.close.Goals as goal
 
 pub returns-clause-stops : goal.returns-clause-stops

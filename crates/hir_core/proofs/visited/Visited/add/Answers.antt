@@ -1,6 +1,6 @@
 use Rattle.std.proofs.Common.{true, ap, ◌∙◌}
 use Rattle.std.specs.Prelude.{slice_set}
-use Rattle.hir_core.proofs.StampsLemmas.{stamped-visited}
+use Rattle.hir_core.proofs.visited.StampsLemmas.{stamped-visited}
 use Rattle.hir_core.proofs.visited.Visited.add.Goals as goal
 
 pub returns : goal.returns

@@ -2,7 +2,7 @@ use Rattle.std.proofs.Common.{◌≡◌, false, length, sym, ap, ◌∙◌, subs
 use Rattle.std.specs.Prelude.{replicate}
 use Rattle.std.proofs.lemmas.Grind.{common_steps}
 use Rattle.hir_core.specs.Stamps.{visited_at, AllUpTo}
-use Rattle.hir_core.proofs.StampsLemmas.{next-unvisited, unset-unvisited, unset-up_to}
+use Rattle.hir_core.proofs.visited.StampsLemmas.{next-unvisited, unset-unvisited, unset-up_to}
 use Rattle.hir_core.proofs.visited.Visited.next_place.Goals as goal
 
 pub returns-then-self-lt18446744073709551615 : goal.returns-then-self-lt18446744073709551615

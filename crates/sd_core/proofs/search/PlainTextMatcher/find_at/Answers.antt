@@ -2,7 +2,7 @@ use Rattle.std.proofs.Common.{Some, subst, sym, length}
 use Rattle.grep_matcher.specs.Span.{Span, same_span}
 use Rattle.grep_matcher.specs.Cover.{IsFirst}
 use Rattle.grep_matcher.specs.PlainLemmas.{Text}
-use Rattle.sd_core.proofs.SearchLemmas.{rest_is, none_found, one_found}
+use Rattle.sd_core.proofs.search.SearchLemmas.{rest_is, none_found, one_found}
 use Rattle.sd_core.proofs.search.PlainTextMatcher.find_at.Goals as goal
 
 pub returns-in-None-clause-found : goal.returns-in-None-clause-found

@@ -1,5 +1,0 @@
-use Rattle.std.proofs.Common.{length}
-use Rattle.glob_match.proofs.slow.+take_rest.Given as goal
-
-abbrev pub decreases-take_rest : goal.decreases-take_rest
-decreases-take_rest l = length l.signs.now

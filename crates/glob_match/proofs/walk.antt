@@ -1,0 +1,3 @@
+pub mod CaptureWalkLemmas
+pub mod CapturesLemmas
+pub mod NearestLemmas

@@ -1,0 +1,2 @@
+pub mod DeadLemmas
+pub mod ReachLemmas

@@ -1,0 +1,3 @@
+pub mod ProgramVisitsLemmas
+pub mod SearcherLemmas
+pub mod SoundRunsLemmas

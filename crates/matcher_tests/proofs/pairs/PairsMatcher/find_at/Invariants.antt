@@ -1,0 +1,14 @@
+use Rattle.std.proofs.Common.{◌-◌, ◌≤◌, length}
+use Rattle.grep_matcher.specs.Cover.{NoneBetween, prefers}
+use Rattle.matcher_tests.specs.Pairs.{end_of_pair}
+use Rattle.matcher_tests.proofs.pairs.PairsMatcher.find_at.Given as goal
+
+abbrev pub invariant-loop-place : goal.invariant-loop-place
+invariant-loop-place l = record {
+  after : l.at ≤ l.place;
+  within : l.place ≤ length l.haystack;
+  none : NoneBetween (prefers (end_of_pair l.haystack l.self.first)) l.at l.place;
+}
+
+abbrev pub decreases-loop-place : goal.decreases-loop-place
+decreases-loop-place l = length l.haystack - l.place

@@ -1,0 +1,123 @@
+//! All small patterns on all short texts: the searches in one pass find what the search by a stack of alternatives finds.
+
+use crate::patterns::pattern;
+use crate::searches::{Way, search};
+use hir_core::{Searcher, Slots, group_count};
+use sd_base::NoMemory;
+use std::alloc::Global;
+use std::process::Abort;
+use std::test::Fail;
+
+/// The signs of the patterns: three leaves, six nodes with one part, and two with two parts.
+const SIGNS: &[u8] = b"0ab?!*~=1.|";
+
+/// The words with the numbers below this one, among those over some letters from the shortest on.
+fn words(alloc: Global, letters: &[u8], numbers: usize) -> Result<Vec<Vec<u8>>, NoMemory> {
+    let mut words = Vec::new(alloc);
+    for number in 0..numbers {
+        words.push(word(alloc, letters, number)?)?;
+    }
+    Ok(words)
+}
+
+/// The word with this number.
+fn word(alloc: Global, letters: &[u8], number: usize) -> Result<Vec<u8>, NoMemory> {
+    let mut word = Vec::new(alloc);
+    let mut left = number;
+    for _ in 0..10 {
+        if left == 0 || letters.is_empty() {
+            break;
+        }
+        left -= 1;
+        word.push(letters[left % letters.len()])?;
+        left /= letters.len();
+    }
+    Ok(word)
+}
+
+/// Whether each sign has the parts that it needs before it, and one part is left at the end.
+fn is_pattern(signs: &[u8]) -> bool {
+    let mut parts: usize = 0;
+    for sign in signs {
+        match sign {
+            b'0' | b'a' | b'b' => parts = parts.saturating_add(1),
+            b'.' | b'|' if parts < 2 => return false,
+            b'.' | b'|' => parts -= 1,
+            _ if parts < 1 => return false,
+            _ => {}
+        }
+    }
+    parts == 1
+}
+
+/// Whether two lists of slots hold the same spans.
+fn are_same(one: &Slots, other: &Slots) -> bool {
+    one.len() == other.len() && (0..one.len()).all(|group| one.get(group) == other.get(group))
+}
+
+/// Compares the searches from a place of a text. Gives whether there is a match.
+fn compare_at(
+    rt: &impl Abort,
+    searcher: &Searcher,
+    text: &[u8],
+    at: usize,
+    wanted: &mut Slots,
+    slots: &mut Slots,
+) -> Result<bool, Fail> {
+    let count = group_count(searcher.hir()) as usize + 1;
+    assert!(rt; at <= text.len() && wanted.len() == count && slots.len() == count);
+    let is_found = search(searcher, Way::ByStack, text, at, wanted)?;
+    let is_same = search(searcher, Way::InOnePass, text, at, slots)? == is_found;
+    assert!(rt; is_same && are_same(slots, wanted));
+    let is_same = search(searcher, Way::WithCountedSteps, text, at, slots)? == is_found;
+    assert!(rt; is_same && are_same(slots, wanted));
+    Ok(is_found)
+}
+
+/// Compares the searches for a pattern from each place of these texts, or, for a pattern of five nodes, from the first. Gives
+/// how many find a match, and how many do not.
+fn compare(
+    rt: &(impl Abort + AllocGlobal),
+    signs: &[u8],
+    texts: &[Vec<u8>],
+) -> Result<(usize, usize), Fail> {
+    let alloc = rt.alloc();
+    let searcher = Searcher::new(alloc, &pattern(alloc, signs)?)?;
+    let groups = group_count(searcher.hir());
+    let mut wanted = Slots::new(alloc, groups)?;
+    let mut slots = Slots::new(alloc, groups)?;
+    let mut matching: usize = 0;
+    let mut others: usize = 0;
+    for text in texts {
+        let last = if signs.len() < 5 { text.len() } else { 0 };
+        for at in 0..last + 1 {
+            if compare_at(rt, &searcher, text, at, &mut wanted, &mut slots)? {
+                matching = matching.saturating_add(1);
+            } else {
+                others = others.saturating_add(1);
+            }
+        }
+    }
+    Ok((matching, others))
+}
+
+// The words of at most five signs, on the 31 texts of `a` and `b` with at most four bytes, which have 129 places: 1119 of the
+// shorter words are patterns, and 7992 of those of five.
+#[test]
+fn all_small_patterns_match_as_by_the_stack(rt: HostRuntime) -> Result<(), Fail> {
+    let alloc = rt.alloc();
+    let texts = words(alloc, b"ab", 31)?;
+    let mut matching: usize = 0;
+    let mut others: usize = 0;
+    for number in 0..177_156 {
+        let signs = word(alloc, SIGNS, number)?;
+        if is_pattern(&signs) {
+            let (more, less) = compare(&rt, &signs, &texts)?;
+            matching = matching.saturating_add(more);
+            others = others.saturating_add(less);
+        }
+    }
+    assert_eq!(rt; matching.saturating_add(others), 1_119 * 129 + 7_992 * 31);
+    assert!(rt; matching > 0 && others > 0);
+    Ok(())
+}

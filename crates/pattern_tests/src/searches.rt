@@ -1,0 +1,217 @@
+//! Searches of small texts.
+
+ghost use Rattle.std.specs.Prelude.{◌≡◌, ◌+◌, ◌≤◌, length};
+ghost use Rattle.hir_tree.specs.Spots.{groups_of};
+
+use crate::patterns::pattern;
+use hir_core::{Searcher, Slots, group_count};
+use sd_base::{NoMemory, Silent, Steps, Tally};
+use std::process::Abort;
+use std::test::Fail;
+
+/// A search in a row: the pattern as it is usually written and as a row of signs, the text, the place from which it is searched,
+/// and the ends of the groups that are found.
+///
+/// - `a*` takes each `a` that stands at the place, and else nothing: the place itself has a match.
+/// - `(?:a?b??)*` takes the `a` in its first round and, as it prefers, no `b`. A second round would come again to the choice of
+///   `b??` without a byte in between, so it gives nothing.
+/// - In `(?:(a)|b)*` the group holds what its last round took, also where a later round took the other part.
+/// - In `((a)b)` both groups have the index 1: what is set last stays, and that is the outer one.
+/// - In `(a|ab)(c|bcd)` what the groups held is put back on the way from `ab` to `a`.
+/// - In `(?:a|[x-é])b` a thread waits for the end of a character.
+const ROWS: &str = "\
+a* a* baac 0 0-0
+a* a* baac 1 1-3
+a* a* baac 3 3-3
+a* a* baac 4 4-4
+a+ a+ baab 0 1-3
+a+ a+ baab 2 2-3
+a+ a+ baab 3 -
+a+? a# baab 0 1-2
+(?:a?b??)* a?b!.* ab 0 0-1
+(?:a?b??)* a?b!.* aab 0 0-2
+(?:x*)*y x**y. xxy 0 0-3
+(?:x*)*y x**y. xx 0 -
+(a)|(b) a1b2| ab 0 0-1/0-1/-
+(a)|(b) a1b2| ab 1 1-2/-/1-2
+(a*)(a*) a*1a*2. aa 0 0-2/0-2/2-2
+(a*?)(a*) a~1a*2. aa 0 0-2/0-0/0-2
+(?:(a)|b)* a1b|* aab 0 0-3/1-2
+((a)b) a1b.1 cab 0 1-3/1-3
+(a|ab)(c|bcd) aab.|1cbc.d.|2. xabcd 0 1-5/1-2/2-5
+(a|ab)(c|bcd) aab.|1cbc.d.|2. abcab 0 0-3/0-2/2-3
+(a|ab)(c|bcd) aab.|1cbc.d.|2. abdab 0 -/-/-
+[a-z]+_id [+_.i.d. some_words,_id 0 -
+[a-z]+_id [+_.i.d. a,b_i,user_id,c 0 6-13
+[a-z]+_id [+_.i.d. a,b_i,user_id,c 8 8-13
+[a-z]+_id [+_.i.d. a,b_i,user_id,c 11 -
+aab|ba aa.b.ba.| aaaab 0 2-5
+aab|ba aa.b.ba.| cba 0 1-3
+ab ab. xabyabzab 0 1-3
+ab ab. xabyabzab 2 4-6
+ab ab. xabyabzab 8 -
+(?:) 0 ab 2 2-2
+^b ^b. bb 0 0-1
+^b ^b. bb 1 -
+[^\\s\\S] - ab 0 -
+[x-é] { aé 0 1-3
+[x-é] { aé 2 -
+[x-z] } aéy 0 3-4
+(?:a|[x-é])b a{|b. aéab 0 3-5
+(?:a|[x-é])b a{|b. aéb 0 1-4";
+
+/// A way to search.
+#[derive(Clone, Copy)]
+pub enum Way {
+    InOnePass,
+    WithCountedSteps,
+    ByStack,
+}
+
+/// A search in one of the ways. Callers are told no more than what the next search asks, so that a test is quickly proved.
+pub fn search(
+    searcher: &Searcher,
+    way: Way,
+    text: &[u8],
+    at: usize,
+    slots: &mut Slots,
+) -> Result<bool, NoMemory>
+    requires within { at ≤ length text.now }
+    requires slots { length slots.old ≡ groups_of searcher.now + 1 }
+    ensures { length slots.new ≡ length slots.old }
+{
+    match way {
+        Way::InOnePass => searcher.search_at(text, at, slots),
+        Way::WithCountedSteps => {
+            searcher.search_at_steps(text, at, slots, &mut Steps::new(Silent))
+        }
+        Way::ByStack => searcher.search_by_stack(text, at, slots),
+    }
+}
+
+/// The ends of each group, as `1-3`, or `-` where it is unset.
+fn shown(rt: &impl AllocGlobal, slots: &Slots) -> Result<String, Fail> {
+    let mut out = String::new(rt.alloc());
+    for group in 0..slots.len() {
+        if group > 0 {
+            out.push('/')?;
+        }
+        match slots.get(group) {
+            Some(span) => write!(out, "{}-{}", span.start(), span.end())?,
+            None => out.push('-')?,
+        }
+    }
+    Ok(out)
+}
+
+/// Each search for a pattern from a place of a text finds these groups.
+fn check(
+    rt: &(impl Abort + AllocGlobal),
+    signs: &str,
+    text: &[u8],
+    at: usize,
+    groups: &str,
+) -> Result<(), Fail> {
+    let alloc = rt.alloc();
+    let searcher = Searcher::new(alloc, &pattern(alloc, signs.as_bytes())?)?;
+    let count = group_count(searcher.hir()) as usize;
+    let mut slots = Slots::new(alloc, group_count(searcher.hir()))?;
+    for way in [Way::InOnePass, Way::WithCountedSteps, Way::ByStack] {
+        assert!(rt; at <= text.len() && slots.len() == count + 1);
+        let is_found = search(&searcher, way, text, at, &mut slots)?;
+        assert!(rt; is_found == slots.get(0).is_some(), "{signs} from {at}");
+        let found = shown(rt, &slots)?;
+        assert_eq!(rt; found.as_str(), groups, "{signs} from {at}");
+    }
+    Ok(())
+}
+
+/// The search in this row.
+fn check_row(rt: &(impl Abort + AllocGlobal), row: &str) -> Result<(), Fail> {
+    let words: Vec<&str> = row.split(' ').collect(rt.alloc())?;
+    assert!(rt; words.len() == 5);
+    let at = words[3].parse().ok().ok_or("no place")?;
+    check(rt, words[1], words[2].as_bytes(), at, words[4])
+}
+
+#[test]
+fn matches_and_their_groups(rt: HostRuntime) -> Result<(), Fail> {
+    let mut rows: usize = 0;
+    for row in ROWS.lines() {
+        check_row(&rt, row)?;
+        rows = rows.saturating_add(1);
+    }
+    assert_eq!(rt; rows, 39);
+    Ok(())
+}
+
+// `[x-é]` on bytes that are no UTF-8: the character begins at 1.
+#[test]
+fn texts_that_are_no_utf8(rt: HostRuntime) -> Result<(), Fail> {
+    check(&rt, "{", b"\xc3\xc3\xa9\xa9", 0, "1-3")?;
+    check(&rt, "{", b"\xc3\xc3\xa9\xa9", 2, "-")
+}
+
+// `[a-z]{63}` has as many spots as the filter takes, and `[a-z]{63}[a-z]` has one more.
+#[test]
+fn more_spots_than_the_filter_takes(rt: HostRuntime) -> Result<(), Fail> {
+    let mut text = Vec::new(rt.alloc());
+    text.push(b'-')?;
+    text.resize(65, b'a')?;
+    check(&rt, "[%", &text, 0, "1-64")?;
+    check(&rt, "[%[.", &text, 0, "1-65")?;
+    check(&rt, "[%[.", &text, 2, "-")
+}
+
+/// Searches again with slots that another search used.
+fn check_again(
+    rt: &(impl Abort + AllocGlobal),
+    signs: &[u8],
+    at: usize,
+    slots: &mut Slots,
+    groups: &str,
+) -> Result<(), Fail> {
+    let alloc = rt.alloc();
+    let searcher = Searcher::new(alloc, &pattern(alloc, signs)?)?;
+    let text = b"user_i, user_id, a_id".as_slice();
+    assert!(rt; at <= text.len() && slots.len() == group_count(searcher.hir()) as usize + 1);
+    search(&searcher, Way::InOnePass, text, at, slots)?;
+    let found = shown(rt, slots)?;
+    assert_eq!(rt; found.as_str(), groups, "from {at}");
+    Ok(())
+}
+
+// The lists of one search are those of the next, also of another pattern.
+#[test]
+fn slots_are_used_again(rt: HostRuntime) -> Result<(), Fail> {
+    let mut slots = Slots::new(rt.alloc(), 0)?;
+    assert!(rt; slots.len() == 1 && slots.get(0).is_none() && slots.get(1).is_none());
+    check_again(&rt, b"[+_.i.d.", 0, &mut slots, "8-15")?;
+    check_again(&rt, b"[+_.i.d.", 10, &mut slots, "10-15")?;
+    check_again(&rt, b"0*", 21, &mut slots, "21-21")?;
+    check_again(&rt, b"[+_.i.d.", 15, &mut slots, "17-21")?;
+    check_again(&rt, b"[+_.i.d.", 18, &mut slots, "-")
+}
+
+/// Whether a search finds a match, and how many steps it notes.
+fn steps_of(rt: &impl AllocGlobal, signs: &[u8], text: &[u8]) -> Result<(bool, u64), Fail> {
+    let alloc = rt.alloc();
+    let searcher = Searcher::new(alloc, &pattern(alloc, signs)?)?;
+    let mut slots = Slots::new(alloc, group_count(searcher.hir()))?;
+    let mut steps = Steps::new(Tally::default());
+    let is_found = searcher.search_at_steps(text, 0, &mut slots, &mut steps)?;
+    Ok((is_found, steps.into_ledger().ticks))
+}
+
+// `b` on `aab` has one spot whose visits count, so at most one step for each of the four places, and `(?:x*)*y` has 6 spots, so
+// at most 6 for each of the 200,001 places.
+#[test]
+fn a_place_takes_a_step_for_each_spot(rt: HostRuntime) -> Result<(), Fail> {
+    let (is_found, ticks) = steps_of(&rt, b"b", b"aab")?;
+    assert!(rt; is_found && 0 < ticks && ticks <= 4, "{ticks}");
+    let mut text = Vec::new(rt.alloc());
+    text.resize(200_000, b'x')?;
+    let (is_found, ticks) = steps_of(&rt, b"x**y.", &text)?;
+    assert!(rt; !is_found && 0 < ticks && ticks <= 1_200_006, "{ticks}");
+    Ok(())
+}

@@ -1,0 +1,2 @@
+-- What the proofs about the report use.
+pub mod ReportLemmas

@@ -1,0 +1,2 @@
+-- What the proofs about texts in the place of texts use.
+pub mod SearchLemmas

@@ -1,0 +1,3 @@
+-- What the proofs about a tree command on a disk use.
+pub mod GlobsLemmas
+pub mod SweepLemmas
