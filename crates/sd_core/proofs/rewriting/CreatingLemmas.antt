@@ -123,12 +123,15 @@ pub record IsTried (tells : Bool) (old : DiskState) (place : NameList) (number :
 
 pub none_tried : (tells : Bool) (s : DiskState) (place : NameList) → IsTried tells s place 0 s
 none_tried tells s place = record {
-  same = λ told. record { tree = refl };
+  same = λ told. record { tree = refl; clock = refl; outcomes = refl };
   taken = λ told n low. absurd (omega arith);
   lists = record { listed = refl; open_list = refl; open_count = refl; open_most = refl };
   never_falls = omega arith;
   risen = λ untold. omega arith;
 }
+
+pub then_same : (r s t : DiskState) → SameTree r s → SameTree s t → SameTree r t
+then_same r s t a b = record { tree = b.tree ∙ a.tree; clock = b.clock ∙ a.clock; outcomes = b.outcomes ∙ a.outcomes }
 
 then_lists : (r s t : DiskState) → SameLists r s → SameLists s t → SameLists r t
 then_lists r s t a b = record {
@@ -202,7 +205,7 @@ pub one_more : (tells : Bool) (old s t : DiskState) (path text : List ℕ) (numb
     → IsTried tells old (parts_of path) (number + 1) t
 unfolding err
 one_more tells old s t path text number fault tried is it reserved taken refused lists cause is_taken = let e = ap (λ (f : DiskFault). err f) is_taken in record {
-  same = λ told. record { tree = refused.tree ∙ (tried.same told).tree };
+  same = λ told. then_same old s t (tried.same told) refused;
   taken = λ told n low.
       let same = (tried.same told).tree in
       elim (cases_lt n number) [

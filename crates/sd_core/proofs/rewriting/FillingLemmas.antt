@@ -10,7 +10,7 @@ use Rattle.sd_edge.specs.Paths.{named, SameWays}
 use Rattle.sd_edge.specs.Disk.{DiskState, SameTree}
 use Rattle.sd_edge.specs.Files.{file_of, Writes, MayHaveWritten, Syncs, Renames, CannotRename, MayHaveRenamed}
 use Rattle.sd_edge.proofs.PathLemmas.{reached_file}
-use Rattle.sd_edge.proofs.WayLemmas.{named_alike, writes_ways, renames_ways, may_rename_ways}
+use Rattle.sd_edge.proofs.WayLemmas.{same_ways, named_alike, writes_ways, renames_ways}
 use Rattle.sd_core.specs.Temporary.{AreTwoFiles, ChangesOnly, Moves, MayHaveMoved}
 
 -- ---- results
@@ -28,6 +28,38 @@ at_ok (Err e) p f = tt
 pub passed_on : {T U E : Type 0} (r : Result T E) (x y : E) → IsErrAnd r (λ e. e ≡ x) → IsErrOf r y → IsErrOf {T = U} (Err x) y
 passed_on (Ok a) x y h e = cc
 passed_on (Err a) x y h e = cc
+
+-- ---- refusals
+
+-- after a refusal that isn't `Failed` nothing has changed
+after_refusal : {T P : Type 0} (fault : DiskFault) (s t : DiskState) → (IsErrOf {T = T} (Err fault) Failed → P) → (SameTree s t → P) → (fault ≢ Failed → SameTree s t) → P
+after_refusal Absent s t failed same refused = same (refused (λ e. cc))
+after_refusal Taken s t failed same refused = same (refused (λ e. cc))
+after_refusal Failed s t failed same refused = failed refl
+after_refusal NoMemory s t failed same refused = same (refused (λ e. cc))
+
+-- what a write or a sync that was refused may have done
+abbrev pub Wrote : DiskState → List ℕ → DiskState → Type 0
+Wrote s path t = SameTree s t ⊎ ((bytes : List ℕ) × Writes s path bytes t)
+
+may_have_written : (s t : DiskState) (path : List ℕ) → MayHaveWritten s path t → Wrote s path t
+may_have_written s t path (inl (none, same)) = inl same
+may_have_written s t path (inr written) = inr written
+
+pub wrote_after : {T : Type 0} (fault : DiskFault) (s t : DiskState) (path : List ℕ) → (IsErrOf {T = T} (Err fault) Failed → MayHaveWritten s path t) → (fault ≢ Failed → SameTree s t) → Wrote s path t
+wrote_after fault s t path failed refused = after_refusal fault s t (λ e. may_have_written s t path (failed e)) inl refused
+
+-- what a renaming that was refused may have done
+abbrev Renamed : DiskState → List ℕ → List ℕ → DiskState → Type 0
+Renamed s from to t = (t.tree ≡ s.tree) ⊎ Renames s from to t
+
+may_have_renamed : (s t : DiskState) (from to : List ℕ) → MayHaveRenamed s from to t → Renamed s from to t
+may_have_renamed s t from to (inl (none, same)) = inl same.tree
+may_have_renamed s t from to (inr (inl not)) = inl not.tree
+may_have_renamed s t from to (inr (inr renamed)) = inr renamed
+
+renamed_after : {T : Type 0} (fault : DiskFault) (s t : DiskState) (from to : List ℕ) → (IsErrOf {T = T} (Err fault) Failed → MayHaveRenamed s from to t) → (fault ≢ Failed → SameTree s t) → Renamed s from to t
+renamed_after fault s t from to failed refused = after_refusal fault s t (λ e. may_have_renamed s t from to (failed e)) (λ same. inl same.tree) refused
 
 -- ---- one path, at which a file stands
 
@@ -49,23 +81,24 @@ wrote_there : (s t : DiskState) (path bytes : List ℕ) (place : NameList) → I
 wrote_there s t path bytes place at w = same_Some _ _ (sym w.leads ∙ reached_file s.tree path true place at.names at.is_file)
 
 -- at most the file that the path names was written
-pub may_write_there : (s t : DiskState) (path : List ℕ) (place : NameList) → IsFileAt s.tree path place → MayHaveWritten s path t → SameBut place s.tree t.tree
+pub may_write_there : (s t : DiskState) (path : List ℕ) (place : NameList) → IsFileAt s.tree path place → Wrote s path t → SameBut place s.tree t.tree
 may_write_there s t path place at (inl same) = λ q other. ap (λ (tree : Tree). node_at tree q) same.tree
 may_write_there s t path place at (inr (bytes, w)) = λ q other. w.others q (λ e. other (e ∙ wrote_there s t path bytes place at w))
 
 -- and a file stands there
-pub still_file : (s t : DiskState) (path : List ℕ) (place : NameList) → IsFileAt s.tree path place → MayHaveWritten s path t → IsSome (file_at t.tree place)
+pub still_file : (s t : DiskState) (path : List ℕ) (place : NameList) → IsFileAt s.tree path place → Wrote s path t → IsSome (file_at t.tree place)
 still_file s t path place at (inl same) = subst (λ (tree : Tree). IsSome (file_at tree place)) (sym same.tree) at.is_file
 still_file s t path place at (inr (bytes, w)) = subst (λ (q : NameList). IsSome (file_at t.tree q)) (wrote_there s t path bytes place at w) (ap is_some w.holds)
 
--- after a refusal that isn't `Failed` the tree is the same
-pub after_refusal : {T P : Type 0} (fault : DiskFault) (s t : DiskState) → (IsErrOf {T = T} (Err fault) Failed → SameTree s t ⊎ P) → (fault ≢ Failed → SameTree s t) → SameTree s t ⊎ P
-after_refusal Absent s t failed refused = inl (refused (λ e. cc))
-after_refusal Taken s t failed refused = inl (refused (λ e. cc))
-after_refusal Failed s t failed refused = failed refl
-after_refusal NoMemory s t failed refused = inl (refused (λ e. cc))
-
 -- ---- the directories and links stay
+
+pub wrote_ways : (s t : DiskState) (path : List ℕ) → Wrote s path t → SameWays s.tree t.tree
+wrote_ways s t path (inl same) = same_ways s.tree t.tree same.tree
+wrote_ways s t path (inr (bytes, w)) = writes_ways s path bytes t w
+
+renamed_ways : (s t : DiskState) (from to : List ℕ) → Renamed s from to t → SameWays s.tree t.tree
+renamed_ways s t from to (inl same) = same_ways s.tree t.tree same
+renamed_ways s t from to (inr r) = renames_ways s from to t r
 
 pub then_ways : {r s t : Tree} → SameWays r s → SameWays s t → SameWays r t
 then_ways a b = record { ways = λ q. b.ways q ∙ a.ways q }
@@ -73,7 +106,7 @@ then_ways a b = record { ways = λ q. b.ways q ∙ a.ways q }
 pub renaming_ways : (s t : DiskState) (from to : List ℕ) (r : Result (Unit {0}) DiskFault) → OnOk r (Renames s from to t) → (IsErrOf r Failed → MayHaveRenamed s from to t)
     → IfErr r (λ fault. fault ≢ Failed → SameTree s t) → SameWays s.tree t.tree
 renaming_ways s t from to (Ok done) renamed failed refused = renames_ways s from to t renamed
-renaming_ways s t from to (Err fault) renamed failed refused = may_rename_ways s from to t (after_refusal fault s t failed refused)
+renaming_ways s t from to (Err fault) renamed failed refused = renamed_ways s t from to (renamed_after fault s t from to failed refused)
 
 -- ---- the temporary file and the file
 
@@ -109,10 +142,10 @@ module _ (s0 : DiskState) (from to bytes : List ℕ) (two : AreTwoFiles s0.tree 
 
   -- and put on the medium
   pub synced : (s t : DiskState) → IsFilled s.tree → Syncs s from t → IsFilled t.tree
-  synced s t f u = subst IsFilled (sym u.same.tree) f
+  synced s t f u = subst IsFilled (sym u.tree) f
 
   -- at most the temporary file was written
-  pub filled_only : (s t : DiskState) → IsFilled s.tree → MayHaveWritten s from t → ChangesOnly from s0.tree t.tree
+  pub filled_only : (s t : DiskState) → IsFilled s.tree → Wrote s from t → ChangesOnly from s0.tree t.tree
   filled_only s t f h = record {
     place = two.source;
     names = two.leaves;
@@ -120,7 +153,10 @@ module _ (s0 : DiskState) (from to bytes : List ℕ) (two : AreTwoFiles s0.tree 
     others = λ q other. may_write_there s t from two.source f.leaves h q other ∙ f.others q other;
   }
 
-  pub wrote_only : (s : DiskState) → MayHaveWritten s0 from s → ChangesOnly from s0.tree s.tree
+  unchanged : (t : DiskState) → IsFilled t.tree → ChangesOnly from s0.tree t.tree
+  unchanged t f = record { place = two.source; names = two.leaves; is_file = f.leaves.is_file; others = f.others }
+
+  pub wrote_only : (s : DiskState) → Wrote s0 from s → ChangesOnly from s0.tree s.tree
   wrote_only s h = record {
     place = two.source;
     names = two.leaves;
@@ -147,8 +183,8 @@ module _ (s0 : DiskState) (from to bytes : List ℕ) (two : AreTwoFiles s0.tree 
       }
 
   -- or not, after a refusal
-  pub may_have_moved : (s t : DiskState) → IsFilled s.tree → MayHaveRenamed s from to t → MayHaveMoved s0.tree from to bytes t.tree
-  may_have_moved s t f (inl same) = inl (filled_only s t f (inl same))
+  may_have_moved : (s t : DiskState) → IsFilled s.tree → Renamed s from to t → MayHaveMoved s0.tree from to bytes t.tree
+  may_have_moved s t f (inl same) = inl (unchanged t (subst IsFilled (sym same) f))
   may_have_moved s t f (inr r) = inr (moved s t f r)
 
   target_stands : (s : DiskState) → IsFilled s.tree → IsSome (file_at s.tree two.target)
@@ -164,4 +200,4 @@ module _ (s0 : DiskState) (from to bytes : List ℕ) (two : AreTwoFiles s0.tree 
   pub after_renaming : (r : Result (Unit {0}) DiskFault) (s t : DiskState) → IsFilled s.tree → (IsErrOf r Failed → MayHaveRenamed s from to t) → IfErr r (λ fault. fault ≢ Failed → SameTree s t)
       → OnErr r (MayHaveMoved s0.tree from to bytes t.tree)
   after_renaming (Ok done) s t f failed refused = tt
-  after_renaming (Err fault) s t f failed refused = may_have_moved s t f (after_refusal fault s t failed refused)
+  after_renaming (Err fault) s t f failed refused = may_have_moved s t f (renamed_after fault s t from to failed refused)

@@ -1,13 +1,13 @@
 use Rattle.std.proofs.Common.{inl, arith}
-use Rattle.sd_edge.proofs.WayLemmas.{same_ways, writes_ways, may_write_ways}
+use Rattle.sd_edge.proofs.WayLemmas.{same_ways, writes_ways}
 use Rattle.sd_core.proofs.rewriting.CreatingLemmas.{step_cause}
-use Rattle.sd_core.proofs.rewriting.FillingLemmas.{at_err, at_ok, passed_on, then_ways, renaming_ways, after_refusal, leads_to_file, at_source, filled, synced, filled_only, wrote_only, moved, after_renaming, can_rename}
+use Rattle.sd_core.proofs.rewriting.FillingLemmas.{at_err, at_ok, passed_on, then_ways, renaming_ways, wrote_after, wrote_ways, leads_to_file, at_source, filled, synced, filled_only, wrote_only, moved, after_renaming, can_rename}
 use Rattle.sd_core.proofs.rewriting.fill_and_rename.Goals as goal
 
 pub returns-in_err-write_file-clause-refused : goal.returns-in_err-write_file-clause-refused
 returns-in_err-write_file-clause-refused g c =
     λ told. at_err c.from_residual.result (inl (wrote_only _ _ _ c.args.bytes.now (c.requires told) _
-    (after_refusal c.in_err-write_file.field-0.0 _ _ (c.in_err-write_file.ensures.failed told) c.in_err-write_file.ensures.refused)))
+    (wrote_after c.in_err-write_file.field-0.0 _ _ _ (c.in_err-write_file.ensures.failed told) c.in_err-write_file.ensures.refused)))
 
 pub returns-in_err-write_file-clause-cause : goal.returns-in_err-write_file-clause-cause
 returns-in_err-write_file-clause-cause g c =
@@ -17,7 +17,7 @@ returns-in_err-write_file-clause-cause g c =
 pub returns-in_err-sync-clause-refused : goal.returns-in_err-sync-clause-refused
 returns-in_err-sync-clause-refused g c =
     λ told. at_err c.from_residual-in_err-sync.result (inl (filled_only _ _ _ _ (c.requires told) _ _ (filled _ _ _ _ (c.requires told) _ (c.in_ok-write_file.ensures.written told))
-    (after_refusal c.in_err-sync.field-0.0 _ _ (c.in_err-sync.ensures.failed told) c.in_err-sync.ensures.refused)))
+    (wrote_after c.in_err-sync.field-0.0 _ _ _ (c.in_err-sync.ensures.failed told) c.in_err-sync.ensures.refused)))
 
 pub returns-in_err-sync-clause-cause : goal.returns-in_err-sync-clause-cause
 returns-in_err-sync-clause-cause g c =
@@ -51,14 +51,14 @@ returns-clause-cause g c =
 
 pub returns-in_err-write_file-clause-ways : goal.returns-in_err-write_file-clause-ways
 returns-in_err-write_file-clause-ways g c =
-    λ told. may_write_ways _ _ _ (after_refusal c.in_err-write_file.field-0.0 _ _ (c.in_err-write_file.ensures.failed told) c.in_err-write_file.ensures.refused)
+    λ told. wrote_ways _ _ _ (wrote_after c.in_err-write_file.field-0.0 _ _ _ (c.in_err-write_file.ensures.failed told) c.in_err-write_file.ensures.refused)
 
 pub returns-in_err-sync-clause-ways : goal.returns-in_err-sync-clause-ways
 returns-in_err-sync-clause-ways g c =
     λ told. then_ways (writes_ways _ _ _ _ (c.in_ok-write_file.ensures.written told))
-    (may_write_ways _ _ _ (after_refusal c.in_err-sync.field-0.0 _ _ (c.in_err-sync.ensures.failed told) c.in_err-sync.ensures.refused))
+    (wrote_ways _ _ _ (wrote_after c.in_err-sync.field-0.0 _ _ _ (c.in_err-sync.ensures.failed told) c.in_err-sync.ensures.refused))
 
 pub returns-clause-ways : goal.returns-clause-ways
 returns-clause-ways g c =
-    λ told. then_ways (then_ways (writes_ways _ _ _ _ (c.in_ok-write_file.ensures.written told)) (same_ways _ _ (c.in_ok-sync.ensures.synced told).same.tree))
+    λ told. then_ways (then_ways (writes_ways _ _ _ _ (c.in_ok-write_file.ensures.written told)) (same_ways _ _ (c.in_ok-sync.ensures.synced told).tree))
     (renaming_ways _ _ _ _ c.rename.result (c.rename.ensures.renamed told) (c.rename.ensures.failed told) c.rename.ensures.refused)
