@@ -4,7 +4,7 @@ use Rattle.sd_edge.specs.Tree.{NameList, Content, file, Tree, node_at, file_at}
 use Rattle.sd_edge.specs.Paths.{parent_of}
 use Rattle.sd_edge.specs.Disk.{DiskState, SameTree}
 use Rattle.sd_edge.specs.Crashes.{LeavesSince}
-use Rattle.file_exchange.specs.Reserved.{Free}
+use Rattle.file_exchange.specs.Reserved.{Free, FirstFree}
 use Rattle.file_exchange.specs.Exchange.{Exchanges, LeavesBytes}
 
 -- ---- one file
@@ -18,10 +18,10 @@ pub record IsNewFile (tree : Tree) (place : NameList) (bytes : List ℕ) (q : Na
   pub content_is : content ≡ file bytes mode
 
 -- A crash at any moment from `old` to `new` leaves at the file's place what one at `old` could have left there, or the file with these bytes and
--- its mode; at one reserved name of its folder that was free it may leave anything; and elsewhere what one at `old` could have left.
+-- its mode; at the first reserved name that was free in its folder it may leave anything; and elsewhere what one at `old` could have left.
 pub record ExchangeLeaves (place : NameList) (bytes : List ℕ) (old new : DiskState) : Type 0 where
   pub temporary : Option NameList
-  pub was_free : (q : NameList) → temporary ≡ Some q → Free old.tree (parent_of place) q
+  pub was_free : (q : NameList) → temporary ≡ Some q → FirstFree old.tree (parent_of place) q
   pub leaves : LeavesSince (IsNewFile old.tree place bytes) (λ q. temporary ≡ Some q) old new
 
 -- ---- files in turn

@@ -5,7 +5,7 @@ use Rattle.sd_edge.specs.Paths.{parts_of, parent_of}
 use Rattle.sd_edge.specs.Files.{path_text}
 use Rattle.sd_edge.specs.Disk.{DiskState}
 use Rattle.file_exchange.specs.Causes.{HasRisenBy}
-use Rattle.file_exchange.specs.Reserved.{Free}
+use Rattle.file_exchange.specs.Reserved.{FirstFree}
 
 -- the path is that of a regular file of the tree, without links, `.` and `..`
 pub record IsFilePath (tree : Tree) (path : List ℕ) : Type 0 where
@@ -26,12 +26,12 @@ pub record Exchanges (old : Tree) (place : NameList) (bytes : List ℕ) (new : T
   pub has : HasBytes old place bytes new
   pub others : SameBut place old new
 
--- After a refusal the file is its old node or has the new bytes, and at most one reserved name differs, of its folder and free before. Where
--- the file isn't its old node, none does.
+-- After a refusal the file is its old node or has the new bytes, and at most one reserved name differs: the first that was free in its
+-- folder. Where the file isn't its old node, none does.
 pub record LeavesBytes (old : Tree) (place : NameList) (bytes : List ℕ) (new : Tree) : Type 0 where
   pub old_or_new : (node_at new place ≡ node_at old place) ⊎ HasBytes old place bytes new
   pub temporary : NameList
-  pub was_free : Free old (parent_of place) temporary ⊎ (temporary ≡ place)
+  pub was_free : FirstFree old (parent_of place) temporary ⊎ (temporary ≡ place)
   pub others : (q : NameList) → q ≢ place → q ≢ temporary → node_at new q ≡ node_at old q
   pub old_or_alone : (node_at new place ≡ node_at old place) ⊎ SameBut place old new
 

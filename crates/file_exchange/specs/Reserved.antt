@@ -1,5 +1,5 @@
 -- Reserved names, under which temporary files stand.
-use Rattle.std.specs.Prelude.{◌≡◌, ◌<◌, ◌+◌, ◌/◌, ◌%◌, ℕ, List, [], ◌∷◌, ◌++◌, codes, None, Contains, if◌then◌else◌, nat_lt}
+use Rattle.std.specs.Prelude.{◌≡◌, ◌<◌, ◌+◌, ◌/◌, ◌%◌, ℕ, List, [], ◌∷◌, ◌++◌, codes, None, IsSome, Contains, if◌then◌else◌, nat_lt}
 use Rattle.sd_edge.specs.Tree.{Name, NameList, Tree, node_at}
 use Rattle.sd_edge.specs.Files.{path_text}
 
@@ -26,6 +26,12 @@ Reserved folder place = (n : ℕ) × (n < reserved_names) × (place ≡ folder +
 pub record Free (tree : Tree) (folder place : NameList) : Type 0 where
   pub reserved : Reserved folder place
   pub free : node_at tree place ≡ None
+
+-- it is the first such name: something stands at each with a smaller number
+pub record FirstFree (tree : Tree) (folder place : NameList) : Type 0 where
+  pub reserved : Reserved folder place
+  pub free : node_at tree place ≡ None
+  pub before : (k : ℕ) → k < reserved.0 → IsSome (node_at tree (folder ++ reserved_name k ∷ []))
 
 -- each reserved name of the folder is taken
 abbrev pub NoneFree : Tree → NameList → Type 0

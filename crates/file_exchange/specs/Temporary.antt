@@ -8,15 +8,15 @@ use Rattle.sd_edge.specs.Outcomes.{Leaves, own, any_file, own_of}
 use Rattle.sd_edge.specs.Disk.{DiskState, outcomes_now}
 use Rattle.sd_edge.specs.Crashes.{LeavesSince, SettledBut}
 use Rattle.sd_edge.specs.Lists.{SyncsFolder}
-use Rattle.file_exchange.specs.Reserved.{Free, IsFolderPath}
+use Rattle.file_exchange.specs.Reserved.{FirstFree, IsFolderPath}
 
 -- ---- a temporary file is created
 
--- A new empty file with the mode of the one at the place stands at a reserved name of its folder, which was free and has this path. A crash may
+-- A new empty file with the mode of the one at the place stands at the first reserved name that was free in its folder, and has this path. A crash may
 -- leave anything there, and elsewhere what it could before.
 pub record CreatesTemporary (old : DiskState) (place : NameList) (path : List ℕ) (new : DiskState) : Type 0 where
   pub temporary : NameList
-  pub was_free : Free old.tree (parent_of place) temporary
+  pub was_free : FirstFree old.tree (parent_of place) temporary
   pub path_is : path ≡ path_text temporary
   pub bytes : List ℕ
   pub mode : ℕ

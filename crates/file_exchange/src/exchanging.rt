@@ -25,7 +25,7 @@ use std::alloc::Global;
 /// renaming or the folder's sync failed. One counted fault leaves no temporary file.
 ///
 /// There a crash at any moment leaves the file as one at entry could have left it, or with its mode and the new bytes; it
-/// may leave anything at one reserved name that was free; and all else as one at entry could have left it. After `Ok` each
+/// may leave anything at that reserved name; and all else as one at entry could have left it. After `Ok` each
 /// crash leaves the new bytes, and all else as one at entry could have left it.
 pub fn exchange<D: Disk>(
     alloc: Global,

@@ -6,18 +6,18 @@ ghost use Rattle.sd_edge.specs.Paths.{parent_of};
 ghost use Rattle.sd_edge.specs.Outcomes.{Leaves, content_at};
 ghost use Rattle.sd_edge.specs.Disk.{DiskState, SameTree, MayLeave, MayLeaveSince, outcomes_now};
 ghost use Rattle.sd_edge.specs.Crashes.{IsDurable};
-ghost use Rattle.file_exchange.specs.Reserved.{Free};
+ghost use Rattle.file_exchange.specs.Reserved.{FirstFree};
 ghost use Rattle.file_exchange.specs.Crash.{Exchange, AreFiles, IsNewFile, ExchangeLeaves, KeepsFiles, ExchangesOne, ExchangesInTurn, ExchangesLeave, IsOneNewFile, IsOneFree};
 
 /// Each image that may have been left while one file is exchanged: at the file's place it holds what one at first could have
-/// held, or the new bytes with the file's mode; at every other place, but one reserved name that was free, what one at first
+/// held, or the new bytes with the file's mode; at every other place, but the first reserved name that was free, what one at first
 /// could have held.
 pub fn an_exchange_leaves_old_or_new()
     ensures file { (place : NameList) (bytes before : List ℕ) (mode : ℕ) (old new : DiskState) → file_at old.tree place ≡ Some (before, mode)
         → ExchangeLeaves place bytes old new → (image : Tree) → MayLeaveSince new old.clock image
         → Leaves (outcomes_now old place) (content_at image place) ⊎ (content_at image place ≡ Some (file bytes mode)) }
     ensures elsewhere { (place : NameList) (bytes : List ℕ) (old new : DiskState) → ExchangeLeaves place bytes old new
-        → (temporary : Option NameList) × ((q : NameList) → temporary ≡ Some q → Free old.tree (parent_of place) q)
+        → (temporary : Option NameList) × ((q : NameList) → temporary ≡ Some q → FirstFree old.tree (parent_of place) q)
         × ((image : Tree) → MayLeaveSince new old.clock image → (q : NameList) → q ≢ place → temporary ≢ Some q → Leaves (outcomes_now old q) (content_at image q)) }
 {}
 

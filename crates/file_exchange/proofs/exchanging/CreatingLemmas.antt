@@ -83,13 +83,13 @@ module _ (old s : DiskState) (path text : List ℕ) (n : ℕ) (same : SameTree o
   it_now : IsFilePath s.tree path
   it_now = subst (λ (tree : Tree). IsFilePath tree path) (sym same.tree) it
 
-  pub created : (t : DiskState) → n < reserved_names → Creates s text path t → CreatesTemporary old (parts_of path) text t
-  created t low c =
+  pub created : (t : DiskState) → n < reserved_names → ((k : ℕ) → k < n → IsSome (node_at old.tree (parent_of (parts_of path) ++ reserved_name k ∷ []))) → Creates s text path t → CreatesTemporary old (parts_of path) text t
+  created t low taken c =
       let there = reserved_named s.tree path text n is (placed s.tree path is it_now) reserved in
       let place = same_Some _ _ (sym c.names ∙ there.1) in
       record {
         temporary = c.place;
-        was_free = record { reserved = (n, low, place); free = sym (ap (λ (tree : Tree). node_at tree c.place) same.tree) ∙ c.was_free };
+        was_free = record { reserved = (n, low, place); free = sym (ap (λ (tree : Tree). node_at tree c.place) same.tree) ∙ c.was_free; before = taken };
         path_is = there.0 ∙ ap path_text (sym place);
         bytes = c.bytes;
         mode = c.mode;

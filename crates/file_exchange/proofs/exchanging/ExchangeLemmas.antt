@@ -16,7 +16,7 @@ use Rattle.sd_edge.proofs.PathTextLemmas.{text_names}
 use Rattle.sd_edge.proofs.OutcomeLemmas.{folder_leaves, alone_there}
 use Rattle.sd_edge.proofs.CrashLemmas.{since_same, since_loose, since_folder, since_then, since_more, settled_same, settled_then, settled_put, settled_folder}
 use Rattle.file_exchange.specs.declared.fault.ExchangeFault.{ExchangeFault}
-use Rattle.file_exchange.specs.Reserved.{reserved_name, Free, IsFolderPath}
+use Rattle.file_exchange.specs.Reserved.{reserved_name, FirstFree, IsFolderPath}
 use Rattle.file_exchange.specs.Exchange.{IsFilePath, Exchanges, LeavesBytes, IsCleared}
 use Rattle.file_exchange.specs.Temporary.{CreatesTemporary, IsReady, ChangesOnly, Moves, MayHaveMoved, FillLeaves, SettlesFolder, IsRemoved}
 use Rattle.file_exchange.specs.Crash.{IsNewFile, ExchangeLeaves}
@@ -213,7 +213,7 @@ module _ (s0 s1 : DiskState) (path text bytes : List ℕ) (is : IsTree s0.tree) 
   leaving t since settled = (
     record {
       temporary = Some c.temporary;
-      was_free = λ q e. subst (λ (p : NameList). Free s0.tree (parent_of (parts_of path)) p) (same_Some _ _ e) c.was_free;
+      was_free = λ q e. subst (λ (p : NameList). FirstFree s0.tree (parent_of (parts_of path)) p) (same_Some _ _ e) c.was_free;
       leaves = since;
     },
     λ q is_file is. settled q (λ e. some_not_none (file_at s0.tree q) is_file (ap (file_at s0.tree) e ∙ ap file_node c.was_free.free)) is,

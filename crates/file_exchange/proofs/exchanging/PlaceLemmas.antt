@@ -9,7 +9,7 @@ use Rattle.sd_edge.specs.Files.{path_text, file_of}
 use Rattle.sd_edge.specs.Lists.{directory_of}
 use Rattle.sd_edge.proofs.PathLemmas.{reached_file}
 use Rattle.sd_edge.proofs.PathTextLemmas.{text_names, text_directory}
-use Rattle.file_exchange.specs.Reserved.{hex_digit, reserved_name, IsFolderPath}
+use Rattle.file_exchange.specs.Reserved.{hex_digit, reserved_name, Free, FirstFree, IsFolderPath}
 use Rattle.file_exchange.specs.Exchange.{IsFilePath}
 
 pub some_not_none : {A : Type 0} (o : Option A) → IsSome o → o ≢ None
@@ -89,6 +89,10 @@ folder_leads tree path folder is it of =
     ap (directory_of tree) (of (parent_of (parts_of path)) at.name at.text at.is_name.no_slash) ∙ text_directory tree (parent_of (parts_of path)) is at.folder
 
 -- ---- reserved names are names
+
+-- the first free name is one
+pub is_free : {tree : Tree} {folder place : NameList} → FirstFree tree folder place → Free tree folder place
+is_free first = record { reserved = first.reserved; free = first.free }
 
 digit_no_slash : (n : ℕ) → hex_digit n ≢ 47
 digit_no_slash n = by (ltb n 10)

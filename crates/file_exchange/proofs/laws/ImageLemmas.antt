@@ -8,7 +8,7 @@ use Rattle.sd_edge.specs.Outcomes.{Leaves, content_at}
 use Rattle.sd_edge.specs.Disk.{DiskState, MayLeave, MayLeaveSince, outcomes_now}
 use Rattle.sd_edge.specs.Crashes.{IsDurable}
 use Rattle.sd_edge.proofs.CrashLemmas.{since_image}
-use Rattle.file_exchange.specs.Reserved.{Free}
+use Rattle.file_exchange.specs.Reserved.{FirstFree}
 use Rattle.file_exchange.specs.Crash.{IsNewFile, ExchangeLeaves}
 
 -- the new file's mode is the file's
@@ -26,7 +26,7 @@ module _ (place : NameList) (bytes : List ℕ) (old new : DiskState) where
     | inr (inr aside) ↦ absurd (cc (sym was ∙ ap file_node (e.was_free place aside).free))
   ]
 
-  pub old_elsewhere : ExchangeLeaves place bytes old new → (temporary : Option NameList) × ((q : NameList) → temporary ≡ Some q → Free old.tree (parent_of place) q)
+  pub old_elsewhere : ExchangeLeaves place bytes old new → (temporary : Option NameList) × ((q : NameList) → temporary ≡ Some q → FirstFree old.tree (parent_of place) q)
       × ((image : Tree) → MayLeaveSince new old.clock image → (q : NameList) → q ≢ place → temporary ≢ Some q → Leaves (outcomes_now old q) (content_at image q))
   old_elsewhere e = (
     e.temporary,

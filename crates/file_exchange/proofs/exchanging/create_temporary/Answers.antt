@@ -18,7 +18,7 @@ returns-in-Ok-clause-created g c =
     λ told.
     let reserved = subst (IsReservedPath c.args.path.now c.loop-number.number) (sym c.as_str.ensures.same) c.in_ok-temporary.ensures.path in
     rw (← c.as_str.ensures.same)
-    (created _ _ _ _ c.loop-number.number (c.loop-number.invariant.same told) (g.met.D.Disk.is_tree c.loop-number.disk told) (c.requires told) reserved _ (omega arith) (c.in-Ok.ensures.created told))
+    (created _ _ _ _ c.loop-number.number (c.loop-number.invariant.same told) (g.met.D.Disk.is_tree c.loop-number.disk told) (c.requires told) reserved _ (omega arith) (c.loop-number.invariant.taken told) (c.in-Ok.ensures.created told))
 
 pub returns-in-Err-clause-cause : goal.returns-in-Err-clause-cause
 returns-in-Err-clause-cause g c =

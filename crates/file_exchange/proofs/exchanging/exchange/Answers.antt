@@ -1,5 +1,6 @@
-use Rattle.std.proofs.Common.{◌≡◌, ◌≢◌, ◌∙◌, inl, inr, sym, ap, Err, arith}
+use Rattle.std.proofs.Common.{rules, ◌≡◌, ◌≢◌, ◌∙◌, inl, inr, sym, ap, Err, arith}
 use Rattle.sd_edge.specs.Paths.{parts_of}
+use Rattle.sd_edge.specs.Disk.{SameTree}
 use Rattle.sd_edge.specs.declared.fault.DiskFault.{DiskFault}
 use Rattle.sd_edge.specs.declared.fault.DiskFault.TheVariants as disk
 use Rattle.file_exchange.proofs.exchanging.CauseLemmas.{on_ok, at_err, risen_since, later_cause}
@@ -131,3 +132,9 @@ returns-clause-cleared g c =
     (g.D.Disk.state c.fill_and_rename.new.disk) (g.D.Disk.state c.clear.new.disk) (c.in-Err.ensures.ways told)
     (rw c.as_str-temporary.ensures.same at (c.in-Err.ensures.refused told)) (rw c.as_str-temporary.ensures.same at (c.clear.ensures.tree told))
     (rw c.as_str-temporary.ensures.same at (c.clear.ensures.cleared told some)) risen c.clear.ensures.faults
+
+pub returns-in_default-clause-refused : goal.returns-in_default-clause-refused
+returns-in_default-clause-refused g c =
+    λ told.
+    let same : SameTree (g.D.Disk.state c.args.disk.now) (g.D.Disk.state c.create_temporary.new.disk) = search rules in
+    (nothing_left _ _ (parts_of c.args.path.now) c.args.bytes.now same).2
