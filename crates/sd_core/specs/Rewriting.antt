@@ -6,7 +6,7 @@ use Rattle.sd_edge.specs.Disk.{DiskState}
 use Rattle.sd_edge.specs.Crashes.{LeavesSince}
 use Rattle.file_exchange.specs.declared.fault.ExchangeFault.{ExchangeFault}
 use Rattle.file_exchange.specs.declared.fault.ExchangeFault.TheVariants as exchange
-use Rattle.file_exchange.specs.Reserved.{Free}
+use Rattle.file_exchange.specs.Reserved.{Free, FirstFree}
 use Rattle.sd_core.specs.declared.rewriting.Rewrite.{Rewrite}
 use Rattle.sd_core.specs.declared.rewriting.RewritingError.{RewritingError}
 use Rattle.sd_core.specs.declared.rewriting.RewritingError.TheVariants as rewriting
@@ -77,8 +77,8 @@ pub record IsNewContent (tree : Tree) (place : NameList) (find replacement : Lis
   pub content_is : content ≡ file new_bytes mode
 
 -- A crash at any moment from `old` to `new` leaves at the file's place what one at `old` could have left there, or the file with its mode and
--- its new bytes; at one reserved name of its folder that was free it may leave anything; and elsewhere what one at `old` could have left.
+-- its new bytes; at the first reserved name that was free in its folder it may leave anything; and elsewhere what one at `old` could have left.
 pub record RewriteLeaves (place : NameList) (find replacement : List ℕ) (old new : DiskState) : Type 0 where
   pub temporary : Option NameList
-  pub was_free : (q : NameList) → temporary ≡ Some q → Free old.tree (parent_of place) q
+  pub was_free : (q : NameList) → temporary ≡ Some q → FirstFree old.tree (parent_of place) q
   pub leaves : LeavesSince (IsNewContent old.tree place find replacement) (λ q. temporary ≡ Some q) old new

@@ -82,8 +82,8 @@ pub struct Rewrite {
 /// renaming or the folder's sync failed. One counted fault leaves no temporary file.
 ///
 /// There a crash at any moment leaves the file as one at entry could have left it, or with its mode and its new bytes; it
-/// may leave anything at one reserved name that was free; and all else as one at entry could have left it. After `Ok` each
-/// crash leaves the new bytes of a file whose bytes change, and all else as one at entry could have left it.
+/// may leave anything at the first reserved name that was free; and all else as one at entry could have left it. After
+/// `Ok` each crash leaves the new bytes of a file whose bytes change, and all else as one at entry could have left it.
 pub fn rewrite_file<D: Disk>(
     alloc: Global,
     disk: &mut D,

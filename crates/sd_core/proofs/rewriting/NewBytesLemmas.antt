@@ -14,7 +14,7 @@ use Rattle.sd_edge.specs.Crashes.{IsDurable}
 use Rattle.sd_edge.proofs.CrashLemmas.{since_same, since_then, since_more}
 use Rattle.file_exchange.specs.declared.fault.ExchangeFault.{ExchangeFault}
 use Rattle.file_exchange.specs.declared.fault.ExchangeFault.TheVariants as exchange
-use Rattle.file_exchange.specs.Reserved.{Free}
+use Rattle.file_exchange.specs.Reserved.{FirstFree}
 use Rattle.file_exchange.specs.Crash.{IsNewFile, ExchangeLeaves}
 use Rattle.sd_edge.specs.Files.{Reads, IsNoFile}
 use Rattle.sd_core.specs.declared.rewriting.RewritingError.{RewritingError}
@@ -28,7 +28,7 @@ use Rattle.grep_matcher.proofs.CoverLemmas.{cover_from_chain}
 use Rattle.grep_matcher.specs.Plain.{end_of_text}
 use Rattle.grep_matcher.specs.PlainLemmas.{text_lawful}
 use Rattle.file_exchange.specs.Exchange.{HasBytes, Exchanges, LeavesBytes}
-use Rattle.file_exchange.proofs.PlaceLemmas.{leads_to_file, placed}
+use Rattle.file_exchange.proofs.PlaceLemmas.{leads_to_file, placed, is_free}
 
 module _ (s0 : DiskState) (path find replacement bytes : List ℕ) (is : IsTree s0.tree) (it : IsFilePath s0.tree path) (reads : Reads s0 path bytes) where
   -- what is read is the file at the place
@@ -75,7 +75,7 @@ module _ (s0 : DiskState) (path find replacement bytes : List ℕ) (is : IsTree 
   left_file t new count left is_new = record {
     old_or_new = by left.old_or_new;
     temporary = left.temporary;
-    was_free = left.was_free;
+    was_free = elim left.was_free [ inl first ↦ inl (is_free first) | inr same ↦ inr same ];
     others = left.others;
     old_or_alone = left.old_or_alone;
   }
@@ -172,7 +172,7 @@ module _ (s0 : DiskState) (path find replacement bytes : List ℕ) (is : IsTree 
     pub rewrite_leaves : ExchangeLeaves (parts_of path) new s t → RewriteLeaves (parts_of path) find replacement s0 t
     rewrite_leaves e = record {
       temporary = e.temporary;
-      was_free = λ q aside. subst (λ (x : Tree). Free x (parent_of (parts_of path)) q) same.tree (e.was_free q aside);
+      was_free = λ q aside. subst (λ (x : Tree). FirstFree x (parent_of (parts_of path)) q) same.tree (e.was_free q aside);
       leaves = since_then _ _ s0 s t (since_same _ _ s0 s same) (since_more _ New _ (λ q. e.temporary ≡ Some q) s t content (λ q aside. aside) e.leaves);
     }
 
