@@ -1,4 +1,3 @@
-pub mod Causes
 pub mod Chosen
 pub mod Errors
 pub mod Globs
@@ -7,7 +6,6 @@ pub mod Report
 pub mod Rewriting
 pub mod Run
 pub mod Sweep
-pub mod Temporary
 pub mod Walk
 pub mod Words
 pub mod WordsRead

@@ -1,11 +1,15 @@
 -- What the rewriting of one file does.
-use Rattle.std.specs.Prelude.{◌≡◌, ◌≢◌, ◌↔◌, ◌<◌, ◌≤◌, ◌+◌, ◌/◌, ◌%◌, ◌⊎◌, ℕ, IsTrue, List, [], ◌∷◌, ◌++◌, length, codes, Option, Some, None, IsSome, if◌then◌else◌, nat_lt}
-use Rattle.sd_edge.specs.Count.{IsAtLast}
-use Rattle.sd_edge.specs.Tree.{Name, NameList, Tree, SameBut, node_at, file_at}
-use Rattle.sd_edge.specs.Paths.{parts_of, parent_of}
+use Rattle.std.specs.Prelude.{◌≡◌, ◌≢◌, ◌↔◌, ◌⊎◌, ℕ, IsTrue, List, length, Option, Some}
+use Rattle.sd_edge.specs.Tree.{NameList, Content, file, Tree, SameBut, node_at, file_at}
+use Rattle.sd_edge.specs.Paths.{parent_of}
 use Rattle.sd_edge.specs.Disk.{DiskState}
-use Rattle.sd_edge.specs.Files.{path_text}
+use Rattle.sd_edge.specs.Crashes.{LeavesSince}
+use Rattle.file_exchange.specs.declared.fault.ExchangeFault.{ExchangeFault}
+use Rattle.file_exchange.specs.declared.fault.ExchangeFault.TheVariants as exchange
+use Rattle.file_exchange.specs.Reserved.{Free, FirstFree}
 use Rattle.sd_core.specs.declared.rewriting.Rewrite.{Rewrite}
+use Rattle.sd_core.specs.declared.rewriting.RewritingError.{RewritingError}
+use Rattle.sd_core.specs.declared.rewriting.RewritingError.TheVariants as rewriting
 use Rattle.grep_matcher.specs.Span.{Span}
 use Rattle.grep_matcher.specs.Cover.{IsFairCover}
 use Rattle.grep_matcher.specs.Replaced.{replaced_from}
@@ -24,36 +28,7 @@ pub record ReplacesCover (preferred : ℕ → Option ℕ) (replacement bytes new
 abbrev pub NewBytes : List ℕ → List ℕ → List ℕ → List ℕ → ℕ → Type 0
 NewBytes find replacement bytes = ReplacesCover (end_of_text bytes find) replacement bytes
 
--- ---- reserved names
-
--- a hexadecimal digit in lower case
-abbrev pub hex_digit : ℕ → ℕ
-hex_digit n = if nat_lt n 10 then 48 + n else 87 + n
-
--- the reserved name of a number below 65,536: `.sd-0000.tmp` to `.sd-ffff.tmp`
-abbrev pub reserved_name : ℕ → Name
-reserved_name n =
-    codes ".sd-" ++ hex_digit (n / 4096) ∷ hex_digit (n / 256 % 16) ∷ hex_digit (n / 16 % 16) ∷ hex_digit (n % 16) ∷ codes ".tmp"
-
--- how many names are reserved in each folder
-abbrev pub reserved_names : ℕ
-reserved_names = 65536
-
--- a reserved name in a folder
-abbrev pub Reserved : NameList → NameList → Type 0
-Reserved folder place = (n : ℕ) × (n < reserved_names) × (place ≡ folder ++ reserved_name n ∷ [])
-
--- nothing stands at a reserved name of the folder
-pub record Free (tree : Tree) (folder place : NameList) : Type 0 where
-  pub reserved : Reserved folder place
-  pub free : node_at tree place ≡ None
-
 -- ---- one file
-
--- the path is that of a regular file of the tree, without links, `.` and `..`
-pub record IsFilePath (tree : Tree) (path : List ℕ) : Type 0 where
-  pub path_is : path ≡ path_text (parts_of path)
-  pub is_file : IsSome (file_at tree (parts_of path))
 
 -- The regular file at the place has its mode and its new bytes; where these are its bytes, its node stays. Every other place is as before.
 pub record RewritesFile (old : Tree) (place : NameList) (find replacement : List ℕ) (rewrite : Rewrite) (new : Tree) : Type 0 where
@@ -83,14 +58,27 @@ pub record LeavesFile (old : Tree) (place : NameList) (find replacement : List �
   pub others : (q : NameList) → q ≢ place → q ≢ temporary → node_at new q ≡ node_at old q
   pub old_or_alone : (node_at new place ≡ node_at old place) ⊎ SameBut place old new
 
--- the count of faults rose by so many, or stands at its last value
-abbrev pub HasRisenBy : ℕ → ℕ → ℕ → Type 0
-HasRisenBy n before now = (before + n ≤ now) ⊎ IsAtLast now
+-- an exchange's fault, as a rewriting's
+abbrev pub as_rewriting : ExchangeFault → RewritingError
+as_rewriting exchange.NoName = rewriting.NoName
+as_rewriting (exchange.Disk fault) = rewriting.Disk fault
 
--- One counted fault leaves no temporary file: every other place is as before, or a second one was counted.
-abbrev pub IsCleared : DiskState → NameList → DiskState → Type 0
-IsCleared old place new = SameBut place old.tree new.tree ⊎ HasRisenBy 2 old.faults new.faults
+-- ---- what a crash leaves
 
--- each reserved name of the folder is taken
-abbrev pub NoneFree : Tree → NameList → Type 0
-NoneFree tree folder = (place : NameList) → Free tree folder place → ⊥
+-- the file of the tree at this place, with its mode and its new bytes
+pub record IsNewContent (tree : Tree) (place : NameList) (find replacement : List ℕ) (q : NameList) (content : Content) : Type 0 where
+  pub here : q ≡ place
+  pub bytes : List ℕ
+  pub mode : ℕ
+  pub was : file_at tree place ≡ Some (bytes, mode)
+  pub new_bytes : List ℕ
+  pub count : ℕ
+  pub new_bytes_are : NewBytes find replacement bytes new_bytes count
+  pub content_is : content ≡ file new_bytes mode
+
+-- A crash at any moment from `old` to `new` leaves at the file's place what one at `old` could have left there, or the file with its mode and
+-- its new bytes; at the first reserved name that was free in its folder it may leave anything; and elsewhere what one at `old` could have left.
+pub record RewriteLeaves (place : NameList) (find replacement : List ℕ) (old new : DiskState) : Type 0 where
+  pub temporary : Option NameList
+  pub was_free : (q : NameList) → temporary ≡ Some q → FirstFree old.tree (parent_of place) q
+  pub leaves : LeavesSince (IsNewContent old.tree place find replacement) (λ q. temporary ≡ Some q) old new

@@ -11,7 +11,7 @@ ghost use Rattle.sd_edge.specs.declared.meta.RawEntry.{RawEntry};
 ghost use Rattle.sd_core.specs.declared.listing.ListingError.TheVariants as listing_error;
 ghost use Rattle.sd_core.specs.Globs.{FitsAny};
 ghost use Rattle.sd_core.specs.Chosen.{IsChosen, ListsChosen};
-ghost use Rattle.sd_core.specs.Causes.{HasCauseOf};
+ghost use Rattle.file_exchange.specs.Causes.{HasCauseOf};
 ghost use Rattle.sd_core.specs.Walk.{listable, TakesEntries, LeavesLists, HasLeft, ListsNames, child_text, StacksEntries, IsFolderAt, IsPendingAt, IsWithin, ListsBelow};
 
 use glob_match::Glob;

@@ -7,12 +7,13 @@ ghost use Rattle.sd_edge.specs.Files.{LeadsNowhere};
 ghost use Rattle.sd_core.specs.declared.error.Error.{Error};
 ghost use Rattle.sd_core.specs.declared.error.FailedJobs.{FailedJobs};
 ghost use Rattle.sd_core.specs.Errors.{IsErrorOfFile};
-ghost use Rattle.sd_core.specs.Causes.{HasCauseOf};
+ghost use Rattle.file_exchange.specs.Causes.{HasCauseOf};
 ghost use Rattle.sd_core.specs.Globs.{IsFirstInvalid};
 ghost use Rattle.sd_core.specs.Walk.{LeavesLists};
 ghost use Rattle.sd_core.specs.WordsRead.{order_of};
 ghost use Rattle.sd_core.specs.Headline.{RewritesTree, LeavesFiles, LeavesTree, HasNoRoomBeside, HasNoRoom};
-ghost use Rattle.sd_core.specs.Rewriting.{HasRisenBy, reserved_names};
+ghost use Rattle.file_exchange.specs.Causes.{HasRisenBy};
+ghost use Rattle.file_exchange.specs.Reserved.{reserved_names};
 ghost use Rattle.sd_core.specs.Sweep.{AreFilePaths, RewritesFiles, IsOneJob};
 
 use crate::globs::read_globs;

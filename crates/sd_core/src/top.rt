@@ -11,7 +11,8 @@ ghost use Rattle.sd_core.specs.Words.{TreeOrder, tree_order};
 ghost use Rattle.sd_core.specs.Globs.{IsValid, IsFirstInvalid};
 ghost use Rattle.sd_core.specs.Walk.{LeavesLists};
 ghost use Rattle.sd_core.specs.Headline.{LeavesTree, HasNoRoom};
-ghost use Rattle.sd_core.specs.Rewriting.{HasRisenBy, reserved_names};
+ghost use Rattle.file_exchange.specs.Causes.{HasRisenBy};
+ghost use Rattle.file_exchange.specs.Reserved.{reserved_names};
 ghost use Rattle.sd_core.specs.Sweep.{IsOneJob};
 ghost use Rattle.sd_core.specs.Run.{IsStatusOf, DoesOrder, FailsToPrint, HasRoom};
 

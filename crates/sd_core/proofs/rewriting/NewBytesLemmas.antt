@@ -6,21 +6,29 @@ use Rattle.std.specs.Str.{bytes_eq}
 use Rattle.std.specs.Cmp.Lexicographic.{bytes_decides}
 use Rattle.std.proofs.lemmas.Option.{same_Some}
 use Rattle.sd_edge.specs.declared.fault.DiskFault.{DiskFault}
-use Rattle.sd_edge.specs.Tree.{NameList, Tree, IsTree, SameBut, node_at, file_at}
-use Rattle.sd_edge.specs.Paths.{parts_of}
-use Rattle.sd_edge.specs.Disk.{DiskState, SameTree}
+use Rattle.sd_edge.specs.Tree.{NameList, Content, file, Tree, IsTree, SameBut, node_at, file_at}
+use Rattle.sd_edge.specs.Paths.{parts_of, parent_of}
+use Rattle.sd_edge.specs.Outcomes.{Leaves}
+use Rattle.sd_edge.specs.Disk.{DiskState, SameTree, outcomes_now}
+use Rattle.sd_edge.specs.Crashes.{IsDurable}
+use Rattle.sd_edge.proofs.CrashLemmas.{since_same, since_then, since_more}
+use Rattle.file_exchange.specs.declared.fault.ExchangeFault.{ExchangeFault}
+use Rattle.file_exchange.specs.declared.fault.ExchangeFault.TheVariants as exchange
+use Rattle.file_exchange.specs.Reserved.{FirstFree}
+use Rattle.file_exchange.specs.Crash.{IsNewFile, ExchangeLeaves}
 use Rattle.sd_edge.specs.Files.{Reads, IsNoFile}
 use Rattle.sd_core.specs.declared.rewriting.RewritingError.{RewritingError}
 use Rattle.sd_core.specs.declared.rewriting.RewritingError.TheVariants.{Disk}
-use Rattle.sd_core.specs.Rewriting.{ReplacesCover, NewBytes, IsFilePath, RewritesFile, IsOldOrNew, LeavesFile, IsCleared}
+use Rattle.sd_core.specs.Rewriting.{ReplacesCover, NewBytes, RewritesFile, IsOldOrNew, LeavesFile, as_rewriting, IsNewContent, RewriteLeaves}
+use Rattle.sd_core.proofs.laws.OneReplacementLemmas.{one_new_bytes}
+use Rattle.file_exchange.specs.Exchange.{IsFilePath, IsCleared}
 use Rattle.grep_matcher.specs.Span.{Span}
 use Rattle.grep_matcher.specs.Cover.{prefers, IsFirst}
 use Rattle.grep_matcher.proofs.CoverLemmas.{cover_from_chain}
 use Rattle.grep_matcher.specs.Plain.{end_of_text}
 use Rattle.grep_matcher.specs.PlainLemmas.{text_lawful}
-use Rattle.sd_core.specs.Temporary.{HasBytes, Exchanges, LeavesBytes}
-use Rattle.sd_core.proofs.rewriting.FillingLemmas.{leads_to_file}
-use Rattle.sd_core.proofs.rewriting.CreatingLemmas.{placed}
+use Rattle.file_exchange.specs.Exchange.{HasBytes, Exchanges, LeavesBytes}
+use Rattle.file_exchange.proofs.PlaceLemmas.{leads_to_file, placed, is_free}
 
 module _ (s0 : DiskState) (path find replacement bytes : List ℕ) (is : IsTree s0.tree) (it : IsFilePath s0.tree path) (reads : Reads s0 path bytes) where
   -- what is read is the file at the place
@@ -67,7 +75,7 @@ module _ (s0 : DiskState) (path find replacement bytes : List ℕ) (is : IsTree 
   left_file t new count left is_new = record {
     old_or_new = by left.old_or_new;
     temporary = left.temporary;
-    was_free = left.was_free;
+    was_free = elim left.was_free [ inl first ↦ inl (is_free first) | inr same ↦ inr same ];
     others = left.others;
     old_or_alone = left.old_or_alone;
   }
@@ -126,3 +134,60 @@ reads_file s path is it none =
 pub passed_as : {T U : Type 0} (r : Result U RewritingError) (fault f : DiskFault) → IsErrAnd r (λ e. e ≡ Disk fault) → IsErrOf r (Disk f) → IsErrOf {T = T} (Err fault) f
 passed_as (Ok x) fault f from e = absurd from
 passed_as (Err error) fault f from e = cc
+
+-- an error that is passed on as one of an exchange
+pub exchange_passed : {T U : Type 0} (r : Result U RewritingError) (fault : ExchangeFault) (f : DiskFault) → IsErrAnd r (λ e. e ≡ as_rewriting fault) → IsErrOf r (Disk f)
+    → IsErrOf {T = T} (Err fault) (exchange.Disk f)
+exchange_passed (Ok x) fault f from e = absurd from
+exchange_passed (Err error) exchange.NoName f from e = cc
+exchange_passed (Err error) (exchange.Disk fault) f from e = cc
+
+-- ---- what a crash leaves
+
+-- nothing but what was there
+pub read_leaves : (place : NameList) (find replacement : List ℕ) (s t : DiskState) → SameTree s t → RewriteLeaves place find replacement s t
+read_leaves place find replacement s t same = record { temporary = None; was_free = λ q e. cc; leaves = since_same _ _ s t same }
+
+module _ (s0 : DiskState) (path find replacement bytes : List ℕ) (is : IsTree s0.tree) (it : IsFilePath s0.tree path) (reads : Reads s0 path bytes) where
+  abbrev New : NameList → Content → Type 0
+  New = IsNewContent s0.tree (parts_of path) find replacement
+
+  module _ (s t : DiskState) (same : SameTree s0 s) (new : List ℕ) (count : ℕ) (is_new : NewBytes find replacement bytes new count) where
+    -- what the exchange calls new is so
+    content : (q : NameList) (c : Content) → IsNewFile s.tree (parts_of path) new q c → New q c
+    content q c n =
+        let here = read_here s0 path find replacement bytes is it reads in
+        let mode : n.mode ≡ reads.0 = ap (λ (f : List ℕ × ℕ). f.1) (same_Some (n.before, n.mode) (bytes, reads.0) (sym n.was ∙ ap (λ (x : Tree). file_at x (parts_of path)) same.tree ∙ here)) in
+        record {
+          here = n.here;
+          bytes = bytes;
+          mode = reads.0;
+          was = here;
+          new_bytes = new;
+          count = count;
+          new_bytes_are = is_new;
+          content_is = n.content_is ∙ ap (file new) mode;
+        }
+
+    pub rewrite_leaves : ExchangeLeaves (parts_of path) new s t → RewriteLeaves (parts_of path) find replacement s0 t
+    rewrite_leaves e = record {
+      temporary = e.temporary;
+      was_free = λ q aside. subst (λ (x : Tree). FirstFree x (parent_of (parts_of path)) q) same.tree (e.was_free q aside);
+      leaves = since_then _ _ s0 s t (since_same _ _ s0 s same) (since_more _ New _ (λ q. e.temporary ≡ Some q) s t content (λ q aside. aside) e.leaves);
+    }
+
+    earlier : (q : NameList) (found : Option Content) → Leaves (outcomes_now s q) found → Leaves (outcomes_now s0 q) found
+    earlier q found l = subst (λ os. Leaves os found) (λ i. same.outcomes i (same.clock i) q) l
+
+    pub rewrite_durable : IsDurable (IsNewFile s.tree (parts_of path) new) s t → IsDurable New s0 t
+    rewrite_durable d = record {
+      there = λ q c n found l.
+          let here = read_here s0 path find replacement bytes is it reads in
+          let was : Some (n.bytes, n.mode) ≡ Some (bytes, reads.0) = sym n.was ∙ here in
+          let pair = same_Some (n.bytes, n.mode) (bytes, reads.0) was in
+          let the_same : n.new_bytes ≡ new = (one_new_bytes find replacement bytes n.new_bytes new n.count count (subst (λ (b : List ℕ). NewBytes find replacement b n.new_bytes n.count) (ap (λ (f : List ℕ × ℕ). f.0) pair) n.new_bytes_are) is_new).0 in
+          d.there q (file new reads.0)
+          (record { here = n.here; before = bytes; mode = reads.0; was = ap (λ (x : Tree). file_at x (parts_of path)) same.tree ∙ here; content_is = refl }) found l
+          ∙ ap (λ (x : Content). Some x) ((λ i. file (sym the_same i) (sym (ap (λ (f : List ℕ × ℕ). f.1) pair) i)) ∙ sym n.content_is);
+      elsewhere = λ q none found l. earlier q found (d.elsewhere q (λ c n. none c (content q c n)) found l);
+    }

@@ -23,12 +23,14 @@ use Rattle.sd_core.specs.declared.rewriting.RewritingError.TheVariants.{NoName, 
 use Rattle.sd_core.specs.Errors.{IsErrorOfFile}
 use Rattle.sd_core.specs.declared.report.Report.{Report}
 use Rattle.sd_core.specs.declared.rewriting.Rewrite.{Rewrite}
-use Rattle.sd_core.specs.Rewriting.{IsFilePath, RewritesFile, IsOldOrNew, LeavesFile, Reserved, NoneFree}
+use Rattle.file_exchange.specs.Exchange.{IsFilePath}
+use Rattle.sd_core.specs.Rewriting.{RewritesFile, IsOldOrNew, LeavesFile}
+use Rattle.file_exchange.specs.Reserved.{Reserved, NoneFree}
 use Rattle.sd_core.specs.Words.{TreeOrder}
 use Rattle.sd_core.specs.Chosen.{Chosen, ListsChosen}
 use Rattle.sd_core.specs.Headline.{IsRewritten, RewritesOnly, change_of, CountsFile, Counts, RewritesTree, LeavesFiles, LeavesTree, HasNoRoomBeside, HasNoRoom}
 use Rattle.sd_core.specs.Sweep.{AreFilePaths, RewritesFiles}
-use Rattle.sd_core.proofs.rewriting.FillingLemmas.{some_not_none}
+use Rattle.file_exchange.proofs.PlaceLemmas.{some_not_none}
 use Rattle.sd_core.proofs.listing.StackLemmas.{In, in_from_contains, contains_from_in, place_total}
 
 -- ---- files and places

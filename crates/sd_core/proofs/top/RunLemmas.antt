@@ -9,7 +9,7 @@ use Rattle.sd_edge.specs.Count.{HasRisen}
 use Rattle.sd_edge.specs.Disk.{DiskState}
 use Rattle.sd_edge.specs.declared.fault.DiskFault.{DiskFault}
 use Rattle.sd_edge.specs.declared.fault.DiskFault.TheVariants as disk
-use Rattle.sd_core.specs.Causes.{HasCauseOf}
+use Rattle.file_exchange.specs.Causes.{HasCauseOf}
 use Rattle.sd_core.specs.declared.error.Error.{Error}
 use Rattle.sd_core.specs.declared.error.FailedJobs.{FailedJobs}
 use Rattle.sd_core.specs.declared.error.Error.TheVariants.{File, FailedProcessing, RootMissing, BadGlob, NoMemory}

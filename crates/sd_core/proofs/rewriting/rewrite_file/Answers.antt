@@ -1,8 +1,8 @@
 use Rattle.std.proofs.Common.{◌∙◌, arith, subst, List, ℕ}
+use Rattle.sd_edge.specs.declared.fault.DiskFault.TheVariants as disk
 use Rattle.sd_core.specs.Rewriting.{NewBytes}
-use Rattle.sd_core.proofs.rewriting.CreatingLemmas.{step_cause}
-use Rattle.sd_core.proofs.rewriting.FillingLemmas.{at_err, passed_on}
-use Rattle.sd_core.proofs.rewriting.NewBytesLemmas.{reads_file, passed_as, same_file, changed_file, left_file, cleared_since, none_found, new_bytes, differ, same}
+use Rattle.file_exchange.proofs.CauseLemmas.{at_err, step_cause}
+use Rattle.sd_core.proofs.rewriting.NewBytesLemmas.{reads_file, passed_as, same_file, changed_file, left_file, cleared_since, none_found, new_bytes, differ, same, exchange_passed, read_leaves, rewrite_leaves, rewrite_durable}
 use Rattle.sd_core.proofs.rewriting.rewrite_file.Goals as goal
 use Rattle.sd_core.proofs.rewriting.rewrite_file.Goals.{then-changed+in_ok-exchange, else-changed}
 
@@ -31,7 +31,7 @@ pub returns-in_err-exchange-clause-cleared : goal.returns-in_err-exchange-clause
 returns-in_err-exchange-clause-cleared g c =
     λ told is.
     cleared_since _ _ (g.D.Disk.state c.exchange.new.disk) _ c.in_ok-bytes.ensures.tree c.in_ok-bytes.ensures.cause.never_falls
-    (c.in_err-exchange.ensures.cleared told (passed_on c.from_residual-in_err-exchange.result _ _ c.from_residual-in_err-exchange.ensures.1 is))
+    (c.in_err-exchange.ensures.cleared told (exchange_passed c.from_residual-in_err-exchange.result c.in_err-exchange.field-0.0 disk.Failed c.from_residual-in_err-exchange.ensures.1 is))
 
 pub returns-clause-rewritten : goal.returns-clause-rewritten
 returns-clause-rewritten g c =
@@ -48,4 +48,35 @@ returns-clause-rewritten g c =
           rw (w.disk-is, w.if-changed.false)
           (same_file _ _ _ _ _ (g.met.D.Disk.is_tree c.args.disk.now told) (c.requires.file told) (c.in_ok-bytes.ensures.bytes told) _ _ c.in_ok-bytes.ensures.tree
           (subst (λ (new : List ℕ). NewBytes c.args.find.now c.args.replacement.now c.in_ok-bytes.bytes.items new c.in_ok-new.new.spans) kept is_new))
+    ]
+
+pub returns-in_err-exchange-clause-crash : goal.returns-in_err-exchange-clause-crash
+returns-in_err-exchange-clause-crash g c =
+    λ told.
+    let is_new = new_bytes _ _ _ _ _ _ _ _ (c.new-matcher.ensures ∙ c.as_bytes.ensures.value) c.deref-2.ensures.value c.as_bytes-2.ensures.value c.in_ok-new.ensures in
+    rewrite_leaves (g.D.Disk.state c.args.disk.now) _ _ _ _ (g.met.D.Disk.is_tree c.args.disk.now told) (c.requires.file told) (c.in_ok-bytes.ensures.bytes told) _ _ c.in_ok-bytes.ensures.tree _ _ is_new
+    (rw c.deref-then-changed.ensures.value at (c.in_err-exchange.ensures.crash told))
+
+pub returns-clause-crash : goal.returns-clause-crash
+returns-clause-crash g c =
+    λ told.
+    let is_new = new_bytes _ _ _ _ _ _ _ _ (c.new-matcher.ensures ∙ c.as_bytes.ensures.value) c.deref-2.ensures.value c.as_bytes-2.ensures.value c.in_ok-new.ensures in
+    elim c.if-changed.branch [
+      | then-changed+in_ok-exchange w ↦
+          rw w.disk-is
+          (rewrite_leaves (g.D.Disk.state c.args.disk.now) _ _ _ _ (g.met.D.Disk.is_tree c.args.disk.now told) (c.requires.file told) (c.in_ok-bytes.ensures.bytes told) _ _ c.in_ok-bytes.ensures.tree _ _ is_new
+          (rw w.deref-then-changed.ensures.value at (w.in_ok-exchange.ensures.crash told)))
+      | else-changed w ↦ rw w.disk-is (read_leaves _ _ _ _ _ c.in_ok-bytes.ensures.tree)
+    ]
+
+pub returns-clause-durable : goal.returns-clause-durable
+returns-clause-durable g c =
+    λ told changed.
+    let is_new = new_bytes _ _ _ _ _ _ _ _ (c.new-matcher.ensures ∙ c.as_bytes.ensures.value) c.deref-2.ensures.value c.as_bytes-2.ensures.value c.in_ok-new.ensures in
+    elim c.if-changed.branch [
+      | then-changed+in_ok-exchange w ↦
+          rw w.disk-is
+          (rewrite_durable (g.D.Disk.state c.args.disk.now) _ _ _ _ (g.met.D.Disk.is_tree c.args.disk.now told) (c.requires.file told) (c.in_ok-bytes.ensures.bytes told) _ _ c.in_ok-bytes.ensures.tree _ _ is_new
+          (rw w.deref-then-changed.ensures.value at (w.in_ok-exchange.ensures.durable told)))
+      | else-changed w ↦ absurd (cc (changed, w.if-changed.false))
     ]

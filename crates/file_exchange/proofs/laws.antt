@@ -1,0 +1,3 @@
+-- What the laws of exchanges use.
+pub mod ImageLemmas
+pub mod TurnLemmas

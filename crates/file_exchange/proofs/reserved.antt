@@ -1,0 +1,2 @@
+-- What the paths of reserved names use.
+pub mod ReservedPathLemmas

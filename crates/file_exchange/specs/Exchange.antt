@@ -1,0 +1,40 @@
+-- The exchange of one file's bytes.
+use Rattle.std.specs.Prelude.{◌≡◌, ◌≢◌, ◌⊎◌, ℕ, List, Some, IsSome}
+use Rattle.sd_edge.specs.Tree.{NameList, Tree, SameBut, node_at, file_at}
+use Rattle.sd_edge.specs.Paths.{parts_of, parent_of}
+use Rattle.sd_edge.specs.Files.{path_text}
+use Rattle.sd_edge.specs.Disk.{DiskState}
+use Rattle.file_exchange.specs.Causes.{HasRisenBy}
+use Rattle.file_exchange.specs.Reserved.{FirstFree}
+
+-- the path is that of a regular file of the tree, without links, `.` and `..`
+pub record IsFilePath (tree : Tree) (path : List ℕ) : Type 0 where
+  pub path_is : path ≡ path_text (parts_of path)
+  pub is_file : IsSome (file_at tree (parts_of path))
+
+-- ---- the file has its new bytes
+
+-- the regular file at the place has these bytes and its mode
+pub record HasBytes (old : Tree) (place : NameList) (bytes : List ℕ) (new : Tree) : Type 0 where
+  pub before : List ℕ
+  pub mode : ℕ
+  pub was : file_at old place ≡ Some (before, mode)
+  pub holds : file_at new place ≡ Some (bytes, mode)
+
+-- and every other place is as before
+pub record Exchanges (old : Tree) (place : NameList) (bytes : List ℕ) (new : Tree) : Type 0 where
+  pub has : HasBytes old place bytes new
+  pub others : SameBut place old new
+
+-- After a refusal the file is its old node or has the new bytes, and at most one reserved name differs: the first that was free in its
+-- folder. Where the file isn't its old node, none does.
+pub record LeavesBytes (old : Tree) (place : NameList) (bytes : List ℕ) (new : Tree) : Type 0 where
+  pub old_or_new : (node_at new place ≡ node_at old place) ⊎ HasBytes old place bytes new
+  pub temporary : NameList
+  pub was_free : FirstFree old (parent_of place) temporary ⊎ (temporary ≡ place)
+  pub others : (q : NameList) → q ≢ place → q ≢ temporary → node_at new q ≡ node_at old q
+  pub old_or_alone : (node_at new place ≡ node_at old place) ⊎ SameBut place old new
+
+-- One counted fault leaves no temporary file: every other place is as before, or a second one was counted.
+abbrev pub IsCleared : DiskState → NameList → DiskState → Type 0
+IsCleared old place new = SameBut place old.tree new.tree ⊎ HasRisenBy 2 old.faults new.faults

@@ -1,0 +1,133 @@
+//! One file's exchange.
+
+ghost use Rattle.std.specs.Prelude.{◌≡◌, ◌≢◌, ◌⊎◌, ◌≤◌, false, IsTrue, IfOk, OnOk, OnErr, IsErrOf, IfSome, IfNone};
+ghost use Rattle.sd_edge.specs.Paths.{parts_of, parent_of, SameWays};
+ghost use Rattle.sd_edge.specs.Disk.{SameLists, SameTree};
+ghost use Rattle.sd_edge.specs.Files.{Removes};
+ghost use Rattle.sd_edge.specs.Crashes.{IsDurable, KeepsSettled};
+ghost use Rattle.file_exchange.specs.Causes.{HasCauseOf, HasRisenBy};
+ghost use Rattle.file_exchange.specs.Reserved.{NoneFree, reserved_names};
+ghost use Rattle.file_exchange.specs.Exchange.{IsFilePath, Exchanges, LeavesBytes, IsCleared};
+ghost use Rattle.file_exchange.specs.Temporary.{CreatesTemporary, IsReady, Moves, MayHaveMoved, FillLeaves, SettlesFolder, IsRemoved};
+ghost use Rattle.file_exchange.specs.Crash.{IsNewFile, ExchangeLeaves};
+
+use crate::ExchangeFault;
+use crate::reserved::{folder_path, temporary_path};
+use sd_edge::{Disk, DiskFault, Text};
+use std::alloc::Global;
+
+/// Gives the regular file at a path these bytes; its mode is kept. They are written to a temporary file under the first
+/// reserved name that is free beside it, which is put on the medium and then in the file's place, and that on the medium
+/// too. After a refusal the temporary file is removed.
+///
+/// On a disk that tells its tree the path has no links, `.` or `..`, and leads to a regular file. Refuses with a counted
+/// fault, where no reserved name of the folder is free, or for want of memory; the file is then old, or new where the
+/// renaming or the folder's sync failed. One counted fault leaves no temporary file.
+///
+/// There a crash at any moment leaves the file as one at entry could have left it, or with its mode and the new bytes; it
+/// may leave anything at that reserved name; and all else as one at entry could have left it. After `Ok` each
+/// crash leaves the new bytes, and all else as one at entry could have left it.
+pub fn exchange<D: Disk>(
+    alloc: Global,
+    disk: &mut D,
+    path: &str,
+    bytes: &[u8],
+) -> Result<(), ExchangeFault>
+    requires { IsTrue D.tells → IsFilePath (D.state disk.old).tree path.now }
+    ensures exchanged { IsTrue D.tells → OnOk result (Exchanges (D.state disk.old).tree (parts_of path.now) bytes.now (D.state disk.new).tree) }
+    ensures refused { IsTrue D.tells → OnErr result (LeavesBytes (D.state disk.old).tree (parts_of path.now) bytes.now (D.state disk.new).tree) }
+    ensures crash { IsTrue D.tells → ExchangeLeaves (parts_of path.now) bytes.now (D.state disk.old) (D.state disk.new) }
+    ensures durable { IsTrue D.tells → OnOk result (IsDurable (IsNewFile (D.state disk.old).tree (parts_of path.now) bytes.now) (D.state disk.old) (D.state disk.new)) }
+    ensures settled { IsTrue D.tells → KeepsSettled (D.state disk.old) (D.state disk.new) }
+    ensures cleared { IsTrue D.tells → IsErrOf result (ExchangeFault.Disk DiskFault.Failed) → IsCleared (D.state disk.old) (parts_of path.now) (D.state disk.new) }
+    ensures none_free { IsTrue D.tells → IsErrOf result ExchangeFault.NoName → NoneFree (D.state disk.old).tree (parent_of (parts_of path.now)) }
+    ensures not_written { IsTrue D.tells → IsErrOf result ExchangeFault.NoName → SameTree (D.state disk.old) (D.state disk.new) }
+    ensures none_free_untold { D.tells ≡ false → IsErrOf result ExchangeFault.NoName → HasRisenBy reserved_names (D.state disk.old).faults (D.state disk.new).faults }
+    ensures lists { SameLists (D.state disk.old) (D.state disk.new) }
+    ensures cause { HasCauseOf ExchangeFault.Disk D.tells (D.state disk.old) (D.state disk.new) result }
+{
+    let Some(temporary) = create_temporary(alloc, disk, path)? else {
+        return Err(ExchangeFault::NoName);
+    };
+    let temporary = temporary.as_str();
+    match fill_and_rename(disk, temporary, path, bytes) {
+        Ok(()) => settle(disk, path),
+        Err(fault) => Err(ExchangeFault::Disk(clear(disk, temporary, fault))),
+    }
+}
+
+/// Creates a file under the first reserved name that is free beside a file, with that file's mode. `None` where none
+/// is free.
+fn create_temporary<D: Disk>(
+    alloc: Global,
+    disk: &mut D,
+    path: &str,
+) -> Result<Option<Text>, DiskFault>
+    requires { IsTrue D.tells → IsFilePath (D.state disk.old).tree path.now }
+    ensures created { IsTrue D.tells → IfOk result (λ made. IfSome made (λ temporary.
+        CreatesTemporary (D.state disk.old) (parts_of path.now) temporary (D.state disk.new))) }
+    ensures none_free { IsTrue D.tells → IfOk result (λ made. IfNone made (NoneFree (D.state disk.old).tree (parent_of (parts_of path.now)))) }
+    ensures not_created { IsTrue D.tells → IfOk result (λ made. IfNone made (SameTree (D.state disk.old) (D.state disk.new))) }
+    ensures refused { IsTrue D.tells → OnErr result (SameTree (D.state disk.old) (D.state disk.new)) }
+    ensures risen { D.tells ≡ false → IfOk result (λ made. IfNone made (HasRisenBy reserved_names (D.state disk.old).faults (D.state disk.new).faults)) }
+    ensures lists { SameLists (D.state disk.old) (D.state disk.new) }
+    ensures cause { HasCauseOf (λ fault. fault) D.tells (D.state disk.old) (D.state disk.new) result }
+{
+    for number in 0..=u16::MAX {
+        let temporary = temporary_path(alloc, path, number)?;
+        match disk.create_like(temporary.as_str(), path) {
+            Ok(()) => return Ok(Some(temporary)),
+            Err(fault) if fault != DiskFault::Taken => return Err(fault),
+            Err(_) => {}
+        }
+    }
+    Ok(None)
+}
+
+/// Writes the temporary file, puts it on the medium and then in the file's place.
+fn fill_and_rename<D: Disk>(
+    disk: &mut D,
+    temporary: &str,
+    path: &str,
+    bytes: &[u8],
+) -> Result<(), DiskFault>
+    requires { IsTrue D.tells → IsReady (D.state disk.old) temporary.now path.now }
+    ensures moved { IsTrue D.tells → OnOk result (Moves (D.state disk.old) temporary.now path.now bytes.now (D.state disk.new)) }
+    ensures refused { IsTrue D.tells → OnErr result (MayHaveMoved (D.state disk.old) temporary.now path.now bytes.now (D.state disk.new)) }
+    ensures crash { IsTrue D.tells → FillLeaves (D.state disk.old) temporary.now path.now bytes.now (D.state disk.new) }
+    ensures ways { IsTrue D.tells → SameWays (D.state disk.old).tree (D.state disk.new).tree }
+    ensures lists { SameLists (D.state disk.old) (D.state disk.new) }
+    ensures cause { HasCauseOf (λ fault. fault) D.tells (D.state disk.old) (D.state disk.new) result }
+{
+    disk.write_file(temporary, bytes)?;
+    disk.sync(temporary)?;
+    disk.rename(temporary, path)
+}
+
+/// Removes the temporary file after a fault. Answers with the fault, or with want of memory where
+/// the removal has it.
+fn clear<D: Disk>(disk: &mut D, temporary: &str, fault: DiskFault) -> DiskFault
+    ensures tree { IsTrue D.tells → SameTree (D.state disk.old) (D.state disk.new) ⊎ Removes (D.state disk.old) temporary.now (D.state disk.new) }
+    ensures cleared { IsTrue D.tells → result ≢ DiskFault.NoMemory → IsRemoved (D.state disk.old) temporary.now (D.state disk.new) }
+    ensures fault { (result ≡ DiskFault.NoMemory) ⊎ (result ≡ fault) }
+    ensures faults { (D.state disk.old).faults ≤ (D.state disk.new).faults }
+    ensures lists { SameLists (D.state disk.old) (D.state disk.new) }
+{
+    match disk.remove(temporary) {
+        Err(DiskFault::NoMemory) => DiskFault::NoMemory,
+        _ => fault,
+    }
+}
+
+/// Puts the names in the file's folder on the medium.
+fn settle<D: Disk>(disk: &mut D, path: &str) -> Result<(), ExchangeFault>
+    requires { IsTrue D.tells → IsFilePath (D.state disk.old).tree path.now }
+    ensures settled { IsTrue D.tells → OnOk result (SettlesFolder (D.state disk.old) path.now (D.state disk.new)) }
+    ensures refused { IsTrue D.tells → OnErr result (SameTree (D.state disk.old) (D.state disk.new)) }
+    ensures not_no_name { IsErrOf result ExchangeFault.NoName → ⊥ }
+    ensures lists { SameLists (D.state disk.old) (D.state disk.new) }
+    ensures cause { HasCauseOf ExchangeFault.Disk D.tells (D.state disk.old) (D.state disk.new) result }
+{
+    disk.sync_dir(folder_path(path))?;
+    Ok(())
+}

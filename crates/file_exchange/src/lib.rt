@@ -1,0 +1,14 @@
+//! The exchange of one regular file's bytes, which a crash at any moment leaves old or new.
+#![tactic(auto)]
+
+mod exchanging;
+mod fault;
+mod laws;
+mod reserved;
+
+pub use exchanging::exchange;
+pub use fault::ExchangeFault;
+pub use laws::{
+    an_exchange_leaves_old_or_new, an_exchanged_file_is_on_the_medium, exchanges_compose,
+    exchanges_in_turn_leave_old_or_new, loops_over_files_keep_the_crash_clause,
+};

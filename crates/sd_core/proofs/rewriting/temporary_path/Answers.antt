@@ -1,9 +1,0 @@
-use Rattle.std.proofs.Common.{◌∙◌, arith}
-use Rattle.sd_core.proofs.rewriting.ReservedPathLemmas.{written_beside}
-use Rattle.sd_core.proofs.rewriting.temporary_path.Goals as goal
-
-pub returns : goal.returns
-returns c = record {
-  path = written_beside c.args.path.now c.folder_of-folder.result.now c.from.result c.args.number (omega arith)
-      (c.from.ensures ∙ (rw (c.in_radix.ensures, c.laid_out.ensures) at c.in_ok-format.ensures.ok)) c.folder_of-folder.ensures;
-}
