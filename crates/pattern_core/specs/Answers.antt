@@ -4,7 +4,8 @@ use Rattle.std.specs.List.{list_any}
 use Rattle.std.specs.Str.{chars}
 use Rattle.unicode.specs.Binary.{is_uppercase}
 use Rattle.hir_tree.specs.Tree.{tree_of}
-use Rattle.pattern_syntax.specs.Flags.{Flags, is_nil}
+use Rattle.pattern_syntax.specs.declared.flags.Flags.{Flags}
+use Rattle.pattern_syntax.specs.Flags.{is_nil}
 use Rattle.pattern_syntax.specs.SetTree.{with_sets}
 use Rattle.pattern_syntax.specs.Reads.{Found, Reads}
 use Rattle.pattern_core.specs.declared.flags.PatternFlags.{PatternFlags}

@@ -1,6 +1,7 @@
 -- A text as a pattern.
 use Rattle.std.specs.Prelude.{◌≡◌, ℕ, Bool, false, List, [], ◌∷◌, ◌++◌, codes, flat_map, encode_utf8, Option, Some, None, option_map, option_and_then, if◌then◌else◌}
-use Rattle.pattern_syntax.specs.Flags.{Flags, has}
+use Rattle.pattern_syntax.specs.declared.flags.Flags.{Flags}
+use Rattle.pattern_syntax.specs.Flags.{has}
 use Rattle.pattern_syntax.specs.SetTree.{SetTree, SetTrees, empty, literal, chars, bytes, looks, repetition, capture, concat, alternation, none, more}
 use Rattle.pattern_syntax.specs.Reads.{Found, Reads}
 

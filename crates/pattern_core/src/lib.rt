@@ -16,7 +16,7 @@ pub use fault::PatternFault;
 pub use flags::PatternFlags;
 pub use parsed::Parsed;
 pub use pattern_syntax::{
-    a_class_with_its_set_has_one_list_of_ranges, behind_blanks, bytes, captured, characters,
+    Flags, a_class_with_its_set_has_one_list_of_ranges, behind_blanks, bytes, captured, characters,
     choice, class_of_bytes, class_of_characters, escapes_are_read_as_in_the_examples, folded,
     folded_sets_have_what_folds_alike, folding_is_read_as_in_the_examples,
     groups_are_read_as_in_the_examples, makes_range, members_are_read_as_in_the_examples,

@@ -2,7 +2,8 @@
 use Rattle.std.proofs.Common.{◌≡◌, ℕ, Bool, true, false, List, [], ◌∷◌, ◌++◌, ◌==◌, ◌||◌, ◌&&◌, if◌then◌else◌, eqb-true, eq-eqb, not, ◌+◌, ◌<◌, length, drop, get_or, drop-cons, add-one, refl, sym, ap, ◌∙◌, true≢false}
 use Rattle.ucd_props.proofs.Computing.{ucd_props}
 use Rattle.unicode.specs.Binary.{is_white_space}
-use Rattle.pattern_syntax.specs.Flags.{Flags, Blank, white, comment, write_blanks, FineBlanks, has, ends_line, passed, after_line, seen, seen_if}
+use Rattle.pattern_syntax.specs.declared.flags.Flags.{Flags}
+use Rattle.pattern_syntax.specs.Flags.{Blank, white, comment, write_blanks, FineBlanks, has, ends_line, passed, after_line, seen, seen_if}
 
 abbrev pub head : List ℕ → ℕ
 head [] = 0

@@ -1,6 +1,7 @@
 -- One step of a reading of a class, both ways.
 use Rattle.std.proofs.Common.{◌≡◌, ℕ, ◌+◌, max, Bool, true, false, ◌&&◌, ◌||◌, List, [], ◌∷◌, ◌++◌, codes, append_assoc, refl, sym, ap, ◌∙◌, subst, arith}
-use Rattle.pattern_syntax.specs.Flags.{Flags, Blank, write_blanks, FineBlanks}
+use Rattle.pattern_syntax.specs.declared.flags.Flags.{Flags}
+use Rattle.pattern_syntax.specs.Flags.{Blank, write_blanks, FineBlanks}
 use Rattle.pattern_syntax.specs.Sets.{Set, negated_if, ascii_names, ascii_set, value_of, is_some}
 use Rattle.pattern_syntax.specs.Atom.{Atom, write_atom, single_of}
 use Rattle.pattern_syntax.specs.Class.{Head, Inside, close, pass, one, range, named, nested, operation, Operation, write_inside, write_head, write_name, write_operation, FineInside, FineHead, FineMember, FineSecond, fits, makes_range, in_order, begins_name, atom_set, range_set, inside_set, inside_depth, inside_literals, listed}

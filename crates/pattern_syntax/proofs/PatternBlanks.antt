@@ -3,7 +3,8 @@ use Rattle.std.proofs.Common.{◌≡◌, ℕ, Bool, true, false, List, [], ◌�
 use Rattle.ucd_props.proofs.Computing.{ucd_props}
 use Rattle.unicode.specs.Binary.{is_white_space}
 use Rattle.pattern_syntax.proofs.BlanksLemmas.{number_sign}
-use Rattle.pattern_syntax.specs.Flags.{Flags, Blank, white, comment, write_blanks, FineBlanks}
+use Rattle.pattern_syntax.specs.declared.flags.Flags.{Flags}
+use Rattle.pattern_syntax.specs.Flags.{Blank, white, comment, write_blanks, FineBlanks}
 use Rattle.pattern_syntax.specs.Atom.{character, escaped, control, coded, braced, octal, perl, category, category_braced}
 use Rattle.pattern_syntax.specs.Syntax.{Single, atom, dot, caret, dollar, look, class, text_start, text_end, edge, no_edge, word_start, word_end, half_start, half_end, left, right, Repeated, Kind, numbered, named, flagged, write_single, write_repeats, write_count, write_swap, write_kind, FineSingle, FineRepeats, is_special, Count, optional, star, plus, exactly, at_least, between}
 use Rattle.pattern_syntax.specs.Reads.{Part, repeat}

@@ -1,6 +1,7 @@
 -- One step of a reading of the whole grammar, both ways.
 use Rattle.std.proofs.Common.{◌≡◌, ℕ, ◌+◌, max, false, List, [], ◌∷◌, ◌++◌, codes, map, append_assoc, refl, sym, ap, ◌∙◌, subst, arith}
-use Rattle.pattern_syntax.specs.Flags.{Flags, FlagList, apply, letters_of, Blank, write_blanks, FineBlanks, write_flags, FineFlags, is_nil}
+use Rattle.pattern_syntax.specs.declared.flags.Flags.{Flags}
+use Rattle.pattern_syntax.specs.Flags.{FlagList, apply, letters_of, Blank, write_blanks, FineBlanks, write_flags, FineFlags, is_nil}
 use Rattle.pattern_syntax.specs.Syntax.{Syntax, end, bar, pass, set, single, group, Single, Kind, inside_flags, write, write_single, write_repeats, write_kind, Fine, FineSingle, FineRepeats, FineKind}
 use Rattle.pattern_syntax.specs.SetTree.{SetTree, empty}
 use Rattle.pattern_syntax.specs.Reads.{Part, Row, at_depth, no_parts, in_front, row_of, put, joined, single_part, repeat, own, captures, branches, sequence, choice}

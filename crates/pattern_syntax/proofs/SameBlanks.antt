@@ -2,7 +2,8 @@
 use Rattle.std.proofs.Common.{◌≡◌, ℕ, Bool, true, false, List, [], ◌∷◌, ◌++◌, ◌==◌, ◌||◌, refl, sym, ap, ◌∙◌, subst, true≢false}
 use Rattle.unicode.specs.Binary.{is_white_space}
 use Rattle.pattern_syntax.proofs.BlanksLemmas.{number_sign}
-use Rattle.pattern_syntax.specs.Flags.{Flags, Blank, white, comment, write_blanks, FineBlanks, has, ends_line}
+use Rattle.pattern_syntax.specs.declared.flags.Flags.{Flags}
+use Rattle.pattern_syntax.specs.Flags.{Blank, white, comment, write_blanks, FineBlanks, has, ends_line}
 
 abbrev pub head : List ℕ → ℕ
 head [] = 0

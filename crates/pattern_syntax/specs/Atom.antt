@@ -1,7 +1,8 @@
 -- What stands alone, in a class too: a character, or an escape that is no look.
 use Rattle.std.specs.Prelude.{◌≡◌, ℕ, ◌+◌, ◌*◌, Bool, true, false, List, [], ◌∷◌, ◌++◌, codes, ◌==◌, ◌&&◌, ◌||◌, nat_le, nat_lt, not, length, if◌then◌else◌, Option, Some, None}
 use Rattle.std.specs.Char.{is_digit, digit_value}
-use Rattle.pattern_syntax.specs.Flags.{Flags, Blank, write_blanks, FineBlanks, has, is_nil}
+use Rattle.pattern_syntax.specs.declared.flags.Flags.{Flags}
+use Rattle.pattern_syntax.specs.Flags.{Blank, write_blanks, FineBlanks, has, is_nil}
 use Rattle.pattern_syntax.specs.Sets.{is_between, is_scalar, is_some, category_named}
 
 -- a digit or a letter, and the blanks before it

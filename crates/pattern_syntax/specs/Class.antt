@@ -2,7 +2,8 @@
 use Rattle.std.specs.Prelude.{◌≡◌, ℕ, ◌+◌, Bool, true, false, List, [], ◌∷◌, ◌++◌, codes, ◌==◌, ◌&&◌, ◌||◌, nat_lt, nat_le, nat_eq, not, max, length, map, if◌then◌else◌, Option, Some, None}
 use Rattle.std.specs.List.{list_any, starts_with}
 use Rattle.unicode.specs.Binary.{is_white_space}
-use Rattle.pattern_syntax.specs.Flags.{Flags, Blank, write_blanks, FineBlanks, has, begins, rest, seen, seen_if, is_nil}
+use Rattle.pattern_syntax.specs.declared.flags.Flags.{Flags}
+use Rattle.pattern_syntax.specs.Flags.{Blank, write_blanks, FineBlanks, has, begins, rest, seen, seen_if, is_nil}
 use Rattle.pattern_syntax.specs.Atom.{Atom, character, coded, braced, octal, number, octal_number, write_atom, FineAtom, single_of, perl, category, category_braced, spelt}
 use Rattle.pattern_syntax.specs.Sets.{Set, none_of, union, is_between, negated_if, closed, ascii_names, ascii_set, value_of, is_some, perl_set, category_set}
 

@@ -1,6 +1,6 @@
 -- What a reading of a class from left to right has so far.
 use Rattle.std.specs.Prelude.{◌≡◌, ℕ, ◌+◌, max, List, ◌++◌, Option, Some, None}
-use Rattle.pattern_syntax.specs.Flags.{Flags}
+use Rattle.pattern_syntax.specs.declared.flags.Flags.{Flags}
 use Rattle.pattern_syntax.specs.Sets.{Set, none_of, union, negated_if}
 use Rattle.pattern_syntax.specs.Class.{Head, Inside, Operation, Waiting, nothing, waits, side, write_inside, FineInside, inside_set, inside_depth, inside_literals, head_set, head_count, head_literals, is_negated, union_depth, operated}
 

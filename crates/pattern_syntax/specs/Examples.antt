@@ -1,7 +1,7 @@
 -- Worked readings: a tree with each set shown by those of a few characters that it holds.
 use Rattle.std.specs.Prelude.{◌≡◌, ℕ, Bool, true, false, List, [], ◌∷◌, ◌++◌, codes, filter, Option}
 use Rattle.hir_tree.specs.declared.look.Look.{Look}
-use Rattle.pattern_syntax.specs.Flags.{Flags}
+use Rattle.pattern_syntax.specs.declared.flags.Flags.{Flags}
 use Rattle.pattern_syntax.specs.SetTree.{SetTree, SetTrees, empty as no_tree, literal as literal_tree, chars as chars_tree, bytes as bytes_tree, looks as look_tree, repetition as repetition_tree, capture as capture_tree, concat as concat_tree, alternation as alternation_tree, none as no_trees, more as more_trees}
 use Rattle.pattern_syntax.specs.Syntax.{Syntax, Fine, write}
 use Rattle.pattern_syntax.specs.Reads.{found_of}

@@ -1,6 +1,6 @@
 -- What a reading from left to right has so far, under flags.
 use Rattle.std.specs.Prelude.{◌≡◌, ℕ, ◌+◌, max, List, [], ◌∷◌, ◌++◌, codes, map}
-use Rattle.pattern_syntax.specs.Flags.{Flags}
+use Rattle.pattern_syntax.specs.declared.flags.Flags.{Flags}
 use Rattle.pattern_syntax.specs.Syntax.{Syntax, Repeated, Kind, write, write_repeats, Fine, FineRepeats}
 use Rattle.pattern_syntax.specs.Reads.{Part, Row, at_depth, no_parts, row_of, repeat, grouped, captures, branches, sequence, choice}
 

@@ -2,7 +2,8 @@
 use Rattle.std.specs.Prelude.{◌≡◌, ℕ, ◌+◌, max, Bool, true, false, List, [], ◌∷◌, ◌++◌, map, Option, Some, None, encode_utf8, if◌then◌else◌, ◌&&◌, ◌||◌, ◌==◌, not}
 use Rattle.hir_tree.specs.declared.look.Look.{Look}
 use Rattle.hir_tree.specs.declared.look.Look.TheVariants as look
-use Rattle.pattern_syntax.specs.Flags.{Flags, apply}
+use Rattle.pattern_syntax.specs.declared.flags.Flags.{Flags}
+use Rattle.pattern_syntax.specs.Flags.{apply}
 use Rattle.pattern_syntax.specs.Atom.{Atom, single_of, coded}
 use Rattle.pattern_syntax.specs.Sets.{Set, is_any, complement, closed, folds_with_another}
 use Rattle.pattern_syntax.specs.Class.{atom_set, class_set, class_depth, inside_literals, head_literals, listed}

@@ -9,7 +9,7 @@ use Rattle.ucd_sets.specs.declared.set.Set.{Set as Named}
 use Rattle.ucd_sets.specs.declared.set.Set.TheVariants.{Category, CategoryGroup}
 use Rattle.ucd_category.specs.declared.GeneralCategory.TheVariants as category
 use Rattle.ucd_category.specs.declared.GeneralCategoryGroup.TheVariants as group
-use Rattle.pattern_syntax.specs.Flags.{Flags}
+use Rattle.pattern_syntax.specs.declared.flags.Flags.{Flags}
 
 abbrev pub Set : Type 0
 Set = ℕ → Bool

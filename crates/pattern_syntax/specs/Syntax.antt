@@ -3,7 +3,8 @@ use Rattle.std.specs.Prelude.{◌≡◌, ℕ, ◌+◌, ◌*◌, ◌^◌, Bool, t
 use Rattle.std.specs.List.{list_any}
 use Rattle.std.specs.Char.{digit_value}
 use Rattle.unicode.specs.Binary.{is_white_space}
-use Rattle.pattern_syntax.specs.Flags.{Flags, FlagList, apply, letters_of, write_flags, FineFlags, Blank, write_blanks, FineBlanks, has, begins, rest, is_nil}
+use Rattle.pattern_syntax.specs.declared.flags.Flags.{Flags}
+use Rattle.pattern_syntax.specs.Flags.{FlagList, apply, letters_of, write_flags, FineFlags, Blank, write_blanks, FineBlanks, has, begins, rest, is_nil}
 use Rattle.pattern_syntax.specs.Sets.{is_ascii_digit, is_ascii_word}
 use Rattle.pattern_syntax.specs.Atom.{Atom, character, write_atom, FineAtom, all}
 use Rattle.pattern_syntax.specs.Class.{Head, Inside, write_head, write_inside, FineHead, FineInside, is_blank_start}

@@ -3,6 +3,7 @@
 
 mod blanks;
 mod class_trees;
+mod flags;
 mod folding;
 mod laws;
 mod reads_examples;
@@ -10,6 +11,7 @@ mod rows;
 
 pub use blanks::{behind_blanks, makes_range};
 pub use class_trees::{bytes, characters, class_of_bytes, class_of_characters};
+pub use flags::Flags;
 pub use folding::folded;
 pub use laws::{a_class_with_its_set_has_one_list_of_ranges, folded_sets_have_what_folds_alike};
 pub use reads_examples::{
