@@ -6,7 +6,6 @@ use Rattle.hir_tree.specs.Tree.{tree_of}
 use Rattle.hir_tree.specs.declared.hir.Hir.{Hir}
 use Rattle.hir_tree.specs.declared.hir.Hir.TheVariants.{Concat, Alternation}
 use Rattle.hir_tree.specs.declared.hir.Hirs.{Hirs}
-use Rattle.hir_tree.proofs.TreeLemmas.{tree_concat, tree_alternation}
 use Rattle.pattern_syntax.specs.Reads.{united}
 use Rattle.pattern_syntax.specs.SetTree.{SetTree, SetTrees, concat, alternation, more, trees, with_sets, all_with_sets}
 
@@ -23,13 +22,20 @@ united_many make [] depth many = absurd (omega arith)
 united_many make (a ∷ []) depth many = absurd (omega arith)
 united_many make (a ∷ b ∷ rest) depth many = refl
 
-pub concat_many : (hirs : Hirs) (parts : List Hir) → parts_of hirs ≡ parts → 1 < length parts → (depth : ℕ)
-    → with_sets (tree_of (Concat hirs)) ≡ (united concat (map set_tree_of parts) depth).tree
-concat_many hirs parts same many depth =
-    ap with_sets (tree_concat hirs) ∙ ap concat (all_sets (parts_of hirs)) ∙ ap (λ hs. concat (trees (map set_tree_of hs))) same ∙ united_many concat parts depth many
+-- the law of trees in a row
+abbrev pub ConcatIsOfParts : Type 0
+ConcatIsOfParts = (hirs : Hirs) → tree_of (Concat hirs) ≡ hir_tree.concat (hir_tree.trees (map tree_of (parts_of hirs)))
 
-pub alternation_many : (hirs : Hirs) (parts : List Hir) → parts_of hirs ≡ parts → 1 < length parts → (depth : ℕ)
+pub concat_many : ConcatIsOfParts → (hirs : Hirs) (parts : List Hir) → parts_of hirs ≡ parts → 1 < length parts → (depth : ℕ)
+    → with_sets (tree_of (Concat hirs)) ≡ (united concat (map set_tree_of parts) depth).tree
+concat_many law hirs parts same many depth =
+    ap with_sets (law hirs) ∙ ap concat (all_sets (parts_of hirs)) ∙ ap (λ hs. concat (trees (map set_tree_of hs))) same ∙ united_many concat parts depth many
+
+abbrev pub AlternationIsOfParts : Type 0
+AlternationIsOfParts = (hirs : Hirs) → tree_of (Alternation hirs) ≡ hir_tree.alternation (hir_tree.trees (map tree_of (parts_of hirs)))
+
+pub alternation_many : AlternationIsOfParts → (hirs : Hirs) (parts : List Hir) → parts_of hirs ≡ parts → 1 < length parts → (depth : ℕ)
     → with_sets (tree_of (Alternation hirs)) ≡ (united alternation (map set_tree_of parts) depth).tree
-alternation_many hirs parts same many depth =
-    ap with_sets (tree_alternation hirs) ∙ ap alternation (all_sets (parts_of hirs)) ∙ ap (λ hs. alternation (trees (map set_tree_of hs))) same
+alternation_many law hirs parts same many depth =
+    ap with_sets (law hirs) ∙ ap alternation (all_sets (parts_of hirs)) ∙ ap (λ hs. alternation (trees (map set_tree_of hs))) same
     ∙ united_many alternation parts depth many

@@ -43,6 +43,7 @@ pub fn sequence(mut parts: Vec<Hir>) -> Hir
     ensures { (depth : ℕ) → with_sets (tree_of result) ≡ (united set_tree.concat (map (λ (part : Pattern). with_sets (tree_of part)) parts.items) depth).tree }
 {
     if parts.len() > 1 {
+        hir_tree::a_tree_is_made_of_the_trees_of_the_parts();
         return Hir::Concat(Hirs::from(parts));
     }
     parts.pop().unwrap_or(Hir::Empty)
@@ -53,6 +54,7 @@ pub fn choice(mut parts: Vec<Hir>) -> Hir
     ensures { (depth : ℕ) → with_sets (tree_of result) ≡ (united set_tree.alternation (map (λ (part : Pattern). with_sets (tree_of part)) parts.items) depth).tree }
 {
     if parts.len() > 1 {
+        hir_tree::a_tree_is_made_of_the_trees_of_the_parts();
         return Hir::Alternation(Hirs::from(parts));
     }
     parts.pop().unwrap_or(Hir::Empty)
