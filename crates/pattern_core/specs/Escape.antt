@@ -1,0 +1,53 @@
+-- A text as a pattern.
+use Rattle.std.specs.Prelude.{◌≡◌, ℕ, Bool, false, List, [], ◌∷◌, ◌++◌, codes, flat_map, encode_utf8, Option, Some, None, option_map, option_and_then, if◌then◌else◌}
+use Rattle.pattern_syntax.specs.declared.flags.Flags.{Flags}
+use Rattle.pattern_syntax.specs.Flags.{has}
+use Rattle.pattern_syntax.specs.SetTree.{SetTree, SetTrees, empty, literal, chars, bytes, looks, repetition, capture, concat, alternation, none, more}
+use Rattle.pattern_syntax.specs.Reads.{Found, Reads}
+
+-- the meta characters
+abbrev pub is_meta : ℕ → Bool
+is_meta c = has c (codes "\\.+*?()|[]{}^$#&-~")
+
+abbrev pub escaped_char : ℕ → List ℕ
+escaped_char c = if is_meta c then codes "\\" ++ c ∷ [] else c ∷ []
+
+-- a text with `\` before each meta character
+abbrev pub escaped_text : List ℕ → List ℕ
+escaped_text = flat_map escaped_char
+
+-- the UTF-8 of a text
+abbrev pub encoded : List ℕ → List ℕ
+encoded = flat_map encode_utf8
+
+-- two texts joined, if both are there
+abbrev pub joined : Option (List ℕ) → Option (List ℕ) → Option (List ℕ)
+joined first second = option_and_then (λ xs. option_map (λ ys. xs ++ ys) second) first
+
+-- all texts one after the other, if all are there
+abbrev pub joined_all : List (Option (List ℕ)) → Option (List ℕ)
+joined_all [] = Some []
+joined_all (first ∷ rest) = joined first (joined_all rest)
+
+abbrev mutual
+  -- the bytes of a pattern that is one text
+  pub text_of : SetTree → Option (List ℕ)
+  text_of empty = Some []
+  text_of (literal text) = Some text
+  text_of (chars set) = None
+  text_of (bytes set) = None
+  text_of (looks kind) = None
+  text_of (repetition least most greedy part) = None
+  text_of (capture index name part) = None
+  text_of (concat parts) = joined_all (texts_of parts)
+  text_of (alternation parts) = None
+
+  -- the bytes of each part that is one text
+  pub texts_of : SetTrees → List (Option (List ℕ))
+  texts_of none = []
+  texts_of (more part rest) = text_of part ∷ texts_of rest
+
+-- an escaped text is read as itself, where white space counts and letters aren't folded
+abbrev pub EscapedIsReadAsItself : Type 0
+EscapedIsReadAsItself = (k : Flags) (text : List ℕ) → k.spaces ≡ false → k.folds ≡ false
+    → (found : Found) × (Reads k (escaped_text text) found × (text_of found.part.tree ≡ Some (encoded text)))

@@ -1,0 +1,10 @@
+pub mod BlanksLemmas
+pub mod ClassMoves
+pub mod ClassSteps
+pub mod FoldLemmas
+pub mod PatternBlanks
+pub mod PatternSteps
+pub mod RangesLemmas
+pub mod ReadsExamples
+pub mod RowsLemmas
+pub mod SameBlanks

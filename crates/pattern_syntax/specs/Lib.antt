@@ -1,0 +1,10 @@
+pub mod Atom
+pub mod Class
+pub mod ClassProgress
+pub mod Examples
+pub mod Flags
+pub mod Progress
+pub mod Reads
+pub mod SetTree
+pub mod Sets
+pub mod Syntax

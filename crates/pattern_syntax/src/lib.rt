@@ -1,0 +1,23 @@
+//! How patterns are written, and what they are read as.
+#![tactic(auto)]
+
+mod blanks;
+mod class_trees;
+mod flags;
+mod folding;
+mod laws;
+mod reads_examples;
+mod rows;
+
+pub use blanks::{behind_blanks, makes_range};
+pub use class_trees::{bytes, characters, class_of_bytes, class_of_characters};
+pub use flags::Flags;
+pub use folding::folded;
+pub use laws::{a_class_with_its_set_has_one_list_of_ranges, folded_sets_have_what_folds_alike};
+pub use reads_examples::{
+    escapes_are_read_as_in_the_examples, folding_is_read_as_in_the_examples,
+    groups_are_read_as_in_the_examples, members_are_read_as_in_the_examples,
+    operations_are_read_as_in_the_examples, places_are_read_as_in_the_examples,
+    ranges_are_read_as_in_the_examples, repetitions_are_read_as_in_the_examples,
+};
+pub use rows::{captured, choice, repeated, sequence};
