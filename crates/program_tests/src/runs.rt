@@ -71,8 +71,8 @@ fn rewrites_chosen_files_and_counts(rt: HostRuntime) -> Result<(), Fail> {
 
 /// The counted calls of the tree command on `two_files`. The root is resolved and its kind asked for (2). Its list is
 /// opened, gives two entries and then its end (4). `a.txt` alone fits the glob, so it is asked for its length (1), and
-/// then read, a temporary file created, written, synced and renamed (5).
-const CALLS: u64 = 12;
+/// then read, a temporary file created, written, synced and renamed, and its folder synced (6).
+const CALLS: u64 = 13;
 
 #[test]
 fn each_failing_call_leaves_files_old_or_new(rt: HostRuntime) -> Result<(), Fail> {
