@@ -4,7 +4,9 @@ pub mod ClassProgress
 pub mod Examples
 pub mod Flags
 pub mod Progress
+pub mod Readers
 pub mod Reads
 pub mod SetTree
 pub mod Sets
 pub mod Syntax
+pub mod Tokens
