@@ -1,6 +1,6 @@
 //! Sets of characters, or of bytes where `u` is off.
 
-ghost use Rattle.std.specs.Prelude.{◌≡◌, ◌≤◌, false, true, IfOk, IfSome, OnNone, Some};
+ghost use Rattle.std.specs.Prelude.{◌≡◌, ◌≤◌, false, true, IfOk, IfSome, IfNone};
 ghost use Rattle.hir_tree.specs.Tree.{tree_of};
 ghost use Rattle.regex_class.specs.Ranges.{in_ranges};
 ghost use Rattle.pattern_syntax.specs.Sets as sets;
@@ -30,7 +30,7 @@ pub fn category_set(
     _flags: Flags,
 ) -> Result<Option<Class>, NoMemory>
     ensures found { IfOk result (λ found. IfSome found (λ set. IsSet set (sets.category_set _flags _negated _name.now) × (sets.is_some (sets.category_named _name.now) ≡ true))) }
-    ensures none { IfOk result (λ found. OnNone found (sets.is_some (sets.category_named _name.now) ≡ false)) }
+    ensures none { IfOk result (λ found. IfNone found (sets.is_some (sets.category_named _name.now) ≡ false)) }
 {
     Err(NoMemory)
 }
@@ -38,7 +38,7 @@ pub fn category_set(
 /// The set that has a name in `[: :]`; none where no set has the name.
 pub fn ascii_set(_alloc: Global, _name: &[char]) -> Result<Option<Class>, NoMemory>
     ensures found { IfOk result (λ found. IfSome found (λ set. IsSet set (sets.ascii_set _name.now) × (sets.is_some (sets.value_of sets.ascii_names _name.now) ≡ true))) }
-    ensures none { IfOk result (λ found. OnNone found (sets.is_some (sets.value_of sets.ascii_names _name.now) ≡ false)) }
+    ensures none { IfOk result (λ found. IfNone found (sets.is_some (sets.value_of sets.ascii_names _name.now) ≡ false)) }
 {
     Err(NoMemory)
 }
