@@ -104,7 +104,7 @@ fn raw_entry<R: Files + AllocGlobal + Clone + Drop>(
     })
 }
 
-/// The bytes of a file that is told to be this long. There is room for them and the file's end at once.
+/// The bytes of a file that is told to be this long. There is room for them at once, and for the read that finds its end.
 fn read<R: Files>(rt: &R, alloc: Global, path: &str, len: u64) -> io::Result<Vec<u8>> {
     let mut file = fs::open(rt, path)?;
     let mut bytes = vec![in alloc; 0; (len as usize).saturating_add(1)]?;
