@@ -2,6 +2,7 @@
 
 mod disk;
 mod faults;
+mod new_file;
 mod stream;
 
 pub use disk::HostDisk;

@@ -1,28 +1,22 @@
 //! The host's disk.
 
-ghost use Rattle.std.specs.Prelude.{◌≡◌, ◌≢◌, ◌↔◌, ℕ, [], Err, Some, None, IsTrue, IfOk, IsErrAnd, IfSome, OnSome, IfNone, IsSome};
-ghost use Rattle.std.specs.Fs.{file_type, IsFile, dir_entry_name};
+ghost use Rattle.std.specs.Prelude.{◌≡◌, ◌↔◌, ℕ, [], None, IsTrue, IfOk, IsErrAnd, IsSomeAnd};
+ghost use Rattle.std.specs.Fs.{dir_entry_name};
 ghost use Rattle.std.specs.IoError.{error_kind};
-ghost use Rattle.sd_edge.specs.HostDisk.{IsCounted, IsOfKind};
+ghost use Rattle.sd_edge.specs.HostDisk.{IsOfKind};
 ghost use Rattle.sd_edge.specs.HostDiskState.{host_state};
 ghost use Rattle.sd_edge.specs.OpenLists.{told_list, KeepsTold};
 
 use crate::host::faults::FaultCounter;
+use crate::host::new_file::{NewFile, create};
 use crate::open_lists::{OpenList, OpenLists};
 use crate::{Disk, DiskFault, Ident, Kind, ListId, Meta, RawEntry, Text};
 use std::alloc::Global;
 use std::fs::{DirEntry, Metadata, OpenFile, OpenOptions, ReadDir};
-use std::io::{ErrorKind, Write};
-use std::os::unix::fs::{MetadataExt, OpenOptionsExt};
+use std::io::{ErrorKind, Read, Write};
+use std::os::unix::fs::MetadataExt;
 use std::rt::Files;
 use std::{fs, io};
-
-/// A file that was just created and is still empty. Its mode may forbid to open it again for writing.
-#[derive(Drop)]
-struct NewFile<F: Drop> {
-    path: Text,
-    file: F,
-}
 
 /// An open list of the host's.
 #[derive(Drop)]
@@ -55,6 +49,7 @@ impl<R: Files + AllocGlobal + Clone + Drop> HostList<R> {
 pub struct HostDisk<R: Files + AllocGlobal + Clone + Drop> {
     rt: R,
     lists: OpenLists<Box<HostList<R>>>,
+    /// The file that was created last, until a file is renamed or removed.
     new_file: Option<NewFile<R::File>>,
     counter: FaultCounter,
 }
@@ -75,54 +70,6 @@ impl<R: Files + AllocGlobal + Clone + Drop> HostDisk<R> {
             new_file: None,
             counter: FaultCounter::new(),
         }
-    }
-}
-
-/// What the host tells of the regular file at a path, links followed. Refuses where something else stands there.
-fn file_metadata<R: Files>(
-    rt: &R,
-    counter: &mut FaultCounter,
-    path: &str,
-) -> Result<Metadata, DiskFault>
-    ensures regular { IfOk result (λ metadata. IsFile (file_type metadata)) }
-    ensures counted { IsCounted counter.old.faults counter.new.faults result }
-    ensures not_taken { result ≢ Err DiskFault.Taken }
-{
-    let metadata = counter.counted(fs::metadata(rt, path))?;
-    if metadata.is_file() {
-        Ok(metadata)
-    } else {
-        Err(counter.refusal(DiskFault::Absent))
-    }
-}
-
-/// Refuses where something else than a regular file stands at the path itself.
-fn check_own_file<R: Files>(rt: &R, counter: &mut FaultCounter, path: &str) -> Result<(), DiskFault>
-    ensures counted { IsCounted counter.old.faults counter.new.faults result }
-    ensures not_taken { result ≢ Err DiskFault.Taken }
-{
-    let metadata = counter.counted(fs::symlink_metadata(rt, path))?;
-    if metadata.is_file() {
-        Ok(())
-    } else {
-        Err(counter.refusal(DiskFault::Absent))
-    }
-}
-
-/// Refuses where something else than a directory stands where a path leads.
-fn check_directory<R: Files>(
-    rt: &R,
-    counter: &mut FaultCounter,
-    path: &str,
-) -> Result<(), DiskFault>
-    ensures counted { IsCounted counter.old.faults counter.new.faults result }
-    ensures not_taken { result ≢ Err DiskFault.Taken }
-{
-    let metadata = counter.counted(fs::metadata(rt, path))?;
-    if metadata.is_dir() {
-        Ok(())
-    } else {
-        Err(counter.refusal(DiskFault::Absent))
     }
 }
 
@@ -157,27 +104,14 @@ fn raw_entry<R: Files + AllocGlobal + Clone + Drop>(
     })
 }
 
-/// Creates a file where nothing stands, with these permissions.
-fn create<R: Files>(rt: &R, path: &str, like: &Metadata) -> io::Result<R::File> {
-    let file = OpenOptions::new()
-        .write(true)
-        .create_new(true)
-        .mode(0o600)
-        .open(rt, path)?;
-    match file.set_permissions(like.permissions()) {
-        Ok(()) => Ok(file),
-        Err(error) => {
-            let _removed = fs::remove_file(rt, path);
-            Err(error)
-        }
-    }
-}
-
-/// Writes the bytes of a new file, and gives it its permissions again: a host may drop some of them at a write.
-fn fill<F: OpenFile + Write>(file: &mut F, bytes: &[u8]) -> io::Result<()> {
-    let permissions = file.metadata()?.permissions();
-    file.write_all(bytes)?;
-    file.set_permissions(permissions)
+/// The bytes of a file that is told to be this long. There is room for them at once, and for the read that finds its end.
+fn read<R: Files>(rt: &R, alloc: Global, path: &str, len: u64) -> io::Result<Vec<u8>> {
+    let mut file = fs::open(rt, path)?;
+    let mut bytes = vec![in alloc; 0; (len as usize).saturating_add(1)]?;
+    let filled = file.read(&mut bytes)?;
+    bytes.truncate(filled);
+    file.read_to_end(&mut bytes)?;
+    Ok(bytes)
 }
 
 /// Writes a file anew.
@@ -192,6 +126,13 @@ fn write<R: Files>(rt: &R, path: &str, bytes: &[u8]) -> io::Result<()> {
 /// Puts a file's bytes on the medium, or a directory's names.
 fn sync<R: Files>(rt: &R, path: &str) -> io::Result<()> {
     fs::open(rt, path)?.sync_all()
+}
+
+/// Puts a directory's names on the medium. The slash behind its path lets the host refuse where something else stands.
+fn sync_directory<R: Files>(rt: &R, alloc: Global, path: &str) -> io::Result<()> {
+    let slash = if path.is_empty() { "" } else { "/" };
+    let directory = format!(in alloc; "{path}{slash}")?;
+    sync(rt, directory.as_str())
 }
 
 /// Whether memory alone was wanting.
@@ -228,20 +169,11 @@ fn next_in<R: Files + AllocGlobal + Clone + Drop>(
     next_of(alloc, lists.open.get_mut(&number)?)
 }
 
-/// The file that was just created, if it was at this path.
-fn take_new<F: Drop>(new_file: &mut Option<NewFile<F>>, path: &str) -> Option<F>
-    ensures taken { IfSome result (λ file. new_file.old ≡ Some (record { path = path.now; file = file })) }
-    ensures gone { OnSome result (new_file.new ≡ None) }
-    ensures left { IfNone result (new_file.new ≡ new_file.old) }
-    ensures found { IfSome new_file.old (λ new. new.path ≡ path.now → IsSome result) }
+/// Whether a path is that of the file that was just created.
+fn is_new<F: OpenFile + Write + Drop>(new_file: &Option<NewFile<F>>, path: &str) -> bool
+    ensures { IsTrue result ↔ IsSomeAnd new_file.now (λ new. new.path ≡ path.now) }
 {
-    match new_file.take() {
-        Some(NewFile { path: kept, file }) if kept.as_str() == path => Some(file),
-        other => {
-            *new_file = other;
-            None
-        }
-    }
+    new_file.as_ref().is_some_and(|new| new.is_at(path))
 }
 
 impl<R: Files + AllocGlobal + Clone + Drop> Disk for HostDisk<R> {
@@ -327,17 +259,18 @@ impl<R: Files + AllocGlobal + Clone + Drop> Disk for HostDisk<R> {
         self.lists.close(list.number);
     }
 
-    fn read_file(&mut self, _alloc: Global, path: &str) -> Result<Vec<u8>, DiskFault> {
-        file_metadata(&self.rt, &mut self.counter, path)?;
-        self.counter.counted(fs::read(&self.rt, path))
+    fn read_file(&mut self, alloc: Global, path: &str) -> Result<Vec<u8>, DiskFault> {
+        let metadata = self.counter.regular(fs::metadata(&self.rt, path))?;
+        self.counter
+            .counted(read(&self.rt, alloc, path, metadata.len()))
     }
 
     fn create_like(&mut self, path: &str, like: &str) -> Result<(), DiskFault> {
-        let metadata = file_metadata(&self.rt, &mut self.counter, like)?;
-        let kept = Text::new(self.rt.alloc(), path)?;
-        match create(&self.rt, path, &metadata) {
-            Ok(file) => {
-                self.new_file = Some(NewFile { path: kept, file });
+        let metadata = self.counter.regular(fs::metadata(&self.rt, like))?;
+        let path = Text::new(self.rt.alloc(), path)?;
+        match create(&self.rt, path, metadata.mode()) {
+            Ok(new) => {
+                self.new_file = Some(new);
                 Ok(())
             }
             Err(error) if error.kind() == ErrorKind::AlreadyExists => {
@@ -348,20 +281,29 @@ impl<R: Files + AllocGlobal + Clone + Drop> Disk for HostDisk<R> {
     }
 
     fn write_file(&mut self, path: &str, bytes: &[u8]) -> Result<(), DiskFault> {
-        if let Some(mut file) = take_new(&mut self.new_file, path) {
-            return self.counter.counted(fill(&mut file, bytes));
+        match &mut self.new_file {
+            Some(new) if new.is_empty_at(path) => self.counter.counted(new.fill(bytes)),
+            _ => {
+                self.counter.regular(fs::metadata(&self.rt, path))?;
+                self.counter.counted(write(&self.rt, path, bytes))
+            }
         }
-        file_metadata(&self.rt, &mut self.counter, path)?;
-        self.counter.counted(write(&self.rt, path, bytes))
     }
 
     fn sync(&mut self, path: &str) -> Result<(), DiskFault> {
-        file_metadata(&self.rt, &mut self.counter, path)?;
-        self.counter.counted(sync(&self.rt, path))
+        match &self.new_file {
+            Some(new) if new.is_at(path) => self.counter.counted(new.sync()),
+            _ => {
+                self.counter.regular(fs::metadata(&self.rt, path))?;
+                self.counter.counted(sync(&self.rt, path))
+            }
+        }
     }
 
     fn rename(&mut self, from: &str, to: &str) -> Result<(), DiskFault> {
-        check_own_file(&self.rt, &mut self.counter, from)?;
+        if !is_new(&self.new_file, from) {
+            self.counter.regular(fs::symlink_metadata(&self.rt, from))?;
+        }
         match fs::symlink_metadata(&self.rt, to) {
             Ok(metadata) if !metadata.is_file() => {
                 return Err(self.counter.refusal(DiskFault::Absent));
@@ -373,13 +315,15 @@ impl<R: Files + AllocGlobal + Clone + Drop> Disk for HostDisk<R> {
     }
 
     fn remove(&mut self, path: &str) -> Result<(), DiskFault> {
-        check_own_file(&self.rt, &mut self.counter, path)?;
+        if !is_new(&self.new_file, path) {
+            self.counter.regular(fs::symlink_metadata(&self.rt, path))?;
+        }
         self.new_file = None;
         self.counter.counted(fs::remove_file(&self.rt, path))
     }
 
     fn sync_dir(&mut self, path: &str) -> Result<(), DiskFault> {
-        check_directory(&self.rt, &mut self.counter, path)?;
-        self.counter.counted(sync(&self.rt, path))
+        let alloc = self.rt.alloc();
+        self.counter.counted(sync_directory(&self.rt, alloc, path))
     }
 }

@@ -1,11 +1,13 @@
 //! The count of the faults of the host's disk.
 
-ghost use Rattle.std.specs.Prelude.{◌≡◌, ◌≢◌, ◌<◌, ◌≤◌, ◌⊎◌, Err};
+ghost use Rattle.std.specs.Prelude.{◌≡◌, ◌≢◌, ◌<◌, ◌≤◌, ◌⊎◌, Ok, Err, IfOk};
+ghost use Rattle.std.specs.Fs.{file_type, IsFile};
 ghost use Rattle.sd_edge.specs.Count.{HasRisen};
 ghost use Rattle.sd_edge.specs.HostDisk.{IsCounted, Tells};
 ghost use Rattle.sd_edge.specs.Calls.{count_after};
 
 use crate::DiskFault;
+use std::fs::Metadata;
 use std::io;
 use std::io::ErrorKind;
 
@@ -53,6 +55,21 @@ impl FaultCounter {
                 }
                 _ => Err(self.refusal(DiskFault::Failed)),
             },
+        }
+    }
+
+    /// What the host tells of a regular file. Where it tells of something else, that is refused.
+    pub fn regular(&mut self, answer: io::Result<Metadata>) -> Result<Metadata, DiskFault>
+        ensures told { IfOk result (λ metadata. answer ≡ Ok metadata) }
+        ensures regular { IfOk result (λ metadata. IsFile (file_type metadata)) }
+        ensures counted { IsCounted self.old.faults self.new.faults result }
+        ensures not_taken { result ≢ Err DiskFault.Taken }
+    {
+        let metadata = self.counted(answer)?;
+        if metadata.is_file() {
+            Ok(metadata)
+        } else {
+            Err(self.refusal(DiskFault::Absent))
         }
     }
 }
