@@ -1,4 +1,5 @@
 pub mod Chosen
+pub mod Crash
 pub mod Errors
 pub mod Globs
 pub mod Headline

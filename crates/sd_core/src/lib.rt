@@ -16,5 +16,8 @@ mod top;
 mod words;
 
 pub use error::{Error, FailedJobs, JobFault, Result};
-pub use laws::{one_list_of_chosen_files, one_list_of_new_bytes};
+pub use laws::{
+    a_crash_leaves_chosen_files_old_or_new, a_crash_leaves_rewritten_files_new,
+    one_list_of_chosen_files, one_list_of_new_bytes,
+};
 pub use top::{Ended, Why, run};

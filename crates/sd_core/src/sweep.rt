@@ -1,6 +1,6 @@
 //! A tree command on a disk.
 
-ghost use Rattle.std.specs.Prelude.{◌≡◌, ◌≢◌, ◌<◌, ◌⊎◌, ℕ, List, [], ◌∷◌, true, false, IsTrue, IfOk, OnErr, IsErrOf, Err, length};
+ghost use Rattle.std.specs.Prelude.{◌≡◌, ◌≢◌, ◌<◌, ◌⊎◌, ℕ, List, [], ◌∷◌, true, false, IsTrue, IfOk, OnOk, OnErr, IsErrOf, Err, length, Contains};
 ghost use Rattle.sd_edge.specs.Tree.{NameList};
 ghost use Rattle.sd_edge.specs.Disk.{SameLists};
 ghost use Rattle.sd_edge.specs.Files.{LeadsNowhere};
@@ -11,6 +11,7 @@ ghost use Rattle.file_exchange.specs.Causes.{HasCauseOf};
 ghost use Rattle.sd_core.specs.Globs.{IsFirstInvalid};
 ghost use Rattle.sd_core.specs.Walk.{LeavesLists};
 ghost use Rattle.sd_core.specs.WordsRead.{order_of};
+ghost use Rattle.sd_core.specs.Crash.{IsChosenBy, RewritesLeave, RewritesLast};
 ghost use Rattle.sd_core.specs.Headline.{RewritesTree, LeavesFiles, LeavesTree, HasNoRoomBeside, HasNoRoom};
 ghost use Rattle.file_exchange.specs.Causes.{HasRisenBy};
 ghost use Rattle.file_exchange.specs.Reserved.{reserved_names};
@@ -27,10 +28,18 @@ use std::alloc::Global;
 
 /// Reads the globs, lists the chosen files, and then rewrites one after the other. Ends at the first fault: the files are then old or
 /// new, and at most one reserved name more may stand.
+///
+/// On a disk that tells its tree a crash at any moment leaves each chosen file as one at entry could have left it, or with its mode and its
+/// new bytes; it may leave anything at the reserved names that were free in their folders; and all else as one at entry could have left it.
+/// After `Ok` each crash leaves the new bytes of the chosen files whose bytes change, and all else as one at entry could have left it.
 pub fn sweep<D: Disk>(alloc: Global, disk: &mut D, command: &TreeCommand<'_>) -> Result<Report>
     requires { 0 < length command.now.find.now }
     ensures rewritten { IsTrue D.tells → IfOk result (λ report. RewritesTree (D.state disk.old).tree (order_of command.now) report (D.state disk.new).tree) }
     ensures refused { IsTrue D.tells → OnErr result (LeavesTree (D.state disk.old).tree (order_of command.now) (D.state disk.new).tree) }
+    ensures crash { IsTrue D.tells → RewritesLeave (IsChosenBy (D.state disk.old).tree (order_of command.now)) command.now.find.now command.now.replacement.now
+        (D.state disk.old) (D.state disk.new) }
+    ensures durable { IsTrue D.tells → OnOk result (RewritesLast (IsChosenBy (D.state disk.old).tree (order_of command.now)) command.now.find.now command.now.replacement.now
+        (D.state disk.old) (D.state disk.new)) }
     ensures root_missing { IsTrue D.tells → IsErrOf result Error.RootMissing → LeadsNowhere (D.state disk.old) command.now.root.now true }
     ensures nothing_written { IsErrOf result Error.RootMissing → (D.state disk.new).tree ≡ (D.state disk.old).tree }
     ensures bad_glob { (place : ℕ) → IsErrOf result (Error.BadGlob place) → IsFirstInvalid (order_of command.now).globs place × (disk.new ≡ disk.old) }
@@ -51,6 +60,10 @@ pub fn sweep<D: Disk>(alloc: Global, disk: &mut D, command: &TreeCommand<'_>) ->
 }
 
 /// Rewrites one file after the other, up to the first fault.
+///
+/// On a disk that tells its tree a crash at any moment leaves each file as one at entry could have left it, or with its mode and its new
+/// bytes; it may leave anything at the reserved names that were free in their folders; and all else as one at entry could have left it.
+/// After `Ok` each crash leaves the new bytes of the files whose bytes change, and all else as one at entry could have left it.
 fn rewrite_all<D: Disk>(
     alloc: Global,
     disk: &mut D,
@@ -63,6 +76,10 @@ fn rewrite_all<D: Disk>(
         → IfOk result (λ report. RewritesFiles (D.state disk.old).tree command.now.find.now command.now.replacement.now places report (D.state disk.new).tree) }
     ensures refused { IsTrue D.tells → (places : List NameList) → AreFilePaths (D.state disk.old).tree places chosen.now
         → OnErr result (LeavesFiles (D.state disk.old).tree command.now.find.now command.now.replacement.now places (D.state disk.new).tree) }
+    ensures crash { IsTrue D.tells → (places : List NameList) → AreFilePaths (D.state disk.old).tree places chosen.now
+        → RewritesLeave (Contains places) command.now.find.now command.now.replacement.now (D.state disk.old) (D.state disk.new) }
+    ensures durable { IsTrue D.tells → (places : List NameList) → AreFilePaths (D.state disk.old).tree places chosen.now
+        → OnOk result (RewritesLast (Contains places) command.now.find.now command.now.replacement.now (D.state disk.old) (D.state disk.new)) }
     ensures no_room { IsTrue D.tells → (places : List NameList) → AreFilePaths (D.state disk.old).tree places chosen.now
         → (jobs : FailedJobs) → IsErrOf result (Error.FailedProcessing jobs) → HasNoRoomBeside (D.state disk.old).tree places jobs (D.state disk.new).tree }
     ensures one_job { (jobs : FailedJobs) → IsErrOf result (Error.FailedProcessing jobs) → IsOneJob jobs }

@@ -2,7 +2,9 @@
 
 ghost use Rattle.std.specs.Prelude.{◌≡◌, ◌↔◌, ◌<◌, ◌≤◌, ◌⊎◌, ℕ, true, false, None, Some, IsTrue, IsSome, All};
 ghost use Rattle.sd_edge.specs.Count.{HasRisen};
+ghost use Rattle.sd_edge.specs.Disk.{MayLeave, MayLeaveSince};
 ghost use Rattle.sd_edge.specs.Paths.{reached};
+ghost use Rattle.sd_edge.specs.Tree.{Tree};
 ghost use Rattle.sd_edge.specs.Files.{LeadsNowhere};
 ghost use Rattle.sd_edge.specs.declared.fault.DiskFault.{DiskFault};
 ghost use Rattle.sd_core.specs.declared.error.Error.{Error};
@@ -10,6 +12,7 @@ ghost use Rattle.sd_core.specs.declared.error.FailedJobs.{FailedJobs};
 ghost use Rattle.sd_core.specs.Words.{TreeOrder, tree_order};
 ghost use Rattle.sd_core.specs.Globs.{IsValid, IsFirstInvalid};
 ghost use Rattle.sd_core.specs.Walk.{LeavesLists};
+ghost use Rattle.sd_core.specs.Crash.{IsOldOrNewImage, IsNewImage};
 ghost use Rattle.sd_core.specs.Headline.{LeavesTree, HasNoRoom};
 ghost use Rattle.file_exchange.specs.Causes.{HasRisenBy};
 ghost use Rattle.file_exchange.specs.Reserved.{reserved_names};
@@ -51,6 +54,12 @@ pub enum Why {
 /// listed whole before the first file is written. A file is written under a reserved name beside
 /// it and then renamed. However the run ends, each file is then old or new. Whatever goes wrong is
 /// printed to `err`, after `error: `.
+///
+/// On a disk that tells its tree a crash at any moment leaves each chosen file as one at entry could
+/// have left it, or with its mode and its new bytes. It may leave anything at the reserved names
+/// that were free in the folders of chosen files, and leaves all else as one at entry could have
+/// left it. After status 0 each crash leaves the new bytes of the chosen files whose bytes change,
+/// and all else as one at entry could have left it.
 pub fn run<D: Disk, S: Source, O: Sink, E: Sink>(
     alloc: Global,
     words: &Words,
@@ -70,6 +79,10 @@ pub fn run<D: Disk, S: Source, O: Sink, E: Sink>(
         ⊎ ((error ≡ Error.File DiskFault.Failed) × HasRisen (O.state out.old).faults (O.state out.new).faults) }
     ensures leaves { IsTrue D.tells → (order : TreeOrder) → tree_order words.now ≡ Some order
         → LeavesTree (D.state disk.old).tree order (D.state disk.new).tree }
+    ensures crash { IsTrue D.tells → (order : TreeOrder) → tree_order words.now ≡ Some order → (image : Tree)
+        → MayLeaveSince (D.state disk.new) (D.state disk.old).clock image → IsOldOrNewImage (D.state disk.old) order image }
+    ensures durable { IsTrue D.tells → (order : TreeOrder) → tree_order words.now ≡ Some order → result.status ≡ 0 → (image : Tree)
+        → MayLeave (D.state disk.new) image → IsNewImage (D.state disk.old) order image }
     ensures lists { LeavesLists (D.state disk.old) (D.state disk.new) }
     ensures refused { IsTrue D.tells → (order : TreeOrder) → tree_order words.now ≡ Some order → (error : Error) → result.why ≡ Why.Fault error
         → (out.new ≡ out.old)

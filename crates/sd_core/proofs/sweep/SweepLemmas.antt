@@ -149,7 +149,7 @@ module _ (old : Tree) (find replacement : List ℕ) where
     ]
 
     -- a place that is free now was free before
-    was_free : (place : NameList) → node_at mid place ≡ None → node_at old place ≡ None
+    pub was_free : (place : NameList) → node_at mid place ≡ None → node_at old place ≡ None
     was_free place free = elim (kept_or_new place) [
       | inl kept ↦ sym kept ∙ free
       | inr r ↦ absurd (some_not_none (file_at mid place) (ap is_some r.holds) (ap file_node free))
@@ -247,7 +247,7 @@ module _ (old : Tree) (find replacement : List ℕ) (places : List NameList) whe
       }
 
   module _ (n changed replaced : ℕ) (mid : Tree) (swept : IsSweptTo old find replacement places n changed replaced mid) (path : List ℕ) (next : IsNextFile old places n path) where
-    kept : node_at mid next.place ≡ node_at old next.place
+    pub kept : node_at mid next.place ≡ node_at old next.place
     kept = swept.rewritten.others next.place next.is_new
 
     -- the next path is still that of a file
@@ -359,7 +359,7 @@ failed_job path (Disk disk.NoMemory) e jobs of is = cc
 -- ---- the chosen files of a command
 
 module _ (old mid : Tree) (order : TreeOrder) (globs : List (List ℕ)) (paths : List (List ℕ)) (same : mid ≡ old) (one : globs ≡ order.globs) (listed : ListsChosen old order.root globs paths) where
-  chosen_places : Chosen old listed.top order.globs listed.places
+  pub chosen_places : Chosen old listed.top order.globs listed.places
   chosen_places = subst (λ (gs : List (List ℕ)). Chosen old listed.top gs listed.places) one listed.chosen
 
   -- the paths that were listed are those of files

@@ -1,5 +1,7 @@
 use Rattle.std.proofs.Common.{◌≡◌, ◌+◌, ◌∙◌, refl, sym, cond, rules, arith, add-zero, ap, Err}
 use Rattle.sd_core.proofs.sweep.SweepLemmas.{next_file, next_path, swept_none, swept_more, swept_all, left_at, no_room, failed_job}
+use Rattle.sd_edge.proofs.CrashLemmas.{since_same}
+use Rattle.sd_core.proofs.sweep.CrashLemmas.{leaves_more, lasts_none, lasts_more, lasts_all}
 use Rattle.sd_core.proofs.sweep.rewrite_all.Goals as goal
 use Rattle.sd_core.proofs.sweep.rewrite_all.Goals.{then-rewrite, else-rewrite}
 
@@ -10,6 +12,8 @@ loop-path-init g c = record {
   changed_few = omega arith;
   replaced_few = omega arith;
   swept = λ told places are. swept_none _ _ _ places;
+  crash = λ told places are. since_same _ _ _ _ (record { tree = refl; clock = refl; outcomes = refl });
+  durable = λ told places are. lasts_none _ _ places _;
 }
 
 pub rewrite_file-requires-clause-file : goal.rewrite_file-requires-clause-file
@@ -32,12 +36,24 @@ loop-path-preserved g c =
       swept = λ told places are.
           let next = next_file _ places _ _ _ _ (g.met.D.Disk.is_tree c.args.disk.now told) are c.loop-path-test.true c.as_str-path.ensures.same c.path-item.is in
           swept_more _ _ _ _ _ _ _ _ (c.loop-path.invariant.swept told places are) _ next c.in-Ok.rewrite _ _ added (c.in-Ok.ensures.rewritten told);
+      crash = λ told places are.
+          let next = next_file _ places _ _ _ _ (g.met.D.Disk.is_tree c.args.disk.now told) are c.loop-path-test.true c.as_str-path.ensures.same c.path-item.is in
+          leaves_more _ _ _ _ _ _ _ _ (c.loop-path.invariant.swept told places are) _ next _ (c.loop-path.invariant.crash told places are) (c.in-Ok.ensures.crash told);
+      durable = λ told places are.
+          let next = next_file _ places _ _ _ _ (g.met.D.Disk.is_tree c.args.disk.now told) are c.loop-path-test.true c.as_str-path.ensures.same c.path-item.is in
+          lasts_more _ _ _ _ _ _ _ _ (c.loop-path.invariant.swept told places are) _ next c.in-Ok.rewrite _ (c.in-Ok.ensures.rewritten told) (c.in-Ok.ensures.durable told) c.in-Ok.ensures.unchanged
+          (c.loop-path.invariant.durable told places are);
     }
 
 pub returns-in-Err-clause-refused : goal.returns-in-Err-clause-refused
 returns-in-Err-clause-refused g c = λ told places are.
     let next = next_file _ places _ _ _ _ (g.met.D.Disk.is_tree c.args.disk.now told) are c.loop-path-test.true c.as_str-path.ensures.same c.path-item.is in
     left_at _ _ _ _ _ _ _ _ (c.loop-path.invariant.swept told places are) _ next _ _ are (c.in-Err.ensures.refused told)
+
+pub returns-in-Err-clause-crash : goal.returns-in-Err-clause-crash
+returns-in-Err-clause-crash g c = λ told places are.
+    let next = next_file _ places _ _ _ _ (g.met.D.Disk.is_tree c.args.disk.now told) are c.loop-path-test.true c.as_str-path.ensures.same c.path-item.is in
+    leaves_more _ _ _ _ _ _ _ _ (c.loop-path.invariant.swept told places are) _ next _ (c.loop-path.invariant.crash told places are) (c.in-Err.ensures.crash told)
 
 pub returns-in-Err-clause-no_room : goal.returns-in-Err-clause-no_room
 returns-in-Err-clause-no_room g c = λ told places are jobs is.
@@ -48,3 +64,7 @@ returns-in-Err-clause-no_room g c = λ told places are jobs is.
 pub returns-clause-rewritten : goal.returns-clause-rewritten
 returns-clause-rewritten g c = λ told places are.
     swept_all _ _ _ _ _ _ _ _ are (omega arith) refl (c.loop-path.invariant.swept told places are)
+
+pub returns-clause-durable : goal.returns-clause-durable
+returns-clause-durable g c = λ told places are.
+    lasts_all _ _ places _ _ _ _ are (omega arith) (c.loop-path.invariant.durable told places are)

@@ -9,6 +9,8 @@ use Rattle.sd_core.specs.Words.{TreeOrder}
 use Rattle.sd_core.specs.WordsRead.{order_of}
 use Rattle.sd_core.proofs.top.OrderLemmas.{order_finds, rewritten_leave}
 use Rattle.sd_core.proofs.top.RunLemmas.{completes, same_fault, risen_by, no_other}
+use Rattle.sd_core.specs.Crash.{IsOldOrNewImage, IsNewImage}
+use Rattle.sd_core.proofs.sweep.CrashLemmas.{old_or_new_image, new_image}
 use Rattle.sd_core.proofs.top.run.Goals as goal
 
 pub sweep-requires : goal.sweep-requires
@@ -43,3 +45,23 @@ returns-in-Ok-print_report-clause-leaves g c = λ told order is. rewritten_leave
 
 pub returns-in-Err-print_report-clause-leaves : goal.returns-in-Err-print_report-clause-leaves
 returns-in-Err-print_report-clause-leaves g c = λ told order is. rewritten_leave c.args.words.now (order_of c.in-Some.command) order _ _ c.in-Ok.report c.in-Some.ensures is (c.in-Ok.ensures.rewritten told)
+
+pub returns-in-Err-clause-crash : goal.returns-in-Err-clause-crash
+returns-in-Err-clause-crash g c = λ told order is image may.
+    subst (λ (o : TreeOrder). IsOldOrNewImage (g.D.Disk.state c.args.disk.now) o image) (same_Some _ _ (sym c.in-Some.ensures ∙ is))
+    (old_or_new_image _ _ (order_of c.in-Some.command) image (c.in-Err.ensures.crash told) may)
+
+pub returns-in-Ok-print_report-clause-crash : goal.returns-in-Ok-print_report-clause-crash
+returns-in-Ok-print_report-clause-crash g c = λ told order is image may.
+    subst (λ (o : TreeOrder). IsOldOrNewImage (g.D.Disk.state c.args.disk.now) o image) (same_Some _ _ (sym c.in-Some.ensures ∙ is))
+    (old_or_new_image _ _ (order_of c.in-Some.command) image (c.in-Ok.ensures.crash told) may)
+
+pub returns-in-Err-print_report-clause-crash : goal.returns-in-Err-print_report-clause-crash
+returns-in-Err-print_report-clause-crash g c = λ told order is image may.
+    subst (λ (o : TreeOrder). IsOldOrNewImage (g.D.Disk.state c.args.disk.now) o image) (same_Some _ _ (sym c.in-Some.ensures ∙ is))
+    (old_or_new_image _ _ (order_of c.in-Some.command) image (c.in-Ok.ensures.crash told) may)
+
+pub returns-in-Ok-print_report-clause-durable : goal.returns-in-Ok-print_report-clause-durable
+returns-in-Ok-print_report-clause-durable g c = λ told order is done image may.
+    subst (λ (o : TreeOrder). IsNewImage (g.D.Disk.state c.args.disk.now) o image) (same_Some _ _ (sym c.in-Some.ensures ∙ is))
+    (new_image _ _ (order_of c.in-Some.command) image (c.in-Ok.ensures.durable told) may)
