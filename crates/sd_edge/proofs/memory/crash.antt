@@ -1,3 +1,3 @@
 -- What the proofs about the images of a disk in memory use.
 pub mod ImageLemmas
-pub mod SettledLemmas
+pub mod AloneLemmas

@@ -9,7 +9,7 @@ ghost use Rattle.sd_edge.specs.MemNode.{content_of};
 ghost use Rattle.sd_edge.specs.MemTree.{HasNoFreePlace, PutsDeviceAt};
 ghost use Rattle.sd_edge.specs.Disk.{SameTree, SameLists, MayLeave, outcomes_now};
 ghost use Rattle.sd_edge.specs.Log.{at_first, IsCrash};
-ghost use Rattle.sd_edge.specs.Images.{IsSettled};
+ghost use Rattle.sd_edge.specs.Images.{StandsAlone};
 ghost use Rattle.sd_edge.specs.Calls.{earliest};
 ghost use Rattle.sd_edge.specs.Files.{LeadsNowhere, Describes, Identifies, Resolves, IsNoFile, Reads, Creates, CannotCreate, IsTaken, Writes, MayHaveWritten, Syncs, Renames, CannotRename, MayHaveRenamed, Removes, CannotRemove};
 ghost use Rattle.sd_edge.specs.Lists.{IsOpen, SameOtherLists, SameOpen, Opens, IsNoDirectory, ListsDirectory, SyncsFolder, Ends, HasNoneLeft, Closes};
@@ -172,7 +172,7 @@ impl MemDisk {
     pub fn crash(&self, alloc: Global, choice: u64) -> Result<MemDisk, NoMemory>
         ensures crash { IfOk result (λ image. IsCrash (outcomes_now (mem_state self.now)) choice (mem_state image).tree) }
         ensures left { IfOk result (λ image. MayLeave (mem_state self.now) (mem_state image).tree) }
-        ensures settled { IfOk result (λ image. IsSettled (outcomes_now (mem_state image)) (mem_state image).tree) }
+        ensures alone { IfOk result (λ image. StandsAlone (outcomes_now (mem_state image)) (mem_state image).tree) }
         ensures uncalled { IfOk result IsUncalled }
     {
         Ok(MemDisk {

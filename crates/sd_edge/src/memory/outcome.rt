@@ -39,7 +39,7 @@ impl MemLeft {
     }
 
     /// What stands there in an image. Any file is the one byte 0 with mode 0.
-    fn content(&self, alloc: Global) -> Result<Option<MemContent>, NoMemory>
+    pub fn content(&self, alloc: Global) -> Result<Option<MemContent>, NoMemory>
         ensures { IfOk result (λ content. option_map content_of content ≡ crash_content (left_of self.now)) }
     {
         match self {
@@ -220,15 +220,13 @@ impl OutcomeList {
         self.outcomes.iter().any(|outcome| !outcome.left.is_gone())
     }
 
-    /// What stands there in the image of a choice, where `i` places before it have an outcome other than absent.
-    pub fn image(&self, choice: u64, i: usize) -> Result<Option<MemContent>, NoMemory>
+    /// What the image of a choice takes, where i places before this one have an outcome other than absent.
+    pub fn chosen(&self, choice: u64, i: usize) -> &MemLeft
         requires { has_other self.now ≡ true }
-        ensures { IfOk result (λ content. option_map content_of content ≡ crash_content (chosen choice i self.now)) }
+        ensures { left_of result.now ≡ chosen choice i self.now }
     {
         let rotated = choice.rotate_right((i % 64) as u32);
         let number = rotated % self.outcomes.len() as u64;
-        self.outcomes[number as usize]
-            .left
-            .content(*self.outcomes.allocator())
+        &self.outcomes[number as usize].left
     }
 }

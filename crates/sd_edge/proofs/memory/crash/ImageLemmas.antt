@@ -1,11 +1,10 @@
 -- The image of a choice grows place by place.
-use Rattle.std.proofs.Common.{◌≡◌, ◌≢◌, ◌<◌, ◌≤◌, ◌+◌, ◌%◌, ◌⊎◌, ℕ, zero, suc, List, [], ◌∷◌, ◌++◌, length, get_or, refl, sym, ◌∙◌, ap, subst, inl, inr, Bool, true, false, arith}
-use Rattle.std.specs.Prelude.{Option, Some, None, option_map, ◌&&◌, IsTrue}
-use Rattle.std.specs.declared.cmp.Ordering.{Ordering}
-use Rattle.std.specs.declared.cmp.Ordering.TheVariants.{Less, Equal, Greater}
+use Rattle.std.proofs.Common.{◌≡◌, ◌≢◌, ◌<◌, ◌≤◌, ◌+◌, ◌%◌, ◌⊎◌, ℕ, zero, suc, List, [], ◌∷◌, ◌++◌, length, get_or, refl, sym, ◌∙◌, ap, inl, inr, true, arith}
+use Rattle.std.specs.Prelude.{Option, Some, None, option_map}
+use Rattle.std.specs.declared.cmp.Ordering.TheVariants.{Less, Greater}
 use Rattle.std.specs.Ordering.{ordering_then}
 use Rattle.std.specs.Int.{w64, rotate_right}
-use Rattle.std.specs.List.{list_all, slice_get, Contains}
+use Rattle.std.specs.List.{list_all, slice_get}
 use Rattle.std.specs.List.Sorted.{IsStrictlySortedBy}
 use Rattle.std.specs.Map.{keys_of}
 use Rattle.std.proofs.Math.Nat.{mod-lt}
@@ -13,8 +12,8 @@ use Rattle.std.proofs.lemmas.Cmp.{tied_itself, nat_list_cmp_total}
 use Rattle.std.proofs.lemmas.Map.Keys.{Less-from_sorted}
 use Rattle.std.proofs.lemmas.Map.Entries.{length-keys_of}
 use Rattle.std.proofs.lemmas.Option.{slice_get_within, get_or_from_slice_get, slice_get-map, slice_get-get_or, same_Some}
-use Rattle.sd_edge.specs.Tree.{Name, NameList, name_cmp, name_list_cmp, Content, directory, link, file, other, Node, Tree, SameBut, node_at, is_directory_at, is_directory_node}
-use Rattle.sd_edge.specs.MemTree.{IsPlaceIn, Adds}
+use Rattle.sd_edge.specs.Tree.{Name, NameList, name_list_cmp, Content, directory, link, file, other, Node, Tree, node_at, is_directory_at, is_directory_node}
+use Rattle.sd_edge.specs.MemTree.{IsPlaceIn}
 use Rattle.sd_edge.specs.Outcomes.{Left, gone, this, any_file, Outcome, older, Outcomes, content_of, content_at}
 use Rattle.sd_edge.specs.Log.{fits_test, is_own_of, is_left, is_tidy, has_other, crash_content, chosen, IsKept, IsCrash}
 use Rattle.sd_edge.specs.LogHolds.{both, content_same}
@@ -48,6 +47,10 @@ there_directory (Some node) e = by node.content e
     by (link t) e = cc
     by (file b m) e = cc
     by other e = cc
+
+nothing_there : (o : Option Node) → content_of o ≡ None → o ≡ None
+nothing_there None e = refl
+nothing_there (Some node) e = cc
 
 -- each own outcome of a directory leaves it
 left_directory : (left : Left) → fits_test (Some directory) left ≡ true → crash_content left ≡ Some directory
@@ -107,27 +110,27 @@ apart_numbers k n = grind arith
 pub record ImageSoFar (choice : ℕ) (lists : Lists) (n : ℕ) (tree : Tree) : Type 0 where
   pub top : content_at tree [] ≡ Some directory
   pub taken : (k : ℕ) (q : NameList) (list : List Outcome) → k < n → slice_get lists k ≡ Some (q, list) → q ≢ [] → content_at tree q ≡ crash_content (chosen choice k list)
-  pub free : (q : NameList) → q ≢ [] → ((k : ℕ) (list : List Outcome) → k < n → slice_get lists k ≡ Some (q, list) → ⊥) → node_at tree q ≡ None
+  pub free : (q : NameList) → q ≢ [] → ((k : ℕ) (list : List Outcome) → k < n → slice_get lists k ≡ Some (q, list) → ⊥) → content_at tree q ≡ None
 
 pub image_first : (choice : ℕ) (lists : Lists) (tree : Tree) (top : Node) → node_at tree [] ≡ Some top → top.content ≡ directory → ((q : NameList) → q ≢ [] → node_at tree q ≡ None) → ImageSoFar choice lists 0 tree
 image_first choice lists tree top stands is others = record {
   top = ap content_of stands ∙ ap (λ (c : Content). Some c) is;
   taken = λ k q list low _ _. absurd (omega arith);
-  free = λ q below _. others q below;
+  free = λ q below _. ap content_of (others q below);
 }
 
 module _ (choice : ℕ) (lists : Lists) (n : ℕ) (tree : Tree) (place : NameList) (list : List Outcome) (sorted : IsStrictlySortedBy name_list_cmp (keys_of lists)) (so_far : ImageSoFar choice lists n tree)
     (here : slice_get lists n ≡ Some (place, list)) where
   -- nothing stands yet at the next place
   pub next_free : place ≢ [] → node_at tree place ≡ None
-  next_free below = so_far.free place below (λ k other low at. apart_at lists k n place place other list sorted at here low refl)
+  next_free below = nothing_there (node_at tree place) (so_far.free place below (λ k other low at. apart_at lists k n place place other list sorted at here low refl))
 
   -- one place more
-  pub image_more : (new : Tree) → SameBut place tree new → content_at new [] ≡ Some directory → (place ≢ [] → content_at new place ≡ crash_content (chosen choice n list)) → ImageSoFar choice lists (n + 1) new
+  pub image_more : (new : Tree) → ((q : NameList) → q ≢ place → content_at new q ≡ content_at tree q) → content_at new [] ≡ Some directory → (place ≢ [] → content_at new place ≡ crash_content (chosen choice n list)) → ImageSoFar choice lists (n + 1) new
   image_more new others top takes = record {
     top = top;
     taken = λ k q l low at below. elim (before_or_here k n low) [
-      | inl before ↦ ap content_of (others q (apart_at lists k n q place l list sorted at here before)) ∙ so_far.taken k q l before at below
+      | inl before ↦ others q (apart_at lists k n q place l list sorted at here before) ∙ so_far.taken k q l before at below
       | inr same ↦ now k q l same at below
     ];
     free = λ q below none.
@@ -142,16 +145,6 @@ module _ (choice : ℕ) (lists : Lists) (n : ℕ) (tree : Tree) (place : NameLis
           let place_is = ap (λ (e : NameList × List Outcome). e.0) entry_is in
           let list_is = ap (λ (e : NameList × List Outcome). e.1) entry_is in
           (λ i. content_at new (place_is i)) ∙ takes (λ e. below (place_is ∙ e)) ∙ (λ i. crash_content (chosen choice (sym same i) (sym list_is i)))
-
-  -- a node is built there
-  pub image_built : (built : NameList) (content : Content) (ino : ℕ) (new : Tree) → built ≡ place → Adds tree built content ino new → place ≢ [] → Some content ≡ crash_content (chosen choice n list) → ImageSoFar choice lists (n + 1) new
-  image_built built content ino new is adds below takes =
-      image_more new (λ q apart. adds.others q (λ e. apart (e ∙ is))) (ap content_of (adds.others [] (λ e. below (sym (e ∙ is)))) ∙ so_far.top)
-      (λ _. (λ i. content_at new (sym is i)) ∙ ap content_of adds.stands ∙ takes)
-
-  -- nothing is
-  pub image_same : (place ≢ [] → None ≡ crash_content (chosen choice n list)) → ImageSoFar choice lists (n + 1) tree
-  image_same takes = image_more tree (λ q apart. refl) so_far.top (λ below. ap content_of (next_free below) ∙ takes below)
 
 -- ---- where a node can be built
 
@@ -185,7 +178,7 @@ module _ (old : Tree) (outcomes : Outcomes) (kept : IsKept old outcomes) (lists 
             | inl low ↦ low
             | inr (inl same) ↦
                 let both_are : Some (folder, outcomes folder) ≡ Some (place, list) = sym at ∙ ap (slice_get lists) same ∙ here in
-                let place_is = ap (λ (e : NameList × List Outcome). e.0) (same_Some (folder, outcomes folder) (place, list) both_are) in
+                let place_is : folder ≡ place = ap (λ (e : NameList × List Outcome). e.0) (same_Some (folder, outcomes folder) (place, list) both_are) in
                 cc (sym later ∙ (λ i. name_list_cmp place (place_is i)), tied_itself name_list_total place)
             | inr (inr high) ↦ cc (sym later ∙ ordered_at lists n k place folder list (outcomes folder) counts.in_order here at high)
           ]
@@ -199,7 +192,7 @@ module _ (old : Tree) (outcomes : Outcomes) (kept : IsKept old outcomes) (lists 
     taken = λ i q low is. takes i q low is (same_or_other q []);
     others = λ q none.
         let below : q ≢ [] = λ e. cc (sym none ∙ (λ i. has_other (outcomes (e i))) ∙ directory_other old outcomes kept [] top) in
-        ap content_of (so_far.free q below (λ k list low at. let told = counts.told k q list at in cc (sym none ∙ ap has_other (sym told.0) ∙ told.1)));
+        so_far.free q below (λ k list low at. let told = counts.told k q list at in cc (sym none ∙ ap has_other (sym told.0) ∙ told.1));
   }
     where
       -- the entry of a place

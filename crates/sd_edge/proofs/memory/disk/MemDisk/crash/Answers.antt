@@ -18,5 +18,5 @@ returns-clause-crash c =
 pub returns-clause-left : goal.returns-clause-left
 returns-clause-left c = let self = c.args.self.now in choice_may_leave (mem_state self).tree (outcomes_now (mem_state self)) c.args.choice _ (kept_now self) (returns-clause-crash c)
 
-pub returns-clause-settled : goal.returns-clause-settled
-returns-clause-settled c = λ q. (λ i. outcomes_after (take_whole c.in_ok-crash.field-0.log.changes.items i) q) ∙ c.in_ok-crash.ensures.settled q
+pub returns-clause-alone : goal.returns-clause-alone
+returns-clause-alone c = λ q. (λ i. outcomes_after (take_whole c.in_ok-crash.field-0.log.changes.items i) q) ∙ c.in_ok-crash.ensures.alone q

@@ -1,4 +1,4 @@
-use Rattle.std.proofs.Common.{◌∙◌, ◌<◌, length, sym, ap, arith}
+use Rattle.std.proofs.Common.{◌∙◌, sym, ap}
 use Rattle.sd_edge.specs.Log.{after}
 use Rattle.sd_edge.proofs.memory.outcome_table.TableLemmas.{noted_more}
 use Rattle.sd_edge.proofs.memory.outcome_table.OutcomeTable.after.Goals as goal
