@@ -26,6 +26,10 @@ pub mod MemWalk
 pub mod MemTrail
 pub mod LogHolds
 pub mod Medium
+pub mod MemOutcome
+pub mod MemOutcomeView
+pub mod OutcomeTable
+pub mod Images
 pub mod MemDisk
 pub mod MemHolds
 pub use Rattle.sd_base.specs.Steps

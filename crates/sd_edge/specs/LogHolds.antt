@@ -17,7 +17,7 @@ both true true e = (refl, refl)
 both true false e = cc
 both false b e = cc
 
-content_same : (c d : Content) → same_content c d ≡ true → c ≡ d
+pub content_same : (c d : Content) → same_content c d ≡ true → c ≡ d
 content_same directory directory e = refl
 content_same directory (link t) e = cc
 content_same directory (file b m) e = cc
@@ -67,7 +67,7 @@ kept_tells state kept = record {
   stands = λ q node is. any_leaves (Some node.content) (own_of (outcomes_now state q)) (subst (λ o. is_left (content_of o) (outcomes_now state q) ≡ true) is (kept.present q));
 }
 
-take_whole : (changes : List Change) → take (length changes) changes ≡ changes
+pub take_whole : (changes : List Change) → take (length changes) changes ≡ changes
 take_whole changes = ap (take (length changes)) (sym (append-nil changes)) ∙ take-append_seam changes []
 
 -- the outcomes of this moment are those after all changes

@@ -57,16 +57,20 @@ pub record IsTopAlone (tree : Tree) : Type 0 where
   pub orders : (folder : NameList) → tree.order folder ≡ []
 
 -- no call was counted or is to fail, and no list was opened
-pub record IsUnused (d : MemDisk) : Type 0 where
+pub record IsUncalled (d : MemDisk) : Type 0 where
   pub calls : calls_of d ≡ 0
   pub failing : failing_calls d ≡ []
   pub stop : stop_of d ≡ None
-  pub clock : (mem_state d).clock ≡ 0
   pub faults : (mem_state d).faults ≡ 0
   pub listed : (mem_state d).listed ≡ 0
   pub open_list : (number : ℕ) → (mem_state d).open_list number ≡ None
   pub open_count : (mem_state d).open_count ≡ 0
   pub open_most : (mem_state d).open_most ≡ 0
+
+-- and no time has passed
+pub record IsUnused (d : MemDisk) : Type 0 where
+  pub uncalled : IsUncalled d
+  pub clock : (mem_state d).clock ≡ 0
 
 -- ---- what the builders do
 

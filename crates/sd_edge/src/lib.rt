@@ -29,6 +29,7 @@ pub use memory::{MemDisk, MemSink, MemSource};
 pub use meta::{Ident, Kind, ListId, Meta, RawEntry};
 pub use outcome_examples::{
     files_are_exchanged_as_in_the_examples, files_leave_outcomes_behind_as_in_the_examples,
+    images_take_outcomes_as_in_the_examples,
 };
 pub use path_texts::{
     texts_of_places_below_a_folder, texts_of_places_hold_their_names, texts_of_places_lead_there,

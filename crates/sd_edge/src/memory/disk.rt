@@ -7,12 +7,13 @@ ghost use Rattle.sd_edge.specs.Paths.{reached_plain, plain_file};
 ghost use Rattle.sd_edge.specs.OpenLists.{list_at, told_list, SameOpenLists, TakesEntry, EndsList};
 ghost use Rattle.sd_edge.specs.MemNode.{content_of};
 ghost use Rattle.sd_edge.specs.MemTree.{HasNoFreePlace, PutsDeviceAt};
-ghost use Rattle.sd_edge.specs.Disk.{SameTree, SameLists, outcomes_now};
-ghost use Rattle.sd_edge.specs.Log.{at_first};
+ghost use Rattle.sd_edge.specs.Disk.{SameTree, SameLists, MayLeave, outcomes_now};
+ghost use Rattle.sd_edge.specs.Log.{at_first, IsCrash};
+ghost use Rattle.sd_edge.specs.Images.{StandsAlone};
 ghost use Rattle.sd_edge.specs.Calls.{earliest};
 ghost use Rattle.sd_edge.specs.Files.{LeadsNowhere, Describes, Identifies, Resolves, IsNoFile, Reads, Creates, CannotCreate, IsTaken, Writes, MayHaveWritten, Syncs, Renames, CannotRename, MayHaveRenamed, Removes, CannotRemove};
 ghost use Rattle.sd_edge.specs.Lists.{IsOpen, SameOtherLists, SameOpen, Opens, IsNoDirectory, ListsDirectory, SyncsFolder, Ends, HasNoneLeft, Closes};
-ghost use Rattle.sd_edge.specs.MemDisk.{mem_state, left_entries, TakesLast, failing_calls, stop_of, calls_of, next_number, IsTopAlone, IsUnused, Builds, BuildsLike, SetsDevice, KeepsTree, KeepsCounts, IsToFail, FailsToGive, TakesNext, Skips, CountsCall};
+ghost use Rattle.sd_edge.specs.MemDisk.{mem_state, left_entries, TakesLast, failing_calls, stop_of, calls_of, next_number, IsTopAlone, IsUncalled, IsUnused, Builds, BuildsLike, SetsDevice, KeepsTree, KeepsCounts, IsToFail, FailsToGive, TakesNext, Skips, CountsCall};
 
 use crate::memory::calls::CallCounter;
 use crate::memory::medium::Medium;
@@ -162,6 +163,24 @@ impl MemDisk {
             None => None,
             Some((_, mode)) => Some(mode),
         }
+    }
+
+    /// The image that a crash leaves now, by a choice: a disk of its own, of which no call was made or is to fail, and on
+    /// which each place has one outcome. The places that have an outcome other than absent are counted from 0 in the order
+    /// of their names. The one with number i takes its outcome number (choice rotated right by i mod 64 bits) mod their
+    /// count; any file becomes the one byte 0 with mode 0. Nothing stands elsewhere.
+    pub fn crash(&self, alloc: Global, choice: u64) -> Result<MemDisk, NoMemory>
+        ensures crash { IfOk result (λ image. IsCrash (outcomes_now (mem_state self.now)) choice (mem_state image).tree) }
+        ensures left { IfOk result (λ image. MayLeave (mem_state self.now) (mem_state image).tree) }
+        ensures alone { IfOk result (λ image. StandsAlone (outcomes_now (mem_state image)) (mem_state image).tree) }
+        ensures uncalled { IfOk result IsUncalled }
+    {
+        Ok(MemDisk {
+            alloc,
+            medium: self.medium.crash(alloc, choice)?,
+            lists: OpenLists::new(alloc),
+            counter: CallCounter::new(alloc),
+        })
     }
 
     /// How many calls were counted.

@@ -68,6 +68,13 @@ impl MemNode {
         })
     }
 
+    /// A copy of what the node is.
+    pub fn content(&self, alloc: Global) -> Result<MemContent, NoMemory>
+        ensures { IfOk result (λ copy. content_of copy ≡ self.now.content) }
+    {
+        self.content.try_clone(alloc)
+    }
+
     pub fn kind(&self) -> Kind
         ensures { result ≡ kind_of self.now.content }
     {

@@ -5,6 +5,8 @@ ghost use Rattle.sd_edge.specs.Paths.{parent_of};
 ghost use Rattle.sd_edge.specs.Files.{path_text};
 ghost use Rattle.sd_edge.specs.MemNode.{now_of};
 ghost use Rattle.sd_edge.specs.MemTree.{name_below};
+ghost use Rattle.sd_edge.specs.MemTrail.{begins_with};
+ghost use Rattle.sd_edge.specs.Outcomes.{is_in};
 
 use crate::{NoMemory, Text};
 use std::alloc::Global;
@@ -58,6 +60,23 @@ impl Place {
         } else {
             None
         }
+    }
+
+    /// Whether the place lies directly in this folder.
+    pub fn is_in(&self, folder: &Place) -> bool
+        ensures { result ≡ is_in folder.now self.now }
+    {
+        match self.names.split_last() {
+            None => false,
+            Some((_, front)) => front == folder.names.as_slice(),
+        }
+    }
+
+    /// Whether the place is this one or lies below it.
+    pub fn is_within(&self, place: &Place) -> bool
+        ensures { result ≡ begins_with place.now self.now }
+    {
+        self.names.as_slice().starts_with(place.names.as_slice())
     }
 
     /// Goes on to a name in this place.

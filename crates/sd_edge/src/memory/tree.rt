@@ -87,7 +87,7 @@ impl MemTree {
     }
 
     /// The device of the node at a place, 0 where nothing stands.
-    fn dev(&self, place: &Place) -> u64
+    pub fn dev(&self, place: &Place) -> u64
         ensures { result ≡ dev_at (mem_tree self.now) place.now }
     {
         match self.node(place) {

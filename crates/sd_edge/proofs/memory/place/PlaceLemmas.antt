@@ -8,6 +8,7 @@ use Rattle.std.proofs.lemmas.List.{take_more, length-take}
 use Rattle.sd_edge.specs.Tree.{Name, NameList}
 use Rattle.sd_edge.specs.Files.{path_text}
 use Rattle.sd_edge.specs.MemTree.{name_below}
+use Rattle.sd_edge.specs.MemTrail.{begins_with}
 
 -- ---- the name of a place in a folder
 
@@ -36,6 +37,18 @@ below_last (m ∷ folder) (n ∷ front) name =
 -- a place lies in the folder of its other names, under its last name
 pub name_below_last : (folder place front : NameList) (name : Name) (test : Bool) → place ≡ front ++ name ∷ [] → test ≡ pointwise bytes_eq front folder → name_below folder place ≡ cond test (Some name) None
 name_below_last folder place front name test is tested = ap (name_below folder) is ∙ below_last folder front name ∙ ap (λ b. cond b (Some name) None) (sym tested)
+
+-- ---- a place that begins with another
+
+and_if : (a b : Bool) → (a && b) ≡ cond a b false
+and_if true b = refl
+and_if false b = refl
+
+-- a place begins with another where its first names are those
+pub starts_as : (place q : NameList) → pointwise bytes_eq place (take (length place) q) ≡ begins_with place q
+starts_as [] q = refl
+starts_as (name ∷ place) [] = refl
+starts_as (name ∷ place) (other ∷ q) = ap (λ b. bytes_eq name other && b) (starts_as place q) ∙ and_if (bytes_eq name other) (begins_with place q)
 
 -- ---- the text of a path
 

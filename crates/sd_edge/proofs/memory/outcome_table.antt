@@ -1,0 +1,2 @@
+-- What the proofs about the outcomes of all places use.
+pub mod TableLemmas
