@@ -1,0 +1,149 @@
+//! What a crash leaves of a run, and of a disk in memory.
+
+use crate::runs::{CALLS, TREE_COMMAND, holds, run_words, two_files};
+use sd_edge::{Disk, Kind, MemDisk};
+use std::alloc::Global;
+use std::test::Fail;
+
+/// The first choices of an image.
+const CHOICES: u64 = 16;
+
+/// Whether a name is that of a temporary file.
+fn is_reserved(name: &str) -> bool {
+    name.len() == 12 && name.starts_with(".sd-") && name.ends_with(".tmp")
+}
+
+/// How many entries of `/t` have other names than the two files and temporary ones. There are at most four.
+fn strangers(alloc: Global, disk: &mut MemDisk) -> Result<usize, Fail> {
+    let list = disk.open_dir("/t")?;
+    let mut count = 0;
+    for _ in 0..4 {
+        if let Some(entry) = disk.next_entry(alloc, list)? {
+            let name = entry.name.as_str();
+            if name != "a.txt" && name != "b.md" && !is_reserved(name) {
+                count += 1;
+            }
+        }
+    }
+    if disk.next_entry(alloc, list)?.is_some() {
+        count += 1;
+    }
+    Ok(count)
+}
+
+#[test]
+fn each_stop_and_crash_leaves_the_file_old_or_new(rt: HostRuntime) -> Result<(), Fail> {
+    let alloc = rt.alloc();
+    for call in 1..=CALLS {
+        let mut disk = two_files(alloc)?;
+        disk.stop_at(call);
+        let _run = run_words(alloc, &mut disk, &TREE_COMMAND, 1000)?;
+        for choice in 0..CHOICES {
+            let mut image = disk.crash(alloc, choice)?;
+            let old = holds(alloc, &image, "/t/a.txt", b"one two one")?;
+            let new = holds(alloc, &image, "/t/a.txt", b"1 two 1")?;
+            assert!(rt; old || new, "call {call}, choice {choice}");
+            assert_eq!(rt;
+                image.mode_at("/t/a.txt"),
+                Some(0o640),
+                "call {call}, choice {choice}"
+            );
+            assert!(rt;
+                holds(alloc, &image, "/t/b.md", b"one")?,
+                "call {call}, choice {choice}"
+            );
+            assert_eq!(rt;
+                strangers(alloc, &mut image)?,
+                0,
+                "call {call}, choice {choice}"
+            );
+        }
+    }
+    Ok(())
+}
+
+#[test]
+fn after_a_run_each_crash_leaves_the_new_file_alone(rt: HostRuntime) -> Result<(), Fail> {
+    let alloc = rt.alloc();
+    let mut disk = two_files(alloc)?;
+    let run = run_words(alloc, &mut disk, &TREE_COMMAND, 1000)?;
+    assert_eq!(rt; run.ended.status, 0);
+    for choice in 0..CHOICES {
+        let image = disk.crash(alloc, choice)?;
+        assert!(rt;
+            holds(alloc, &image, "/t/a.txt", b"1 two 1")?,
+            "choice {choice}"
+        );
+        assert_eq!(rt; image.mode_at("/t/a.txt"), Some(0o640), "choice {choice}");
+        assert_eq!(rt; image.mode_at("/t/.sd-0000.tmp"), None, "choice {choice}");
+    }
+    Ok(())
+}
+
+#[test]
+fn a_disk_as_built_is_its_own_image(rt: HostRuntime) -> Result<(), Fail> {
+    let alloc = rt.alloc();
+    let mut disk = two_files(alloc)?;
+    disk.add_link("/l", "t")?;
+    disk.add_other("/t/socket")?;
+    let mut image = disk.crash(alloc, 0)?;
+    assert!(rt; holds(alloc, &image, "/t/a.txt", b"one two one")?);
+    assert_eq!(rt; image.mode_at("/t/a.txt"), Some(0o640));
+    assert!(rt; holds(alloc, &image, "/t/b.md", b"one")?);
+    assert_eq!(rt; image.resolve(alloc, "/l/a.txt")?.as_str(), "/t/a.txt");
+    assert_eq!(rt; image.stat("/t/socket", false)?.kind, Kind::Other);
+    assert_eq!(rt; strangers(alloc, &mut image)?, 1);
+    Ok(())
+}
+
+/// Whether one of the first choices leaves nothing at the path.
+fn may_be_absent(alloc: Global, disk: &MemDisk, path: &str) -> Result<bool, Fail> {
+    for choice in 0..CHOICES {
+        if disk.crash(alloc, choice)?.mode_at(path).is_none() {
+            return Ok(true);
+        }
+    }
+    Ok(false)
+}
+
+#[test]
+fn a_file_that_was_away_may_be_absent_until_its_folder_is_synced(
+    rt: HostRuntime,
+) -> Result<(), Fail> {
+    let alloc = rt.alloc();
+    let mut disk = two_files(alloc)?;
+    disk.rename("/t/a.txt", "/t/a.txt")?;
+    assert!(rt; !may_be_absent(alloc, &disk, "/t/a.txt")?);
+    disk.rename("/t/a.txt", "/t/c.txt")?;
+    assert!(rt; may_be_absent(alloc, &disk, "/t/a.txt")?);
+    disk.rename("/t/c.txt", "/t/a.txt")?;
+    assert!(rt; may_be_absent(alloc, &disk, "/t/a.txt")?);
+    disk.sync_dir("/t")?;
+    assert!(rt; !may_be_absent(alloc, &disk, "/t/a.txt")?);
+    assert!(rt; holds(alloc, &disk, "/t/a.txt", b"one two one")?);
+    Ok(())
+}
+
+#[test]
+fn a_file_that_was_written_in_place_may_hold_anything_until_it_is_synced(
+    rt: HostRuntime,
+) -> Result<(), Fail> {
+    let alloc = rt.alloc();
+    let mut disk = two_files(alloc)?;
+    disk.write_file("/t/b.md", b"two")?;
+    let before = disk.crash(alloc, 0)?;
+    assert!(rt; holds(alloc, &before, "/t/b.md", b"one")?);
+    disk.sync("/t/b.md")?;
+    let run = run_words(
+        alloc,
+        &mut disk,
+        &["--root", "/t", "--", "two", "2", "*"],
+        1000,
+    )?;
+    assert_eq!(rt; run.ended.status, 0);
+    for choice in 0..CHOICES {
+        let image = disk.crash(alloc, choice)?;
+        assert!(rt; holds(alloc, &image, "/t/b.md", b"2")?, "choice {choice}");
+    }
+    Ok(())
+}
