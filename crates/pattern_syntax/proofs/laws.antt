@@ -1,2 +1,3 @@
 pub mod CharacterLemmas
 pub mod OneAtomLemmas
+pub mod OneClassLemmas
