@@ -1,3 +1,4 @@
 pub mod CharacterLemmas
 pub mod OneAtomLemmas
 pub mod OneClassLemmas
+pub mod OneTokenLemmas

@@ -45,7 +45,7 @@ one_blank k (comment cs) (comment ds) s t f g h =
 
 -- ---- members that are a character or an escape
 
-escape_first : (a : Atom) (t : List ℕ) → IsEscape a → head (write_atom a t) ≡ 92
+pub escape_first : (a : Atom) (t : List ℕ) → IsEscape a → head (write_atom a t) ≡ 92
 escape_first (character c) t x = absurd x
 escape_first (escaped c) t x = refl
 escape_first (control c) t x = refl
@@ -67,7 +67,7 @@ one_standing k a b s t (inl (c, (e, n))) (inr (x, f)) h = absurd (n (ap head (ap
 one_standing k a b s t (inr (x, f)) (inl (d, (i, m))) h = absurd (m (ap head (ap (λ b. write_atom b t) (sym i) ∙ sym h) ∙ escape_first a s x))
 one_standing k a b s t (inr (x, f)) (inr (y, g)) h = one_escape k a b s t x y h f g
 
-not_among : (c d : ℕ) (cs : List ℕ) → has d cs ≡ true → has c cs ≡ false → c ≡ d → ⊥
+pub not_among : (c d : ℕ) (cs : List ℕ) → has d cs ≡ true → has c cs ≡ false → c ≡ d → ⊥
 not_among c d cs h none e = true≢false (sym h ∙ ap (λ z. has z cs) (sym e) ∙ none)
 
 pub member_stands : (k : Flags) (a : Atom) (t : List ℕ) → FineMember k a t → Stands k a t
