@@ -98,7 +98,7 @@ one_member k a b s t f g h = one_standing k a b s t (member_stands k a s f) (mem
 one_second : (k : Flags) (a b : Atom) (s t : List ℕ) → FineSecond k a s → FineSecond k b t → write_atom a s ≡ write_atom b t → (a ≡ b) × (s ≡ t)
 one_second k a b s t f g h = one_standing k a b s t (second_stands k a s f) (second_stands k b t g) h
 
-no_start : (k : Flags) (c : ℕ) → is_blank_start k c ≡ false → k.spaces ≡ true → (is_white_space c ≡ false) × ((c == 35) ≡ false)
+pub no_start : (k : Flags) (c : ℕ) → is_blank_start k c ≡ false → k.spaces ≡ true → (is_white_space c ≡ false) × ((c == 35) ≡ false)
 no_start k c none on =
     let h : (is_white_space c || (c == 35)) ≡ false = sym (ap (λ b. b && (is_white_space c || (c == 35))) on) ∙ none in
     (no_or_left (is_white_space c) (c == 35) h, no_or_right (is_white_space c) (c == 35) h)

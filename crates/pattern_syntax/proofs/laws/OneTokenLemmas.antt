@@ -205,7 +205,7 @@ atom_or_look k a x s t (inl (c, (e, n))) h = n (ap head (ap (λ a. write_atom a 
 atom_or_look k a x s t (inr (esc, f)) h = escape_or_look k a x s t esc f h
 
 -- by its first character a text is of one kind: these begin something, and all others are characters
-abbrev kind_at : ℕ → ℕ
+abbrev pub kind_at : ℕ → ℕ
 kind_at c =
     if c == 92 then 1 else if c == 46 then 2 else if c == 94 then 3 else if c == 36 then 4 else if c == 91 then 5 else
     if c == 124 then 6 else if c == 40 then 7 else if c == 41 then 8 else 0
@@ -217,7 +217,7 @@ skip_by c d x y false e none some = refl
 skip : (c d x y : ℕ) → is_special c ≡ false → is_special d ≡ true → (if c == d then x else y) ≡ y
 skip c d x y none some = skip_by c d x y (c == d) refl none some
 
-plain_kind : (c : ℕ) → is_special c ≡ false → kind_at c ≡ 0
+pub plain_kind : (c : ℕ) → is_special c ≡ false → kind_at c ≡ 0
 plain_kind c none =
     skip c 92 1 _ none refl ∙ skip c 46 2 _ none refl ∙ skip c 94 3 _ none refl ∙ skip c 36 4 _ none refl
     ∙ skip c 91 5 _ none refl ∙ skip c 124 6 _ none refl ∙ skip c 40 7 _ none refl ∙ skip c 41 8 0 none refl
@@ -333,7 +333,7 @@ token_begins k (item x) t f = single_begins k x t f
 token_begins k (opens m) t f = opens_begins m t
 token_begins k closes t f = refl
 
-single_low : (x : Single) (n : ℕ) → nat_lt 5 n ≡ true → single_kind x ≡ n → ⊥
+pub single_low : (x : Single) (n : ℕ) → nat_lt 5 n ≡ true → single_kind x ≡ n → ⊥
 single_low (atom (character c)) n h e = true≢false (sym h ∙ ap (nat_lt 5) (sym e))
 single_low (atom (escaped c)) n h e = true≢false (sym h ∙ ap (nat_lt 5) (sym e))
 single_low (atom (control c)) n h e = true≢false (sym h ∙ ap (nat_lt 5) (sym e))
