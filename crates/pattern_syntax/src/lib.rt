@@ -13,6 +13,7 @@ mod readings;
 mod reads_examples;
 mod repetitions;
 mod rows;
+mod runs;
 mod sets;
 mod singles;
 
