@@ -1,3 +1,4 @@
+pub mod BlankSplits
 pub mod BlanksLemmas
 pub mod ClassMoves
 pub mod ClassSteps

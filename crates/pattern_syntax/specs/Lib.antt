@@ -1,11 +1,14 @@
 pub mod Atom
 pub mod Class
 pub mod ClassProgress
+pub mod CountReaders
 pub mod Examples
 pub mod Flags
+pub mod OpeningReaders
 pub mod Progress
 pub mod Readers
 pub mod Reads
+pub mod Runs
 pub mod SetTree
 pub mod Sets
 pub mod Syntax

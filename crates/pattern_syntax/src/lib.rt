@@ -5,6 +5,7 @@ mod blanks;
 mod class_trees;
 mod classes;
 mod escapes;
+mod flag_lists;
 mod flags;
 mod folding;
 mod laws;
@@ -13,6 +14,7 @@ mod readings;
 mod reads_examples;
 mod repetitions;
 mod rows;
+mod runs;
 mod sets;
 mod singles;
 
