@@ -2,12 +2,15 @@
 #![tactic(auto)]
 
 mod blanks;
+mod categories;
 mod class_trees;
 mod classes;
+mod codes;
 mod escapes;
 mod flags;
 mod folding;
 mod laws;
+mod octal;
 mod openings;
 mod readings;
 mod reads_examples;
@@ -15,6 +18,7 @@ mod repetitions;
 mod rows;
 mod sets;
 mod singles;
+mod spelling;
 
 pub use blanks::{behind_blanks, makes_range};
 pub use class_trees::{bytes, characters, class_of_bytes, class_of_characters};
