@@ -9,5 +9,6 @@ pub mod Readers
 pub mod Reads
 pub mod SetTree
 pub mod Sets
+pub mod Singles
 pub mod Syntax
 pub mod Tokens

@@ -1,7 +1,7 @@
 //! Escapes.
 
 ghost use Rattle.std.specs.Prelude.{◌≡◌, ◌<◌, ◌∷◌, ℕ, List, IfOk, IfSome, IfNone, codes, drop, length};
-ghost use Rattle.pattern_syntax.specs.declared.flags.Flags.{Flags as Spoken};
+ghost use Rattle.pattern_syntax.specs.declared.flags.Flags.{Flags as AnyFlags};
 ghost use Rattle.pattern_syntax.specs.Flags.{has};
 ghost use Rattle.pattern_syntax.specs.Atom as atom;
 ghost use Rattle.pattern_syntax.specs.Escapes.{IsEscapeLetter, IsKindRead, IsPlain, IsPerl};
@@ -51,7 +51,7 @@ fn control_of(letter: char) -> Option<char>
 /// A character that a `\` takes its meaning from, or a control character.
 fn read_plain(text: &[char], at: usize, letter: char) -> Option<(Member, usize)>
     requires { IsEscapeLetter text.now at letter }
-    ensures { (k : Spoken) → IsKindRead IsPlain k text.now at result }
+    ensures { (k : AnyFlags) → IsKindRead IsPlain k text.now at result }
 {
     if is_escapable(letter) {
         return Some((Member::Character(letter), at + 2));

@@ -10,6 +10,8 @@ mod escapes;
 mod flags;
 mod folding;
 mod laws;
+mod literals;
+mod looks;
 mod octal;
 mod openings;
 mod readings;
