@@ -2,6 +2,7 @@ pub mod Atom
 pub mod Class
 pub mod ClassProgress
 pub mod CountReaders
+pub mod Escapes
 pub mod Examples
 pub mod Flags
 pub mod OpeningReaders
@@ -11,5 +12,6 @@ pub mod Reads
 pub mod Runs
 pub mod SetTree
 pub mod Sets
+pub mod Singles
 pub mod Syntax
 pub mod Tokens

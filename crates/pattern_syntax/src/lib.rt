@@ -2,13 +2,18 @@
 #![tactic(auto)]
 
 mod blanks;
+mod categories;
 mod class_trees;
 mod classes;
+mod codes;
 mod escapes;
 mod flag_lists;
 mod flags;
 mod folding;
 mod laws;
+mod literals;
+mod looks;
+mod octal;
 mod openings;
 mod readings;
 mod reads_examples;
@@ -17,6 +22,7 @@ mod rows;
 mod runs;
 mod sets;
 mod singles;
+mod spelling;
 
 pub use blanks::{behind_blanks, makes_range};
 pub use class_trees::{bytes, characters, class_of_bytes, class_of_characters};
