@@ -30,7 +30,10 @@ pub use classes::read_class;
 pub use escapes::read_escape;
 pub use flags::Flags;
 pub use folding::folded;
-pub use laws::{a_class_with_its_set_has_one_list_of_ranges, folded_sets_have_what_folds_alike};
+pub use laws::{
+    a_class_with_its_set_has_one_list_of_ranges, a_text_has_at_most_one_reading,
+    folded_sets_have_what_folds_alike,
+};
 pub use openings::read_opening;
 pub use readings::{BracketClass, Item, Literals, Member, Opening, Repetition};
 pub use reads_examples::{
