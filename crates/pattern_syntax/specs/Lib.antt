@@ -1,6 +1,7 @@
 pub mod Atom
 pub mod Class
 pub mod ClassProgress
+pub mod ClassReading
 pub mod Examples
 pub mod Flags
 pub mod Progress
