@@ -1,5 +1,5 @@
 -- What the code has of a class that it reads, and how the reading goes on from there.
-use Rattle.std.specs.Prelude.{◌≡◌, ◌<◌, ◌≤◌, ℕ, ◌+◌, Bool, true, false, ◌==◌, ◌&&◌, ◌||◌, nat_le, codes, if◌then◌else◌, List, [], ◌∷◌, drop, length, map, Option, Some, None}
+use Rattle.std.specs.Prelude.{◌≡◌, ◌<◌, ◌≤◌, ℕ, ◌+◌, Bool, true, false, ◌==◌, ◌&&◌, ◌||◌, nat_le, codes, if◌then◌else◌, List, [], ◌∷◌, ◌++◌, drop, length, map, Option, Some, None}
 use Rattle.regex_class.specs.declared.Class.{Class}
 use Rattle.regex_class.specs.Ranges.{in_ranges}
 use Rattle.pattern_syntax.specs.declared.flags.Flags.{Flags}
@@ -157,6 +157,17 @@ pub record NameAt (k : Flags) (text : List ℕ) (at : ℕ) (read : Class) (next 
 abbrev pub IsNameRead : Flags → List ℕ → ℕ → Option (Class × ℕ) → Type 0
 IsNameRead k text at (Some read) = NameAt k text at read.0 read.1
 IsNameRead k text at None = begins_name (drop at text) ≡ false
+
+-- a name up to its letters
+abbrev pub open_name : Bool → List ℕ → List ℕ
+open_name true t = codes "[:^" ++ t
+open_name false t = codes "[:" ++ t
+
+-- a name may begin, which is negated or not, and its letters would stand at a place
+abbrev pub IsNameOpen : List ℕ → ℕ → Option (Bool × ℕ) → Type 0
+IsNameOpen text at (Some read) =
+    (drop at text ≡ open_name read.0 (drop read.1 text)) × (read.0 ≡ false → begins 94 (drop read.1 text) ≡ false) × (at < read.1) × (read.1 ≤ length text)
+IsNameOpen text at None = (t : List ℕ) → drop at text ≡ codes "[:" ++ t → ⊥
 
 -- behind the small letters
 abbrev pub after_letters : List ℕ → List ℕ

@@ -1,6 +1,6 @@
 //! Members of classes that are characters or escapes.
 
-ghost use Rattle.std.specs.Prelude.{◌≡◌, ◌<◌, ◌≤◌, IfOk, drop, length, true};
+ghost use Rattle.std.specs.Prelude.{◌≡◌, ◌<◌, ◌≤◌, ◌||◌, IfOk, drop, length, nat_lt, true};
 ghost use Rattle.pattern_syntax.specs.Class.{makes_range};
 ghost use Rattle.pattern_syntax.specs.ClassReading.{IsMemberRead, IsSecondRead};
 
@@ -18,6 +18,13 @@ pub(crate) enum ClassMember {
     Many(Class),
 }
 
+/// Whether a character may be a member: with `u` off it is ASCII.
+fn is_allowed(c: char, flags: Flags) -> bool
+    ensures { result ≡ (flags.unicode || nat_lt c 128) }
+{
+    flags.unicode || c.is_ascii()
+}
+
 /// The character or the escape at a place, and the place behind it, if one stands there that may be a member.
 /// Refuses for want of memory alone.
 pub(crate) fn read_member(
@@ -31,7 +38,7 @@ pub(crate) fn read_member(
 {
     let c = text[at];
     if c != '\\' {
-        if !flags.unicode && c > '\x7f' {
+        if !is_allowed(c, flags) {
             return Ok(None);
         }
         return Ok(Some((ClassMember::Single(c), at + 1)));
@@ -41,7 +48,7 @@ pub(crate) fn read_member(
     };
     match escape {
         Member::Character(c) => {
-            if !flags.unicode && c > '\x7f' {
+            if !is_allowed(c, flags) {
                 return Ok(None);
             }
             Ok(Some((ClassMember::Single(c), behind)))
@@ -68,8 +75,11 @@ pub(crate) fn read_second(
     if place == text.len() || text[place] == '[' {
         return Ok(None);
     }
-    match read_member(alloc, text, place, flags)? {
-        Some((ClassMember::Single(c), behind)) => Ok(Some((c, behind))),
-        _ => Ok(None),
-    }
+    let Some((member, behind)) = read_member(alloc, text, place, flags)? else {
+        return Ok(None);
+    };
+    let ClassMember::Single(c) = member else {
+        return Ok(None);
+    };
+    Ok(Some((c, behind)))
 }

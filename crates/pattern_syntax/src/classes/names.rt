@@ -1,7 +1,7 @@
 //! Names of sets in classes.
 
 ghost use Rattle.std.specs.Prelude.{◌≡◌, ◌<◌, ◌≤◌, IfOk, drop, length, slice_index};
-ghost use Rattle.pattern_syntax.specs.ClassReading.{IsNameRead, after_letters};
+ghost use Rattle.pattern_syntax.specs.ClassReading.{IsNameOpen, IsNameRead, after_letters};
 
 use crate::{Flags, ascii_set, complement};
 use regex_class::Class;
@@ -22,6 +22,21 @@ fn behind_letters(text: &[char], at: usize) -> usize
     place
 }
 
+/// Whether the name that a `[:` begins is negated, and where its letters would stand, if one may begin at a `[`.
+fn open_name(text: &[char], at: usize) -> Option<(bool, usize)>
+    requires within { at < length text.now }
+    requires opens { slice_index text.now at ≡ 91 }
+    ensures { IsNameOpen text.now at result }
+{
+    if at + 1 == text.len() || text[at + 1] != ':' {
+        return None;
+    }
+    if at + 2 < text.len() && text[at + 2] == '^' {
+        return Some((true, at + 3));
+    }
+    Some((false, at + 2))
+}
+
 /// The set that has its name in `[: :]` at a `[`, and the place behind it, if one has. Refuses for want of memory alone.
 pub(crate) fn read_name(
     alloc: Global,
@@ -33,22 +48,18 @@ pub(crate) fn read_name(
     requires opens { slice_index text.now at ≡ 91 }
     ensures { IfOk result (IsNameRead flags text.now at) }
 {
-    if at + 1 == text.len() || text[at + 1] != ':' {
+    let Some((negated, start)) = open_name(text, at) else {
         return Ok(None);
-    }
-    let negated = at + 2 < text.len() && text[at + 2] == '^';
-    let start = if negated { at + 3 } else { at + 2 };
+    };
     let end = behind_letters(text, start);
-    if end + 1 >= text.len() || text[end] != ':' || text[end + 1] != ']' {
+    if !text[end..].starts_with(&[':', ']']) {
         return Ok(None);
     }
     let Some(set) = ascii_set(alloc, &text[start..end])? else {
         return Ok(None);
     };
-    let set = if negated {
-        complement(&set, flags)?
-    } else {
-        set
-    };
-    Ok(Some((set, end + 2)))
+    if !negated {
+        return Ok(Some((set, end + 2)));
+    }
+    Ok(Some((complement(&set, flags)?, end + 2)))
 }

@@ -1,8 +1,9 @@
 //! What was read of a class that is open.
 
-ghost use Rattle.std.specs.Prelude.{◌≡◌, ℕ, [], ◌∷◌, IfOk, OnOk};
+ghost use Rattle.std.specs.Prelude.{◌≡◌, ℕ, [], ◌∷◌, ◌==◌, ◌&&◌, ◌||◌, nat_lt, IfOk, OnOk};
 ghost use Rattle.regex_class.specs.Ranges.{in_ranges};
 ghost use Rattle.pattern_syntax.specs.Class as class;
+ghost use Rattle.pattern_syntax.specs.ClassProgress as progress;
 ghost use Rattle.pattern_syntax.specs.ClassProgress.{bracketed, literals_in, start, whole_class, with_member, with_operation};
 ghost use Rattle.pattern_syntax.specs.ClassReading.{IsHead, code_part, frame_of, framed, held, left_depth, level_of, operation_of, waiting_of};
 ghost use Rattle.pattern_syntax.specs.Readers.{IsSet};
@@ -58,13 +59,7 @@ impl OpenClass {
     pub fn new(alloc: Global, head: ClassHead) -> Result<OpenClass, NoMemory>
         ensures { IfOk result (λ new. (h : class.Head) → IsHead head h → frame_of new ≡ framed (class.is_negated h) (start h)) }
     {
-        let mut ranges = Vec::new(alloc);
-        if head.dashes > 0 {
-            push(&mut ranges, '-')?;
-        }
-        if head.bracket {
-            push(&mut ranges, ']')?;
-        }
+        let ranges = leading(alloc, head)?;
         let bracket = usize::from(head.bracket);
         let count = head.dashes.checked_add(bracket).ok_or(NoMemory)?;
         Ok(OpenClass {
@@ -92,10 +87,7 @@ impl OpenClass {
         self.count = self.count.checked_add(1).ok_or(NoMemory)?;
         self.ranges.extend_from_slice(ranges)?;
         self.deepest = self.deepest.max(depth);
-        self.literals = Literals {
-            any: self.literals.any || literals.any,
-            uppercase: self.literals.uppercase || literals.uppercase,
-        };
+        self.literals = in_both(self.literals, literals);
         Ok(())
     }
 
@@ -103,21 +95,14 @@ impl OpenClass {
     pub fn add_character(&mut self, c: char) -> Result<(), NoMemory>
         ensures { OnOk result (frame_of self.new ≡ framed self.old.negated (with_member (λ d. class.matches_one (Some c) d) 0 (literals_in (c ∷ [])) (level_of self.old))) }
     {
-        let literals = Literals {
-            any: true,
-            uppercase: is_uppercase(c),
-        };
-        self.add(&[(u32::from(c), u32::from(c))], 0, literals)
+        self.add(&[(u32::from(c), u32::from(c))], 0, literal(c))
     }
 
     /// Adds the characters from one to another. Refuses for want of memory alone.
     pub fn add_range(&mut self, low: char, high: char) -> Result<(), NoMemory>
         ensures { OnOk result (frame_of self.new ≡ framed self.old.negated (with_member (class.range_set (Some low) (Some high)) 0 (literals_in (low ∷ high ∷ [])) (level_of self.old))) }
     {
-        let literals = Literals {
-            any: true,
-            uppercase: is_uppercase(low) || is_uppercase(high),
-        };
+        let literals = in_both(literal(low), literal(high));
         self.add(&[(u32::from(low), u32::from(high))], 0, literals)
     }
 
@@ -191,7 +176,8 @@ impl OpenClass {
     pub fn end(self, flags: Flags) -> Result<BracketClass, NoMemory>
         ensures { IfOk result (λ ended. code_part ended ≡ bracketed flags self.negated (whole_class flags (level_of self) class.close)) }
     {
-        let depth = self.depth()?.checked_add(1).ok_or(NoMemory)?;
+        let nested = self.depth()?;
+        let depth = nested.checked_add(1).ok_or(NoMemory)?;
         let OpenClass {
             negated,
             left,
@@ -200,18 +186,56 @@ impl OpenClass {
             deepest: _,
             literals,
         } = self;
-        let inner = closed(side(left, ranges, flags)?, flags)?;
-        let set = if negated {
-            complement(&inner, flags)?
-        } else {
-            inner
-        };
+        let whole = side(left, ranges, flags)?;
+        let inner = closed(whole, flags)?;
+        if !negated {
+            return Ok(BracketClass {
+                set: inner,
+                depth,
+                literals,
+            });
+        }
+        let set = complement(&inner, flags)?;
         Ok(BracketClass {
             set,
             depth,
             literals,
         })
     }
+}
+
+/// What one literal character makes of a class.
+fn literal(c: char) -> Literals
+    ensures { result ≡ literals_in (c ∷ []) }
+{
+    Literals {
+        any: true,
+        uppercase: is_uppercase(c),
+    }
+}
+
+/// The literal characters of two parts.
+fn in_both(first: Literals, second: Literals) -> Literals
+    ensures { result ≡ progress.in_both first second }
+{
+    Literals {
+        any: first.any || second.any,
+        uppercase: first.uppercase || second.uppercase,
+    }
+}
+
+/// The leading members. Refuses for want of memory alone.
+fn leading(alloc: Global, head: ClassHead) -> Result<Vec<ClassRange>, NoMemory>
+    ensures { IfOk result (λ ranges. (c : ℕ) → held ranges.items c ≡ ((c == 45 && nat_lt 0 head.dashes) || (c == 93 && head.bracket))) }
+{
+    let mut ranges = Vec::new(alloc);
+    if head.dashes > 0 {
+        push(&mut ranges, '-')?;
+    }
+    if head.bracket {
+        push(&mut ranges, ']')?;
+    }
+    Ok(ranges)
 }
 
 /// Adds a character to ranges. Refuses for want of memory alone.
@@ -245,10 +269,9 @@ fn side(
 fn combined(first: &Class, second: &Class, operation: Operation) -> Result<Class, NoMemory>
     ensures { IfOk result (λ set. IsSet set (class.combined (operation_of operation) (in_ranges first.now.ranges.items) (in_ranges second.now.ranges.items))) }
 {
-    let set = match operation {
-        Operation::Both => first.intersection(second)?,
-        Operation::Minus => first.difference(second)?,
-        Operation::Either => first.symmetric_difference(second)?,
-    };
-    Ok(set)
+    match operation {
+        Operation::Both => Ok(first.intersection(second)?),
+        Operation::Minus => Ok(first.difference(second)?),
+        Operation::Either => Ok(first.symmetric_difference(second)?),
+    }
 }

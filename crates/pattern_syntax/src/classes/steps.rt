@@ -1,9 +1,8 @@
 //! The steps of a reading of classes.
 
-ghost use Rattle.std.specs.Prelude.{◌≡◌, ◌<◌, ◌≤◌, ◌++◌, ◌∷◌, [], ◌||◌, false, true, IfOk, drop, length, map, slice_index};
-ghost use Rattle.pattern_syntax.specs.Atom.{Atom, single_of};
-ghost use Rattle.pattern_syntax.specs.Class.{begins_name, fits, makes_range, write_operation};
-ghost use Rattle.pattern_syntax.specs.ClassReading.{IsAtomAt, IsOperationRead, Steps, begins_member, frame_of, operation_of};
+ghost use Rattle.std.specs.Prelude.{◌≡◌, ◌<◌, false, true, IfOk, drop, length, slice_index};
+ghost use Rattle.pattern_syntax.specs.Class.{begins_name, makes_range};
+ghost use Rattle.pattern_syntax.specs.ClassReading.{IsOperationRead, MemberAt, Steps, begins_member};
 
 use crate::classes::heads::read_head;
 use crate::classes::members::{ClassMember, read_member, read_second};
@@ -50,13 +49,16 @@ pub(crate) fn advance(
         reading.at = place;
         return Ok(Step::Open(reading));
     }
-    match text[place] {
-        ']' => close(reading, text, flags),
-        '[' => bracket(alloc, text, reading, flags),
-        _ => match operation_at(text, place) {
-            Some(operation) => operate(alloc, text, reading, operation, flags),
-            None => member(alloc, text, reading, flags),
-        },
+    let c = text[reading.at];
+    if c == ']' {
+        return close(reading, text, flags);
+    }
+    if c == '[' {
+        return bracket(alloc, text, reading, flags);
+    }
+    match operation_at(text, reading.at) {
+        Some(operation) => operate(alloc, text, reading, operation, flags),
+        None => member(alloc, text, reading, flags),
     }
 }
 
@@ -178,19 +180,37 @@ fn member(
         return Ok(Step::Nothing);
     };
     match member {
-        ClassMember::Many(set) => reading.class.add_set(&set)?,
-        ClassMember::Single(c) => {
-            if makes_range(text, behind, flags.spaces) {
-                return range(alloc, text, reading, c, behind, flags);
-            }
-            reading.class.add_character(c)?;
+        ClassMember::Many(set) => {
+            reading.class.add_set(&set)?;
+            reading.at = behind;
+            Ok(Step::Open(reading))
         }
+        ClassMember::Single(c) => single(alloc, text, reading, c, behind, flags),
     }
+}
+
+/// A single one that ends before a place is a member, or begins a range. Refuses for want of memory alone.
+fn single(
+    alloc: Global,
+    text: &[char],
+    mut reading: Reading,
+    c: char,
+    behind: usize,
+    flags: Flags,
+) -> Result<Step, NoMemory>
+    requires begins { begins_member flags (drop reading.at text.now) ≡ true }
+    requires is { MemberAt flags text.now reading.at (ClassMember.Single c) behind }
+    ensures { IfOk result (Steps flags text.now reading) }
+{
+    if makes_range(text, behind, flags.spaces) {
+        return range(alloc, text, reading, c, behind, flags);
+    }
+    reading.class.add_character(c)?;
     reading.at = behind;
     Ok(Step::Open(reading))
 }
 
-/// A range whose first end stops at a place. Refuses for want of memory alone.
+/// A range whose first end stops before a place. Refuses for want of memory alone.
 fn range(
     alloc: Global,
     text: &[char],
@@ -200,11 +220,9 @@ fn range(
     flags: Flags,
 ) -> Result<Step, NoMemory>
     requires begins { begins_member flags (drop reading.at text.now) ≡ true }
-    requires onward { reading.at < behind }
-    requires within { behind ≤ length text.now }
+    requires is { MemberAt flags text.now reading.at (ClassMember.Single low) behind }
     requires makes { makes_range flags (drop behind text.now) ≡ true }
-    ensures { (a : Atom) → IsAtomAt flags (drop reading.at text.now) a (drop behind text.now) → fits flags a ≡ true → single_of a ≡ Some low
-        → IfOk result (Steps flags text.now reading) }
+    ensures { IfOk result (Steps flags text.now reading) }
 {
     let Some((high, next)) = read_second(alloc, text, behind, flags)? else {
         return Ok(Step::Nothing);
