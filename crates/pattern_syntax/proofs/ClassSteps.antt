@@ -93,7 +93,7 @@ module _ (F : Type 0) where
   whole_nested k h q p l =
       same_part _ _ _ _ _ refl
       (in_more l.literals (head_literals h ++ inside_literals q) (inside_literals p)
-        ∙ ap (λ both. in_both (in_both l.literals both) (literals_in (inside_literals p))) (in_append (head_literals h) (inside_literals q)))
+      ∙ ap (λ both. in_both (in_both l.literals both) (literals_in (inside_literals p))) (in_append (head_literals h) (inside_literals q)))
 
   goes_of : (k : Flags) (after : AfterClass F) (l : ClassLevel) (w : List ℕ) (found : F) (p : Inside) (v : List ℕ) → FineInside k p v → w ≡ write_inside p v
       → after (whole_class k l p) v found → GoesOn k after l w found

@@ -69,12 +69,12 @@ module _ (k : Flags) (text : List ℕ) where
   unfolding Goes
   one_keeps s t a o f starts stands fit none goes = record {
     on = λ found x.
-      moved k _ _ _ _ _ _ found (sym o) (sym f) refl
-      (subst (MemberGoesOn Found k (after_of k s) (level_of s.class) found a (drop t.at text)) none
+        moved k _ _ _ _ _ _ found (sym o) (sym f) refl
+        (subst (MemberGoesOn Found k (after_of k s) (level_of s.class) found a (drop t.at text)) none
         (same_atom s (level_of s.class) found (drop s.at text) (drop t.at text) a stands
-          (member_on Found k (after_of k s) (level_of s.class) found (drop s.at text) starts x)));
+        (member_on Found k (after_of k s) (level_of s.class) found (drop s.at text) starts x)));
     back = λ found x.
-      one_back Found k (after_of k s) (level_of s.class) found a (drop t.at text) (drop s.at text) starts stands fit none (moved k _ _ _ _ _ _ found o f refl x);
+        one_back Found k (after_of k s) (level_of s.class) found a (drop t.at text) (drop s.at text) starts stands fit none (moved k _ _ _ _ _ _ found o f refl x);
     more = goes.0;
     within = goes.1;
   }
@@ -93,7 +93,7 @@ module _ (k : Flags) (text : List ℕ) where
   second_in s a behind found starts stands single makes x =
       subst (MemberGoesOn Found k (after_of k s) (level_of s.class) found a (drop behind text)) (and_from (is_some (single_of a)) (makes_range k (drop behind text)) single makes)
       (same_atom s (level_of s.class) found (drop s.at text) (drop behind text) a stands
-        (member_on Found k (after_of k s) (level_of s.class) found (drop s.at text) starts x))
+      (member_on Found k (after_of k s) (level_of s.class) found (drop s.at text) starts x))
 
   same_second : (s : Reading) (a b : Atom) (behind : ℕ) (u : List ℕ) (found : Found) → FineSecond k b u → behind_dash k (drop behind text) ≡ write_atom b u
       → SecondGoesOn Found k (after_of k s) (level_of s.class) found a (drop behind text)
@@ -112,11 +112,11 @@ module _ (k : Flags) (text : List ℕ) where
   unfolding Goes
   range_keeps s t a b behind o f starts stands fit single makes second written fit_too ordered more within = record {
     on = λ found x.
-      moved k _ _ _ _ _ _ found (sym o) (sym f) refl
-      (same_second s a b behind (drop t.at text) found second written (second_in s a behind found starts stands single makes x));
+        moved k _ _ _ _ _ _ found (sym o) (sym f) refl
+        (same_second s a b behind (drop t.at text) found second written (second_in s a behind found starts stands single makes x));
     back = λ found x.
-      range_back Found k (after_of k s) (level_of s.class) found a b (drop behind text) (drop t.at text) (drop s.at text) starts stands fit makes
-      second written fit_too ordered (moved k _ _ _ _ _ _ found o f refl x);
+        range_back Found k (after_of k s) (level_of s.class) found a b (drop behind text) (drop t.at text) (drop s.at text) starts stands fit makes
+        second written fit_too ordered (moved k _ _ _ _ _ _ found o f refl x);
     more = more;
     within = within;
   }
@@ -125,7 +125,7 @@ module _ (k : Flags) (text : List ℕ) where
   pub range_stuck : (s : Reading) (a : Atom) (behind : ℕ) → begins_member k (drop s.at text) ≡ true → IsAtomAt k (drop s.at text) a (drop behind text)
       → is_some (single_of a) ≡ true → makes_range k (drop behind text) ≡ true
       → ((b : Atom) (u : List ℕ) → behind_dash k (drop behind text) ≡ write_atom b u → FineSecond k b u → fits k b ≡ true
-        → in_order (single_of a) (single_of b) ≡ true → ⊥)
+      → in_order (single_of a) (single_of b) ≡ true → ⊥)
       → (found : Found) → Continues k text s found → ⊥
   range_stuck s a behind starts stands single makes none found x =
       let there = second_in s a behind found starts stands single makes x in
@@ -137,12 +137,12 @@ module _ (k : Flags) (text : List ℕ) where
   unfolding Goes
   name_keeps s t negated name o f lt is known written goes = record {
     on = λ found x.
-      moved k _ _ _ _ _ _ found (sym o) (sym f) refl
-      (name_on Found k (after_of k s) (level_of s.class) found negated name (drop t.at text) (drop s.at text) (drop (s.at + 1) text) known written
+        moved k _ _ _ _ _ _ found (sym o) (sym f) refl
+        (name_on Found k (after_of k s) (level_of s.class) found negated name (drop t.at text) (drop s.at text) (drop (s.at + 1) text) known written
         (here text s.at 91 lt is) x);
     back = λ found x.
-      subst (λ w. RestClass Found k (after_of k s) (level_of s.class) w found) (sym written)
-      (came_name Found k (after_of k s) (level_of s.class) negated name (drop t.at text) found known (moved k _ _ _ _ _ _ found o f refl x));
+        subst (λ w. RestClass Found k (after_of k s) (level_of s.class) w found) (sym written)
+        (came_name Found k (after_of k s) (level_of s.class) negated name (drop t.at text) found known (moved k _ _ _ _ _ _ found o f refl x));
     more = goes.0;
     within = goes.1;
   }
@@ -157,15 +157,15 @@ module _ (k : Flags) (text : List ℕ) where
   nest_keeps s t h o f lt is none fine written goes =
       let more = after_more k (last k) (outer_of s) (frame_of s.class) in record {
         on = λ found x.
-          moved k _ _ _ _ _ _ found (sym (pushed s t o)) (sym f) refl
-          (subst (λ (after : Bool → AfterClass Found). RestClass Found k (after (is_negated h)) (start h) (drop t.at text) found) (sym more)
+            moved k _ _ _ _ _ _ found (sym (pushed s t o)) (sym f) refl
+            (subst (λ (after : Bool → AfterClass Found). RestClass Found k (after (is_negated h)) (start h) (drop t.at text) found) (sym more)
             (nest_on Found k (after_of k s) (level_of s.class) found h (drop t.at text) (drop s.at text) (drop (s.at + 1) text) none fine written
-              (here text s.at 91 lt is) x));
+            (here text s.at 91 lt is) x));
         back = λ found x.
-          subst (λ w. RestClass Found k (after_of k s) (level_of s.class) w found) (sym written)
-          (came_nest Found k (after_of k s) (level_of s.class) h (drop t.at text) found (ap begins_name (sym written) ∙ none) fine
+            subst (λ w. RestClass Found k (after_of k s) (level_of s.class) w found) (sym written)
+            (came_nest Found k (after_of k s) (level_of s.class) h (drop t.at text) found (ap begins_name (sym written) ∙ none) fine
             (subst (λ (after : Bool → AfterClass Found). RestClass Found k (after (is_negated h)) (start h) (drop t.at text) found) more
-              (moved k _ _ _ _ _ _ found (pushed s t o) f refl x)));
+            (moved k _ _ _ _ _ _ found (pushed s t o) f refl x)));
         more = goes.0;
         within = goes.1;
       }
@@ -175,12 +175,12 @@ module _ (k : Flags) (text : List ℕ) where
   unfolding Goes
   operate_keeps s t o a f written goes = record {
     on = λ found x.
-      moved k _ _ _ _ _ _ found (sym a) (sym f) refl
-      (operation_on Found k (after_of k s) (level_of s.class) found o (drop t.at text)
+        moved k _ _ _ _ _ _ found (sym a) (sym f) refl
+        (operation_on Found k (after_of k s) (level_of s.class) found o (drop t.at text)
         (subst (λ w. RestClass Found k (after_of k s) (level_of s.class) w found) written x));
     back = λ found x.
-      subst (λ w. RestClass Found k (after_of k s) (level_of s.class) w found) (sym written)
-      (came_operation Found k (after_of k s) (level_of s.class) o (drop t.at text) found (moved k _ _ _ _ _ _ found a f refl x));
+        subst (λ w. RestClass Found k (after_of k s) (level_of s.class) w found) (sym written)
+        (came_operation Found k (after_of k s) (level_of s.class) o (drop t.at text) found (moved k _ _ _ _ _ _ found a f refl x));
     more = goes.0;
     within = goes.1;
   }
@@ -197,20 +197,20 @@ module _ (k : Flags) (text : List ℕ) where
       let frames : outer_of s ≡ map frame_of outer ++ frame_of o ∷ [] = ap (map frame_of) split ∙ map-append frame_of outer (o ∷ []) in
       let after = after_all k (last k) (map frame_of outer) o.negated in
       let more : after_all k (last k) (outer_of s) ≡ (λ negated. leave_class Found k negated (level_of o) after) =
-          ap (after_all k (last k)) frames ∙ after_more k (last k) (map frame_of outer) (frame_of o) in
+      ap (after_all k (last k)) frames ∙ after_more k (last k) (map frame_of outer) (frame_of o) in
       let behind : drop t.at text ≡ v = ap (λ i. drop i text) place in record {
         on = λ found x.
-          moved k _ _ _ _ _ _ found (sym same) (sym f) (sym behind)
-          (subst (λ (a : ClassPart). RestClass Found k after (with_member a.set a.depth a.literals (level_of o)) v found) (sym part)
+            moved k _ _ _ _ _ _ found (sym same) (sym f) (sym behind)
+            (subst (λ (a : ClassPart). RestClass Found k after (with_member a.set a.depth a.literals (level_of o)) v found) (sym part)
             (subst (λ (next : Bool → AfterClass Found). next s.class.negated (whole_class k (level_of s.class) close) v found) more
-              (close_on Found k (after_of k s) (level_of s.class) found v
-                (subst (λ w. RestClass Found k (after_of k s) (level_of s.class) w found) cut x))));
+            (close_on Found k (after_of k s) (level_of s.class) found v
+            (subst (λ w. RestClass Found k (after_of k s) (level_of s.class) w found) cut x))));
         back = λ found x.
-          subst (λ w. RestClass Found k (after_of k s) (level_of s.class) w found) (sym cut)
-          (came_close Found k (after_of k s) (level_of s.class) v found
+            subst (λ w. RestClass Found k (after_of k s) (level_of s.class) w found) (sym cut)
+            (came_close Found k (after_of k s) (level_of s.class) v found
             (subst (λ (next : Bool → AfterClass Found). next s.class.negated (whole_class k (level_of s.class) close) v found) (sym more)
-              (subst (λ (a : ClassPart). RestClass Found k after (with_member a.set a.depth a.literals (level_of o)) v found) part
-                (moved k _ _ _ _ _ _ found same f behind x))));
+            (subst (λ (a : ClassPart). RestClass Found k after (with_member a.set a.depth a.literals (level_of o)) v found) part
+            (moved k _ _ _ _ _ _ found same f behind x))));
         more = omega arith;
         within = omega arith;
       }
@@ -223,8 +223,8 @@ module _ (k : Flags) (text : List ℕ) where
       let v = drop (s.at + 1) text in
       let found : Found = (code_part ended, v) in record {
         found =
-          moved k _ _ _ _ _ _ found (sym (ap (map frame_of) none)) refl (sym (here text s.at 93 lt is))
-          (came_close Found k (last k s.class.negated) (level_of s.class) v found (ap (λ (a : ClassPart). let f : Found = (a, v) in f) part));
+            moved k _ _ _ _ _ _ found (sym (ap (map frame_of) none)) refl (sym (here text s.at 93 lt is))
+            (came_close Found k (last k s.class.negated) (level_of s.class) v found (ap (λ (a : ClassPart). let f : Found = (a, v) in f) part));
         goes_on = (omega arith, omega arith);
       }
 
@@ -248,10 +248,10 @@ module _ (k : Flags) (text : List ℕ) where
   unfolding Goes
   begun at s h none f fine written goes = record {
     on = λ found x.
-      let same = same_head k x.head h (write_inside x.inside found.1) (drop s.at text) x.fine_head fine (sym x.written ∙ written) in
-      let part : found ≡ (bracketed k (is_negated h) (whole_class k (start h) x.inside), found.1) =
-          ap (λ (a : ClassPart). let f : Found = (a, found.1) in f) (x.part ∙ ap (λ h. bracketed k (is_negated h) (whole_class k (start h) x.inside)) same.0) in
-      moved k _ _ _ _ _ _ found (sym (ap (map frame_of) none)) (sym f) refl (x.inside, found.1, x.fine_inside, sym same.1, part);
+        let same = same_head k x.head h (write_inside x.inside found.1) (drop s.at text) x.fine_head fine (sym x.written ∙ written) in
+        let part : found ≡ (bracketed k (is_negated h) (whole_class k (start h) x.inside), found.1) =
+        ap (λ (a : ClassPart). let f : Found = (a, found.1) in f) (x.part ∙ ap (λ h. bracketed k (is_negated h) (whole_class k (start h) x.inside)) same.0) in
+        moved k _ _ _ _ _ _ found (sym (ap (map frame_of) none)) (sym f) refl (x.inside, found.1, x.fine_inside, sym same.1, part);
     back = λ found x. came_back at s h found fine written (moved k _ _ _ _ _ _ found (ap (map frame_of) none) f refl x);
     more = goes.0;
     within = goes.1;
@@ -269,7 +269,7 @@ module _ (k : Flags) (text : List ℕ) where
   begun_ends at s class next b e =
       let found = b.back (code_part class, drop next text) e.found in
       let literals : class.literals ≡ literals_in (head_literals found.head ++ inside_literals found.inside) =
-          ap (λ (a : ClassPart). a.literals) found.part ∙ sym (in_append (head_literals found.head) (inside_literals found.inside)) in record {
+      ap (λ (a : ClassPart). a.literals) found.part ∙ sym (in_append (head_literals found.head) (inside_literals found.inside)) in record {
         head = found.head;
         inside = found.inside;
         goes_on = (omega (arith, b.more, e.goes_on.0), e.goes_on.1);

@@ -56,13 +56,13 @@ pub one_atom : (k : Flags) (w : List ℕ) (a b : Atom) (t u : List ℕ) → IsAt
 one_atom k w a b t u x y =
     ⊎_elim
     (λ (p : IsCharacterAt w a t). ⊎_elim
-        (λ (q : IsCharacterAt w b u). let e : p.0 ∷ t ≡ q.0 ∷ u = sym p.2 ∙ q.2 in (p.1 ∙ ap character (ap head e) ∙ sym q.1, ap tail e))
-        (λ (q : IsEscapeAt k w b u). absurd (not_escape k w a b t u p q))
-        (sort k w b u y))
+    (λ (q : IsCharacterAt w b u). let e : p.0 ∷ t ≡ q.0 ∷ u = sym p.2 ∙ q.2 in (p.1 ∙ ap character (ap head e) ∙ sym q.1, ap tail e))
+    (λ (q : IsEscapeAt k w b u). absurd (not_escape k w a b t u p q))
+    (sort k w b u y))
     (λ (p : IsEscapeAt k w a t). ⊎_elim
-        (λ (q : IsCharacterAt w b u). absurd (not_escape k w b a u t q p))
-        (λ (q : IsEscapeAt k w b u). one_escape k a b t u p.0 q.0 (sym p.1 ∙ q.1) p.2 q.2)
-        (sort k w b u y))
+    (λ (q : IsCharacterAt w b u). absurd (not_escape k w b a u t q p))
+    (λ (q : IsEscapeAt k w b u). one_escape k a b t u p.0 q.0 (sym p.1 ∙ q.1) p.2 q.2)
+    (sort k w b u y))
     (sort k w a t x)
 
 pub member_stands : (k : Flags) (a : Atom) (t w : List ℕ) → FineMember k a t → w ≡ write_atom a t → IsAtomAt k w a t
@@ -322,11 +322,19 @@ module _ (F : Type 0) (k : Flags) (after : AfterClass F) (l : ClassLevel) (found
   member_of d v w m q (ranges a bs cs b t f e x) =
       let behind = write_blanks bs (codes "-" ++ write_blanks cs (write_atom b t)) in
       let parts = range_parts (fits k a) (fits k b) (in_order (single_of a) (single_of b)) f.4 in
-      let second = second_written k bs cs b behind t f.1 f.2 f.3 refl in
-      (a, (behind, (member_stands k a behind w f.0 e, parts.0,
-        range_by a behind (begins_range a behind)
-        (and_from (is_some (single_of a)) (makes_range k behind) (in_order_single (single_of a) (single_of b) parts.2) (range_makes k a bs cs b t f))
-        (b, (t, (f.3, second, parts.1, parts.2, x))))))
+      let second = second_written k bs cs b behind t f.1 f.2 f.3 refl in (
+        a,
+        (
+          behind,
+          (
+            member_stands k a behind w f.0 e,
+            parts.0,
+            range_by a behind (begins_range a behind)
+                (and_from (is_some (single_of a)) (makes_range k behind) (in_order_single (single_of a) (single_of b) parts.2) (range_makes k a bs cs b t f))
+                (b, (t, (f.3, second, parts.1, parts.2, x))),
+          ),
+        ),
+      )
   member_of d v w m q (names negated name t f e x) =
       let h : d ≡ 91 = ap head (sym q ∙ e) ∙ name_first negated name t in
       absurd (⊎_elim (λ slash. apart 91 92 refl (sym h ∙ slash)) (λ is. no_member k d 91 v refl h is) m)
@@ -364,15 +372,15 @@ module _ (F : Type 0) (k : Flags) (after : AfterClass F) (l : ClassLevel) (found
       let near = blanks_seen k t in
       let far = blanks_seen k (rest (seen k t)) in
       let dashed : seen k t ≡ 45 ∷ rest (seen k t) =
-          dash_by (seen k t) (and_parts (begins 45 (seen k t)) (not (begins 45 (seen k (rest (seen k t))) || begins 93 (seen k (rest (seen k t))))) makes).0 in
+      dash_by (seen k t) (and_parts (begins 45 (seen k t)) (not (begins 45 (seen k (rest (seen k t))) || begins 93 (seen k (rest (seen k t))))) makes).0 in
       let behind : rest (seen k t) ≡ write_blanks far.0 (write_atom b u) = far.1 ∙ ap (write_blanks far.0) written in
       let dash : seen k t ≡ 45 ∷ write_blanks far.0 (write_atom b u) = dashed ∙ ap (λ w. 45 ∷ w) behind in
       let whole : t ≡ write_blanks near.0 (45 ∷ write_blanks far.0 (write_atom b u)) = near.1 ∙ ap (write_blanks near.0) dash in
       subst (λ w. RestClass F k after l w found) (sym (atom_written k a t w stands ∙ ap (write_atom a) whole))
       (came_range F k after l a near.0 far.0 b u found (
-          subst (FineMember k a) whole (stands_member k a t w starts stands),
-          subst (FineBlanks k near.0) dash near.2,
-          subst (FineBlanks k far.0) written far.2,
-          second,
-          and_from (fits k a && fits k b) (in_order (single_of a) (single_of b)) (and_from (fits k a) (fits k b) fit fit_too) ordered,
-        ) r)
+        subst (FineMember k a) whole (stands_member k a t w starts stands),
+        subst (FineBlanks k near.0) dash near.2,
+        subst (FineBlanks k far.0) written far.2,
+        second,
+        and_from (fits k a && fits k b) (in_order (single_of a) (single_of b)) (and_from (fits k a) (fits k b) fit fit_too) ordered,
+      ) r)

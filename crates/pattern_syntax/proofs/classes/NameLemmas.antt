@@ -94,9 +94,9 @@ named_in [] w h = absurd (true≢false (sym h))
 named_in (row ∷ rows) w h =
     ⊎_elim
     (λ here. let found = row_named row w here in
-        (found.0, row.0, found.1, found.2, known_by row.1 (same_text row.0 row.0) (value_of rows row.0) (inl (same_text_refl row.0))))
+    (found.0, row.0, found.1, found.2, known_by row.1 (same_text row.0 row.0) (value_of rows row.0) (inl (same_text_refl row.0))))
     (λ later. let found = named_in rows w later in
-        (found.0, found.1, found.2, found.3, known_by row.1 (same_text row.0 found.1) (value_of rows found.1) (inr found.4)))
+    (found.0, found.1, found.2, found.3, known_by row.1 (same_text row.0 found.1) (value_of rows found.1) (inr found.4)))
     (or_cases (begins_row w row) (list_any (begins_row w) rows) h)
 
 -- there is a name

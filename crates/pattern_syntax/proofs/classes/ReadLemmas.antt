@@ -139,7 +139,7 @@ code_head negated dashes bracket = record { negated = negated; dashes = dashes; 
 
 no_bracket_at : (k : Flags) (text : List ℕ) (at : ℕ) → at ≤ length text → (b : Bool) (next : ℕ) → (read : Option ℕ) → read ≡ None
     → (bracket : Option (List Blank)) × ((is_some read ≡ is_some bracket) × (bracket ≡ None) × (drop at text ≡ write_after bracket (codes "]") (drop (place_or read at) text))
-      × (at ≤ place_or read at) × (place_or read at ≤ length text))
+    × (at ≤ place_or read at) × (place_or read at ≤ length text))
 no_bracket_at k text at le b next (Some n) e = absurd (true≢false (ap is_some e))
 no_bracket_at k text at le b next None e = (None, (refl, refl, refl, omega arith, le))
 
@@ -181,9 +181,9 @@ head_read k text at caret bracket first place count next negates brackets lt is 
     let negated = after_at k text (at + 1) 94 caret (omega arith) c in
     let close = bracket_at k text place d.dashes bracket d.within (subst (λ n. BracketRead k text place n bracket) d.as_many b) in
     let moved : drop (place_or caret (at + 1)) text ≡ write_dashes d.dashes (write_after close.blanks (codes "]") (drop next text)) =
-        ap (λ i. drop i text) (sym start) ∙ d.written ∙ ap (write_dashes d.dashes) (close.written ∙ ap (λ i. write_after close.blanks (codes "]") (drop i text)) (sym end)) in
+    ap (λ i. drop i text) (sym start) ∙ d.written ∙ ap (write_dashes d.dashes) (close.written ∙ ap (λ i. write_after close.blanks (codes "]") (drop i text)) (sym end)) in
     let behind : drop place text ≡ write_after close.blanks (codes "]") (drop next text) =
-        close.written ∙ ap (λ i. write_after close.blanks (codes "]") (drop i text)) (sym end) in record {
+    close.written ∙ ap (λ i. write_after close.blanks (codes "]") (drop i text)) (sym end) in record {
       head = record { negated = negated.blanks; dashes = d.dashes; bracket = close.blanks };
       is = (e ∙ negated.is_there, d.as_many, f ∙ close.is_there);
       goes_on = (omega (arith, negated.onward, d.onward, close.onward), omega (arith, close.within));
@@ -215,8 +215,8 @@ opened_by false name t = refl
 pub name_none : (text : List ℕ) (at : ℕ) → IsNameOpen text at None → begins_name (drop at text) ≡ false
 name_none text at none =
     to_false (begins_name (drop at text)) (λ h.
-      let there = named_there (drop at text) h in
-      none _ (there.3 ∙ written_name there.0 there.1 there.2 ∙ opened_by there.0 there.1 there.2))
+    let there = named_there (drop at text) h in
+    none _ (there.3 ∙ written_name there.0 there.1 there.2 ∙ opened_by there.0 there.1 there.2))
 
 -- the letters of a name stand behind its opening
 letters_are : (m n : Bool) (name t u : List ℕ) → is_some (value_of ascii_names name) ≡ true → (m ≡ false → begins 94 u ≡ false)
@@ -232,9 +232,9 @@ pub name_unended : (text : List ℕ) (at start end : ℕ) (negated : Bool) → I
     → ((t : List ℕ) → drop end text ≡ 58 ∷ 93 ∷ t → ⊥) → begins_name (drop at text) ≡ false
 name_unended text at start end negated o e none =
     to_false (begins_name (drop at text)) (λ h.
-      let there = named_there (drop at text) h in
-      let same = letters_are negated there.0 there.1 (93 ∷ there.2) (drop start text) there.4 o.1 (sym o.0 ∙ there.3 ∙ written_name there.0 there.1 there.2) in
-      none there.2 (e ∙ ap after_letters same.1 ∙ behind_name there.1 (93 ∷ there.2) (name_small there.1 there.4)))
+    let there = named_there (drop at text) h in
+    let same = letters_are negated there.0 there.1 (93 ∷ there.2) (drop start text) there.4 o.1 (sym o.0 ∙ there.3 ∙ written_name there.0 there.1 there.2) in
+    none there.2 (e ∙ ap after_letters same.1 ∙ behind_name there.1 (93 ∷ there.2) (name_small there.1 there.4)))
 
 -- what stands between the opening and the end is no name
 pub name_unknown : (text name : List ℕ) (at start end : ℕ) (negated : Bool) → IsNameOpen text at (Some (negated, start))
@@ -242,11 +242,11 @@ pub name_unknown : (text name : List ℕ) (at start end : ℕ) (negated : Bool) 
     → begins_name (drop at text) ≡ false
 name_unknown text name at start end negated o e cut unknown =
     to_false (begins_name (drop at text)) (λ h.
-      let there = named_there (drop at text) h in
-      let same = letters_are negated there.0 there.1 (93 ∷ there.2) (drop start text) there.4 o.1 (sym o.0 ∙ there.3 ∙ written_name there.0 there.1 there.2) in
-      let behind : drop end text ≡ 58 ∷ 93 ∷ there.2 = e ∙ ap after_letters same.1 ∙ behind_name there.1 (93 ∷ there.2) (name_small there.1 there.4) in
-      let letters : name ≡ there.1 = append_cancel_right name there.1 (58 ∷ 93 ∷ there.2) (ap (λ w. name ++ w) (sym behind) ∙ sym cut ∙ same.1) in
-      true≢false (sym there.4 ∙ ap (λ n. is_some (value_of ascii_names n)) (sym letters) ∙ unknown))
+    let there = named_there (drop at text) h in
+    let same = letters_are negated there.0 there.1 (93 ∷ there.2) (drop start text) there.4 o.1 (sym o.0 ∙ there.3 ∙ written_name there.0 there.1 there.2) in
+    let behind : drop end text ≡ 58 ∷ 93 ∷ there.2 = e ∙ ap after_letters same.1 ∙ behind_name there.1 (93 ∷ there.2) (name_small there.1 there.4) in
+    let letters : name ≡ there.1 = append_cancel_right name there.1 (58 ∷ 93 ∷ there.2) (ap (λ w. name ++ w) (sym behind) ∙ sym cut ∙ same.1) in
+    true≢false (sym there.4 ∙ ap (λ n. is_some (value_of ascii_names n)) (sym letters) ∙ unknown))
 
 pub name_found : (k : Flags) (text name : List ℕ) (at start end : ℕ) (negated : Bool) (set : Class) → IsNameOpen text at (Some (negated, start))
     → drop start text ≡ name ++ drop end text → drop end text ≡ 58 ∷ 93 ∷ drop (end + 2) text → start ≤ end → end + 2 ≤ length text

@@ -71,11 +71,11 @@ module _ (k : Flags) (text : List ℕ) where
   reversed_stuck s a low high behind next second lt starts stands single makes =
       range_stuck k text s a behind starts stands (ap is_some single) makes
       (λ b u written fine fit ordered.
-        let w = behind_dash k (drop behind text) in
-        let same = one_atom k w b second.atom u (drop next text) (second_stands k b u w fine written) (second_stands k second.atom (drop next text) w second.fine second.written) in
-        let rises : low ≤ high =
-            leb-true low high (ap₂ in_order (sym single) (sym second.is ∙ ap single_of (sym same.0)) ∙ ordered) in
-        absurd (omega arith))
+      let w = behind_dash k (drop behind text) in
+      let same = one_atom k w b second.atom u (drop next text) (second_stands k b u w fine written) (second_stands k second.atom (drop next text) w second.fine second.written) in
+      let rises : low ≤ high =
+      leb-true low high (ap₂ in_order (sym single) (sym second.is ∙ ap single_of (sym same.0)) ∙ ordered) in
+      absurd (omega arith))
 
   pub named_keeps : (s t : Reading) (set : Class) → NameAt k text s.at set t.at → s.at < length text → get_or text s.at 0 ≡ 91 → outer_of t ≡ outer_of s
       → frame_of t.class ≡ framed s.class.negated (with_member (in_ranges set.ranges.items) 0 (literals_in []) (level_of s.class)) → Advances k text s t

@@ -81,8 +81,8 @@ between_at a b c h =
     ∙ same_test (nat_le c 0x10_FFFF && (nat_le a c && nat_le c b)) (nat_le a c && nat_le c b)
     (λ e. (and_parts (nat_le c 0x10_FFFF) (nat_le a c && nat_le c b) e).1)
     (λ e. let parts = and_parts (nat_le a c) (nat_le c b) e in
-        let low : c ≤ b = leb-true c b parts.1 in
-        and_from (nat_le c 0x10_FFFF) (nat_le a c && nat_le c b) (le-leb c 0x10_FFFF (omega arith)) e)
+    let low : c ≤ b = leb-true c b parts.1 in
+    and_from (nat_le c 0x10_FFFF) (nat_le a c && nat_le c b) (le-leb c 0x10_FFFF (omega arith)) e)
 
 pub range_held : (a b : ℕ) → b ≤ 0x10_FFFF → held ((a, b) ∷ []) ≡ range_set (Some a) (Some b)
 range_held a b h = same_set _ _ (λ c. between_at a b c h)
@@ -91,9 +91,9 @@ one_at : (a c : ℕ) → is_between a a c ≡ (c == a)
 one_at a c =
     same_test (is_between a a c) (c == a)
     (λ e. let parts = and_parts (nat_le a c) (nat_le c a) e in
-        let low : a ≤ c = leb-true a c parts.0 in
-        let high : c ≤ a = leb-true c a parts.1 in
-        eq-eqb c a (omega arith))
+    let low : a ≤ c = leb-true a c parts.0 in
+    let high : c ≤ a = leb-true c a parts.1 in
+    eq-eqb c a (omega arith))
     (λ e. let h : c ≡ a = eqb-true c a e in and_from (nat_le a c) (nat_le c a) (le-leb a c (omega arith)) (le-leb c a (omega arith)))
 
 pub one_held : (a : ℕ) → a ≤ 0x10_FFFF → held ((a, a) ∷ []) ≡ matches_one (Some a)

@@ -134,6 +134,7 @@ run_of (suc n) (d ∷ ds) t a x f =
   where
     shorter : (m n : ℕ) → nat_le (suc m) (suc n) ≡ true → nat_le m n ≡ true
     shorter m n a = grind (arith, nat_tests)
+
     fewer : (m n : ℕ) → nat_lt m n ≡ nat_lt (suc m) (suc n)
     fewer m n = grind (arith, nat_tests)
 
@@ -382,7 +383,7 @@ no_brace k [] bs s t n f x g h = true≢false (sym n)
 no_brace k (d ∷ ds) bs s t n f x g h =
     let solid = (and_parts (is_solid d.digit) (all is_solid (spelt ds)) x).0 in
     solid_apart d.digit 123 solid refl
-        (ap head (same_blanks k d.before bs (d.digit ∷ write_digits ds s) (123 ∷ t) f.0 g (solid_clear d.digit (write_digits ds s) solid) (opening_clear t) h).1)
+    (ap head (same_blanks k d.before bs (d.digit ∷ write_digits ds s) (123 ∷ t) f.0 g (solid_clear d.digit (write_digits ds s) solid) (opening_clear t) h).1)
 
 letter_solid : (c : ℕ) → is_some (category_named (c ∷ [])) ≡ true → is_solid c ≡ true
 letter_solid c h = (and_parts (is_solid c) true (category_solid (c ∷ []) h)).0

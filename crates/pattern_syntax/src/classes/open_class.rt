@@ -247,11 +247,7 @@ fn push(ranges: &mut Vec<ClassRange>, c: char) -> Result<(), NoMemory>
 }
 
 /// A union, and what stands left of it. Refuses for want of memory alone.
-fn side(
-    left: Option<LeftSide>,
-    ranges: Vec<ClassRange>,
-    flags: Flags,
-) -> Result<Class, NoMemory>
+fn side(left: Option<LeftSide>, ranges: Vec<ClassRange>, flags: Flags) -> Result<Class, NoMemory>
     ensures { IfOk result (λ set. IsSet set (class.side flags (waiting_of left) (held ranges.items))) }
 {
     let union = Class::new(ranges)?;

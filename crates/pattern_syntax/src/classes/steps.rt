@@ -105,12 +105,7 @@ fn bracket(
 }
 
 /// A nested class begins. Refuses for want of memory alone.
-fn nest(
-    alloc: Global,
-    text: &[char],
-    reading: Reading,
-    flags: Flags,
-) -> Result<Step, NoMemory>
+fn nest(alloc: Global, text: &[char], reading: Reading, flags: Flags) -> Result<Step, NoMemory>
     requires within { reading.at < length text.now }
     requires opens { slice_index text.now reading.at ≡ 91 }
     requires nameless { begins_name (drop reading.at text.now) ≡ false }

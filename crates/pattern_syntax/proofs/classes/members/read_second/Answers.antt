@@ -41,19 +41,19 @@ returns c =
     let there : drop place text ≡ behind_dash k (drop c.args.at text) = c.behind_blanks-place.ensures.seen ∙ ap (seen k) dash.2 in
     let lt : place < length text = omega (arith, c.if-place-text.false, c.behind_blanks-place.ensures.within) in
     let after : c.behind_blanks-dash.result + 1 ≤ place =
-        onward k text (c.behind_blanks-dash.result + 1) place (omega (arith, dash.0)) c.behind_blanks-place.ensures.within c.behind_blanks-place.ensures.seen in
+    onward k text (c.behind_blanks-dash.result + 1) place (omega (arith, dash.0)) c.behind_blanks-place.ensures.within c.behind_blanks-place.ensures.seen in
     let read : MemberAt k text place c.in-Some.member c.in-Some.behind = rw c.in-Some.is at c.in_ok-member.ensures in
     second_read k text c.args.at place c.in-Single.c c.in-Some.behind (omega (arith, dash.1)) lt c.requires.makes there
     (λ is. c.if-text-place-eq91.false (sym (read_at text place c.index-text-place.result lt c.index-text-place.is) ∙ is))
     (subst (λ (m : ClassMember). MemberAt k text place m c.in-Some.behind) c.in-Single.is read)
 
-pub returns-in_default-2 : goal.returns-in_default-2
-returns-in_default-2 c =
+pub returns-in_default-member : goal.returns-in_default-member
+returns-in_default-member c =
     let k = c.args.flags in
     let text = c.args.text.now in
     let place = c.behind_blanks-place.result in
     let dash = dash_place k text c.args.at c.behind_blanks-dash.result c.requires.within c.behind_blanks-dash.ensures.within c.behind_blanks-dash.ensures.seen c.requires.makes in
     let there : drop place text ≡ behind_dash k (drop c.args.at text) = c.behind_blanks-place.ensures.seen ∙ ap (seen k) dash.2 in
     let read : MemberAt k text place c.in-Some.member c.in-Some.behind = rw c.in-Some.is at c.in_ok-member.ensures in
-    second_many k text c.args.at place c.in-Some.behind _ there
-    (subst (λ (m : ClassMember). MemberAt k text place m c.in-Some.behind) c.in_default-2.is read)
+    second_many k text c.args.at place c.in-Some.behind c.in_default-member.field-0 there
+    (subst (λ (m : ClassMember). MemberAt k text place m c.in-Some.behind) c.in_default-member.is read)

@@ -43,4 +43,4 @@ returns c =
     (drop_split text c.in-Some.start end c.behind_letters-end.ensures.onward) ends c.behind_letters-end.ensures.onward
     (two_within text end 58 93 (drop (end + 2) text) c.behind_letters-end.ensures.within ends) found.1
     (name_negated c.args.flags c.in-Some.negated (slice_range text c.in-Some.start end) c.in-Some-2.set c.in_ok-complement.field-0 c.if-not-negated.false found.0
-      c.in_ok-complement.ensures)
+    c.in_ok-complement.ensures)

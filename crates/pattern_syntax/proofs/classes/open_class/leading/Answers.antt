@@ -10,10 +10,10 @@ returns c x =
     let dashes = c.args.head.dashes in
     let before : held c.new-ranges.result.items x ≡ false = ap (λ items. held items x) c.new-ranges.ensures.items ∙ none_held_at x in
     let first : held c.if-head-gt0.ranges.items x ≡ ((x == 45) && nat_lt 0 dashes) =
-        elim c.if-head-gt0.branch [
-          | then-head-gt0+in_ok-push w ↦ rw w.ranges-is (w.in_ok-push.ensures x ∙ first_pushed x dashes (held c.new-ranges.result.items x) before w.if-head-gt0.true)
-          | else-head-gt0 w ↦ rw w.ranges-is (first_none x dashes (held c.new-ranges.result.items x) before w.if-head-gt0.false)
-        ] in
+    elim c.if-head-gt0.branch [
+      | then-head-gt0+in_ok-push w ↦ rw w.ranges-is (w.in_ok-push.ensures x ∙ first_pushed x dashes (held c.new-ranges.result.items x) before w.if-head-gt0.true)
+      | else-head-gt0 w ↦ rw w.ranges-is (first_none x dashes (held c.new-ranges.result.items x) before w.if-head-gt0.false)
+    ] in
     elim c.if-head.branch [
       | then-head+in_ok-push-2 w ↦ rw w.ranges-is
           (w.in_ok-push-2.ensures x ∙ ap (λ b. b || (x == 93)) first ∙ second_pushed ((x == 45) && nat_lt 0 dashes) (x == 93) c.args.head.bracket w.if-head.true)

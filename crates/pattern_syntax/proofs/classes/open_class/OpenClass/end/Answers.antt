@@ -11,7 +11,7 @@ pub returns-then-not-negated : goal.returns-then-not-negated
 returns-then-not-negated c =
     let k = c.args.flags in
     let set : in_ranges c.in_ok-inner.inner.ranges.items ≡ closed k (class.side k (waiting_of c.args.self.left) (held c.args.self.ranges.items)) =
-        same_set _ _ c.in_ok-inner.ensures ∙ ap (closed k) (same_set _ _ c.in_ok-whole.ensures) in
+    same_set _ _ c.in_ok-inner.ensures ∙ ap (closed k) (same_set _ _ c.in_ok-whole.ensures) in
     let deep : c.in_ok-depth.depth ≡ c.in_ok-nested.nested + 1 = search rules in
     same_part _ _ _ _ _ _ (plain_part k c.args.self.negated _ _ c.if-not-negated.true set) (deep ∙ ap (λ d. d + 1) c.in_ok-nested.ensures)
     (sym (no_more c.args.self.literals))
@@ -20,7 +20,7 @@ pub returns : goal.returns
 returns c =
     let k = c.args.flags in
     let set : in_ranges c.in_ok-inner.inner.ranges.items ≡ closed k (class.side k (waiting_of c.args.self.left) (held c.args.self.ranges.items)) =
-        same_set _ _ c.in_ok-inner.ensures ∙ ap (closed k) (same_set _ _ c.in_ok-whole.ensures) in
+    same_set _ _ c.in_ok-inner.ensures ∙ ap (closed k) (same_set _ _ c.in_ok-whole.ensures) in
     let deep : c.in_ok-depth.depth ≡ c.in_ok-nested.nested + 1 = search rules in
     same_part _ _ _ _ _ _
     (negated_part k c.args.self.negated _ _ c.if-not-negated.false (λ x. c.in_ok-set.ensures x ∙ ap (λ (s : Set). complement k s x) set))
