@@ -153,7 +153,7 @@ abbrev is_category : ℕ → Bool
 is_category c = has c (codes "pP")
 
 -- no letter of the list passes the test
-clash : (p : ℕ → Bool) (cs : List ℕ) (c : ℕ) → all (λ d. not (p d)) cs ≡ true → has c cs ≡ true → p c ≡ true → ⊥
+pub clash : (p : ℕ → Bool) (cs : List ℕ) (c : ℕ) → all (λ d. not (p d)) cs ≡ true → has c cs ≡ true → p c ≡ true → ⊥
 clash p cs c every h f = true≢false (sym (has_all (λ d. not (p d)) cs c every h) ∙ ap not f)
 
 -- one letter is of one kind
@@ -202,7 +202,7 @@ octal_category c f g = clash is_octal_digit (codes "pP") c refl g f
 perl_category : (c : ℕ) → is_perl c ≡ true → is_category c ≡ true → ⊥
 perl_category c f = clash is_category (codes "dswDSW") c refl f
 
-data Kind : Type 0 where
+pub data Kind : Type 0 where
   escapable : Kind
   controls : Kind
   code : Kind
@@ -210,7 +210,7 @@ data Kind : Type 0 where
   perls : Kind
   categories : Kind
 
-abbrev test_of : Kind → ℕ → Bool
+abbrev pub test_of : Kind → ℕ → Bool
 test_of escapable = is_escapable
 test_of controls = is_control
 test_of code = is_code
@@ -256,7 +256,7 @@ one_kind categories octals c f g = absurd (octal_category c g f)
 one_kind categories perls c f g = absurd (perl_category c g f)
 one_kind categories categories c f g = refl
 
-abbrev tag : Kind → ℕ
+abbrev pub tag : Kind → ℕ
 tag escapable = 0
 tag controls = 1
 tag code = 2
@@ -264,7 +264,7 @@ tag octals = 3
 tag perls = 4
 tag categories = 5
 
-abbrev kind_of : Atom → Kind
+abbrev pub kind_of : Atom → Kind
 kind_of (character c) = escapable
 kind_of (escaped c) = escapable
 kind_of (control letter) = controls
@@ -275,7 +275,7 @@ kind_of (perl letter) = perls
 kind_of (category letter before c) = categories
 kind_of (category_braced letter before ds behind) = categories
 
-abbrev letter_of : Atom → ℕ
+abbrev pub letter_of : Atom → ℕ
 letter_of (character c) = c
 letter_of (escaped c) = c
 letter_of (control letter) = letter
@@ -336,7 +336,7 @@ category_fine : (k : Flags) (letter : ℕ) (name : List ℕ) → (k.unicode && h
 category_fine k letter name h = three_true k.unicode (has letter (codes "pP")) (is_some (category_named name)) h
 
 -- the letter of an escape is of its kind
-letter_is : (k : Flags) (a : Atom) (t : List ℕ) → IsEscape a → FineAtom k a t → test_of (kind_of a) (letter_of a) ≡ true
+pub letter_is : (k : Flags) (a : Atom) (t : List ℕ) → IsEscape a → FineAtom k a t → test_of (kind_of a) (letter_of a) ≡ true
 letter_is k (character c) t x f = absurd x
 letter_is k (escaped c) t x f = f
 letter_is k (control letter) t x f = f
@@ -349,7 +349,7 @@ letter_is k (category letter before c) t x f = (category_fine k letter (c ∷ []
 letter_is k (category_braced letter before ds behind) t x f = (category_fine k letter (spelt ds) f.1).1
 
 -- it stands second
-letter_stands : (k : Flags) (a : Atom) (t : List ℕ) → IsEscape a → FineAtom k a t → head (tail (write_atom a t)) ≡ letter_of a
+pub letter_stands : (k : Flags) (a : Atom) (t : List ℕ) → IsEscape a → FineAtom k a t → head (tail (write_atom a t)) ≡ letter_of a
 letter_stands k (character c) t x f = absurd x
 letter_stands k (escaped c) t x f = refl
 letter_stands k (control letter) t x f = refl
