@@ -1,6 +1,7 @@
 pub mod Atom
 pub mod Class
 pub mod ClassProgress
+pub mod ClassReading
 pub mod CountReaders
 pub mod Escapes
 pub mod Examples
