@@ -9,6 +9,9 @@ use crate::{Flags, Member};
 use sd_base::NoMemory;
 use std::alloc::Global;
 
+/// The number of the last character.
+const LAST: u32 = 0x10_FFFF;
+
 /// How many digits follow the letter, if it comes with digits.
 fn coded_length(letter: char) -> usize
     ensures { result ≡ atom.coded_length letter }
@@ -32,7 +35,7 @@ fn character_of(digits: &[char]) -> Option<char>
     let mut number = 0;
     for digit in digits {
         number = number * 16 + digit.to_digit(16)?;
-        if number > 0x10_FFFF {
+        if number > LAST {
             return None;
         }
     }
