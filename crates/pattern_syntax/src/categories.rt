@@ -1,9 +1,9 @@
 //! General categories: `\p` and `\P`.
 
-ghost use Rattle.std.specs.Prelude.{◌≡◌, ◌==◌, false, true, IfOk, IfSome, IfNone, codes};
+ghost use Rattle.std.specs.Prelude.{◌≡◌, ◌==◌, true, false, IfOk, IfSome, IfNone, codes};
+ghost use Rattle.pattern_syntax.specs.Flags.{has};
 ghost use Rattle.pattern_syntax.specs.Sets as sets;
 ghost use Rattle.pattern_syntax.specs.Readers.{IsSet};
-ghost use Rattle.pattern_syntax.specs.Flags.{has};
 ghost use Rattle.pattern_syntax.specs.Escapes.{IsEscapeLetter, IsKindRead, IsCategory, IsCategoryBraced};
 
 use crate::spelling::{read_braced, read_spaced};
@@ -19,25 +19,24 @@ fn is_category_letter(letter: char) -> bool
     matches!(letter, 'p' | 'P')
 }
 
-/// The set of `\p` and the name of a category, or of `\P` its complement, by the letter; none where no category has the name. Refuses for want of
-/// memory alone.
-fn set_by_letter(
+/// The set of `\p` or `\P`, by the letter, and the name of a category, if one has the name. Refuses for want of memory alone.
+fn named_set(
     alloc: Global,
     letter: char,
     name: &[char],
     flags: Flags,
 ) -> Result<Option<Class>, NoMemory>
-    ensures found { IfOk result (λ found. IfSome found (λ set. IsSet set (sets.category_set flags (letter == 80) name.now)
-        × (sets.is_some (sets.category_named name.now) ≡ true))) }
+    ensures found { IfOk result (λ found. IfSome found (λ set. IsSet set (sets.category_set flags (letter == 80) name.now) × (sets.is_some (sets.category_named name.now) ≡ true))) }
     ensures none { IfOk result (λ found. IfNone found (sets.is_some (sets.category_named name.now) ≡ false)) }
 {
     let Some(set) = category_set(alloc, name, flags)? else {
         return Ok(None);
     };
-    if letter == 'P' {
-        return Ok(Some(complement(&set, flags)?));
+    if letter != 'P' {
+        return Ok(Some(set));
     }
-    Ok(Some(set))
+    let others = complement(&set, flags)?;
+    Ok(Some(others))
 }
 
 /// The set of `\p` or `\P` and the one letter of a category. Refuses for want of memory alone.
@@ -57,7 +56,7 @@ pub(crate) fn read_category(
     let Some((name, next)) = read_spaced(alloc, text, at + 2, 1, flags)? else {
         return Ok(None);
     };
-    let Some(set) = set_by_letter(alloc, letter, &name, flags)? else {
+    let Some(set) = named_set(alloc, letter, &name, flags)? else {
         return Ok(None);
     };
     Ok(Some((Member::Set(set), next)))
@@ -80,7 +79,7 @@ pub(crate) fn read_braced_category(
     let Some((name, next)) = read_braced(alloc, text, at + 2, flags)? else {
         return Ok(None);
     };
-    let Some(set) = set_by_letter(alloc, letter, &name, flags)? else {
+    let Some(set) = named_set(alloc, letter, &name, flags)? else {
         return Ok(None);
     };
     Ok(Some((Member::Set(set), next)))

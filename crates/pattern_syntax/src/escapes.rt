@@ -101,7 +101,7 @@ pub fn read_escape(
     if let Some(read) = read_plain(text, at, letter) {
         return Ok(Some(read));
     }
-    if let Some(read) = read_octal(text, at, letter, flags) {
+    if let Some(read) = read_octal(text, at, flags) {
         return Ok(Some(read));
     }
     if let Some(read) = read_perl(alloc, text, at, letter, flags)? {

@@ -1,6 +1,6 @@
 //! Characters by their octal numbers.
 
-ghost use Rattle.std.specs.Prelude.{◌≡◌, ◌<◌, ◌≤◌, false, IfSome, IfNone, drop, length};
+ghost use Rattle.std.specs.Prelude.{◌≡◌, ◌<◌, ◌≤◌, ℕ, false, IfSome, IfNone, drop, length};
 ghost use Rattle.pattern_syntax.specs.Atom as atom;
 ghost use Rattle.pattern_syntax.specs.Escapes.{IsEscapeLetter, IsKindRead, IsOctal, OctalDigitAt};
 
@@ -31,13 +31,8 @@ fn octal_character(number: u32) -> Member
 }
 
 /// The character of one to three octal digits, as many as stand there, where they stand for one.
-pub(crate) fn read_octal(
-    text: &[char],
-    at: usize,
-    letter: char,
-    flags: Flags,
-) -> Option<(Member, usize)>
-    requires { IsEscapeLetter text.now at letter }
+pub(crate) fn read_octal(text: &[char], at: usize, flags: Flags) -> Option<(Member, usize)>
+    requires { (letter : ℕ) × IsEscapeLetter text.now at letter }
     ensures { IsKindRead IsOctal flags text.now at result }
 {
     if !flags.octal {

@@ -1,17 +1,18 @@
 -- General categories.
-use Rattle.std.proofs.Common.{◌≡◌, ◌≤◌, ℕ, ◌+◌, Bool, true, false, List, [], ◌∷◌, codes, ◌==◌, ◌&&◌, length, drop, refl, sym, ap, ◌∙◌, subst, true≢false, arith}
+use Rattle.std.proofs.Common.{◌≡◌, ◌≤◌, ℕ, ◌+◌, Bool, true, false, List, [], ◌∷◌, codes, ◌==◌, ◌&&◌, length, drop, refl, sym, ap, ◌∙◌, subst, true≢false, arith, not, eq-eqb}
 use Rattle.std.proofs.lemmas.Bool.{and_parts, and_from}
 use Rattle.regex_class.specs.declared.Class.{Class}
+use Rattle.regex_class.specs.Ranges.{in_ranges}
 use Rattle.pattern_syntax.specs.declared.flags.Flags.{Flags}
 use Rattle.pattern_syntax.specs.declared.readings.Member.TheVariants.{Set}
 use Rattle.pattern_syntax.specs.Flags.{write_blanks, FineBlanks, has}
-use Rattle.pattern_syntax.specs.Sets.{is_some, category_named, category_set}
+use Rattle.pattern_syntax.specs.Sets.{is_some, is_any, complement, negated_if, category_named, closed_category, category_set}
 use Rattle.pattern_syntax.specs.Atom.{Atom, category, category_braced, Digit, spelt, write_atom, FineAtom}
 use Rattle.pattern_syntax.specs.Readers.{EscapeAt, IsSet}
 use Rattle.pattern_syntax.specs.Escapes.{IsEscapeLetter, Spells, SpelledAt, BracesAt, in_braces, IsCategory, IsCategoryBraced}
 use Rattle.pattern_syntax.proofs.BlanksLemmas.{tail}
 use Rattle.pattern_syntax.proofs.spelling.BlanksSplit.{split}
-use Rattle.pattern_syntax.proofs.spelling.SpellingLemmas.{spelled_on, spells_braces, spells_same, braces_same, digits_spell, braces_spell}
+use Rattle.pattern_syntax.proofs.spelling.SpellingLemmas.{not_same, spelled_on, spells_braces, spells_same, braces_same, digits_spell, braces_spell}
 use Rattle.pattern_syntax.proofs.spelling.PlainLemmas.{name_clear, name_inner}
 
 abbrev pub is_category : ℕ → Bool
@@ -26,6 +27,17 @@ category_parts : (k : Flags) (letter : ℕ) (cs : List ℕ) → (k.unicode && is
 category_parts k letter cs h =
     let outer = and_parts (k.unicode && is_category letter) (is_some (category_named cs)) h in
     let inner = and_parts k.unicode (is_category letter) outer.0 in (inner.0, inner.1, outer.1)
+
+-- ---- the set, by the letter
+
+pub own_set : (k : Flags) (letter : ℕ) (name : List ℕ) (class : Class) → (letter ≡ 80 → ⊥) → IsSet class (closed_category k name)
+    → IsSet class (category_set k (letter == 80) name)
+own_set k letter name class other is x = is x ∙ ap (λ b. negated_if b k (closed_category k name) x) (sym (not_same letter 80 other))
+
+pub others_set : (k : Flags) (letter : ℕ) (name : List ℕ) (class others : Class) → letter ≡ 80 → IsSet class (closed_category k name)
+    → IsSet others (complement k (in_ranges class.ranges.items)) → IsSet others (category_set k (letter == 80) name)
+others_set k letter name class others same is rest x =
+    rest x ∙ ap (λ b. is_any k x && not b) (is x) ∙ ap (λ b. negated_if b k (closed_category k name) x) (sym (eq-eqb letter 80 same))
 
 -- ---- one letter
 

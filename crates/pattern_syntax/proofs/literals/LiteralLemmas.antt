@@ -1,15 +1,14 @@
 -- Items that are literal characters or sets.
-use Rattle.std.proofs.Common.{◌≡◌, ◌<◌, ◌≤◌, ℕ, ◌+◌, Bool, true, false, List, [], ◌∷◌, ◌++◌, ◌==◌, ◌||◌, ◌&&◌, nat_le, if◌then◌else◌, length, drop, get_or, Option, Some, None, Result, Ok, Err, IfOk, sym, ap, ◌∙◌, subst, append_assoc, ⊎_elim, arith}
+use Rattle.std.proofs.Common.{◌≡◌, ◌<◌, ◌≤◌, ℕ, ◌+◌, Bool, true, false, List, [], ◌∷◌, ◌++◌, ◌==◌, ◌||◌, ◌&&◌, nat_le, if◌then◌else◌, length, drop, get_or, Option, Some, None, Result, Ok, Err, IfOk, sym, ap, ◌∙◌, subst, append_assoc, arith}
 use Rattle.std.proofs.Math.ListN.{drop_of_length-le}
 use Rattle.std.proofs.lemmas.List.{append-nil}
-use Rattle.std.proofs.lemmas.Bool.{and_from, cases_lt}
+use Rattle.std.proofs.lemmas.Bool.{and_from}
 use Rattle.std.proofs.lemmas.Bool.Decides.{nat_tests}
 use Rattle.regex_class.specs.declared.Class.{Class}
 use Rattle.regex_class.specs.Ranges.{in_range, in_ranges, HasExactly}
-use Rattle.regex_class.proofs.RangesLemmas.{in_ranges-above_max}
 use Rattle.pattern_syntax.specs.declared.flags.Flags.{Flags}
 use Rattle.pattern_syntax.specs.declared.readings.Literals.{Literals}
-use Rattle.pattern_syntax.specs.Sets.{Set, closed, folds_with_another}
+use Rattle.pattern_syntax.specs.Sets.{closed, folds_with_another}
 use Rattle.pattern_syntax.specs.Atom.{Atom, single_of}
 use Rattle.pattern_syntax.specs.Class.{atom_set, listed}
 use Rattle.pattern_syntax.specs.Syntax.{atom}
@@ -19,20 +18,13 @@ use Rattle.pattern_syntax.specs.Readers.{IsSet, HasLiterals}
 use Rattle.pattern_syntax.specs.Singles.{literal_tree}
 use Rattle.pattern_syntax.proofs.BlanksLemmas.{cut_at}
 use Rattle.pattern_syntax.proofs.RangesLemmas.{same_set}
+use Rattle.pattern_syntax.proofs.sets.MemberLemmas.{same_members}
 
 pub ok_on : {A E : Type 0} (P Q : A → Type 0) → ((a : A) → P a → Q a) → (r : Result A E) → IfOk r P → IfOk r Q
 ok_on P Q f (Ok a) h = f a h
 ok_on P Q f (Err e) h = tt
 
 -- ---- classes of the code
-
--- a class with the members of a set that has no number above all characters
-pub is_set : (class : Class) (s : Set) → HasExactly class.ranges.items s → ((c : ℕ) → 0x10_FFFF < c → s c ≡ false) → IsSet class s
-is_set class s has ends c =
-    ⊎_elim
-    (λ low. has c (omega arith))
-    (λ high. in_ranges-above_max class.ranges.items c class.canonical (omega arith) ∙ sym (ends c (omega arith)))
-    (cases_lt c 0x11_0000)
 
 in_one : (c x : ℕ) → ((nat_le c x && nat_le x c) || false) ≡ (x == c)
 in_one c x = grind (arith, nat_tests)
@@ -45,7 +37,7 @@ is_other : (c x : ℕ) → c ≤ 0x10_FFFF → 0x10_FFFF < x → (x == c) ≡ fa
 is_other c x p q = grind (arith, nat_tests)
 
 pub one_set : (class : Class) (c : ℕ) → c ≤ 0x10_FFFF → HasExactly class.ranges.items (in_ranges ((c, c) ∷ [])) → IsSet class (λ d. d == c)
-one_set class c within has = is_set class (λ d. d == c) (λ x low. has x low ∙ one_range c x) (λ x above. is_other c x within above)
+one_set class c within has = same_members class (λ d. d == c) (λ x low. has x low ∙ one_range c x) (λ x above. is_other c x within above)
 
 in_two : (c d x : ℕ) → ((nat_le c x && nat_le x c) || ((nat_le d x && nat_le x d) || false)) ≡ ((x == c) || (x == d))
 in_two c d x = grind (arith, nat_tests)
@@ -59,7 +51,7 @@ neither c d x p q r = grind (arith, nat_tests)
 
 pub two_set : (class : Class) (c d : ℕ) → c ≤ 0x10_FFFF → d ≤ 0x10_FFFF → HasExactly class.ranges.items (in_ranges ((c, c) ∷ (d, d) ∷ []))
     → IsSet class (λ x. (x == c) || (x == d))
-two_set class c d p q has = is_set class (λ x. (x == c) || (x == d)) (λ x low. has x low ∙ two_ranges c d x) (λ x above. neither c d x p q above)
+two_set class c d p q has = same_members class (λ x. (x == c) || (x == d)) (λ x low. has x low ∙ two_ranges c d x) (λ x above. neither c d x p q above)
 
 pub no_set : (ranges : List (ℕ × ℕ)) → ranges ≡ [] → (c : ℕ) → in_ranges ranges c ≡ false
 unfolding in_ranges
