@@ -180,7 +180,7 @@ row_found : (row : List ℕ × Set) (rows : List (List ℕ × Set)) (negated : B
     → (begins_row w row.0 || list_any (λ (row : List ℕ × Set). begins_row w row.0) rows) ≡ true
 row_found row rows negated name w true e more f h =
     or_first (begins_row w row.0) (list_any (λ (row : List ℕ × Set). begins_row w row.0) rows)
-        (row_by negated row.0 w (subst (λ n. starts_with nat_eq w (write_name negated n []) ≡ true) (sym (same_text_is row.0 name e)) h))
+    (row_by negated row.0 w (subst (λ n. starts_with nat_eq w (write_name negated n []) ≡ true) (sym (same_text_is row.0 name e)) h))
 row_found row rows negated name w false e more f h =
     or_true (begins_row w row.0) (list_any (λ (row : List ℕ × Set). begins_row w row.0) rows) (more f)
 
@@ -340,8 +340,8 @@ member_operator k d v w o t e m i =
     (λ m.
     let none = (three (has d (codes "[]\\")) (is_blank_start k d) (has d (codes "&-~") && begins d v) m).2 in
     true≢false
-        (sym (ap₂ ◌&&◌ (by_op (λ c. has c (codes "&-~")) true o refl refl refl) (op_pair o t))
-        ∙ ap₂ (λ c v. has c (codes "&-~") && begins c v) (sym (ap head same)) (sym (ap tail same)) ∙ none))
+    (sym (ap₂ ◌&&◌ (by_op (λ c. has c (codes "&-~")) true o refl refl refl) (op_pair o t))
+    ∙ ap₂ (λ c v. has c (codes "&-~") && begins c v) (sym (ap head same)) (sym (ap tail same)) ∙ none))
     m
 
 op_head : (c : ℕ) (w : List ℕ) (o : Operation) (t : List ℕ) → (38 == c) ≡ false → (45 == c) ≡ false → (126 == c) ≡ false → head w ≡ c → w ≡ op_char o ∷ op_char o ∷ t → ⊥

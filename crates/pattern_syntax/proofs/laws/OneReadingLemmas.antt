@@ -71,7 +71,6 @@ and_shift true true true n = refl
 and_shift true true false true = refl
 and_shift true true false false = refl
 
-
 -- ---- repetitions
 
 swap_at_end : (k : Flags) (d : Bool) (t : List ℕ) → NoOperator k t → begins 63 (if d then seen k t else t) ≡ false
@@ -88,8 +87,8 @@ fine_repeated k r rs t none f = (
   f.0,
   f.1,
   sym (and_shift (fine_count r.count) ((r.swaps && is_braced r.count) || is_nil r.gap) r.swaps (swap_comes k r.count (write_repeats rs t)))
-  ∙ ap (λ n. fine_count r.count && (((r.swaps && is_braced r.count) || is_nil r.gap) && (r.swaps || not n))) (swap_told k r.count rs t none f.3)
-  ∙ f.2,
+      ∙ ap (λ n. fine_count r.count && (((r.swaps && is_braced r.count) || is_nil r.gap) && (r.swaps || not n))) (swap_told k r.count rs t none f.3)
+      ∙ f.2,
 )
 
 operator_of : Count → ℕ
@@ -121,9 +120,9 @@ begins_count (between a b) t = refl
 no_repeated : (k : Flags) (r : Repeated) (t w : List ℕ) → NoOperator k w → FineBlanks k r.before (write_count r.count t) → w ≡ write_blanks r.before (write_count r.count t) → ⊥
 no_repeated k r t w none f e =
     true≢false
-        (sym (begins_count r.count t)
-        ∙ ap (begins (operator_of r.count)) (sym (ap (seen k) e ∙ seen_behind k r.before (write_count r.count t) f (λ on. count_clear r.count t)))
-        ∙ (none (operator_of r.count) (is_operator r.count)).1)
+    (sym (begins_count r.count t)
+    ∙ ap (begins (operator_of r.count)) (sym (ap (seen k) e ∙ seen_behind k r.before (write_count r.count t) f (λ on. count_clear r.count t)))
+    ∙ (none (operator_of r.count) (is_operator r.count)).1)
 
 abbrev behind_count : Repeated → List Repeated → List ℕ → List ℕ
 behind_count r rs t = write_blanks r.gap (write_swap r.swaps (write_repeats rs t))
