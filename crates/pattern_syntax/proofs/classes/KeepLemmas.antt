@@ -18,7 +18,7 @@ use Rattle.pattern_syntax.specs.Readers.{ClassAt, IsClassRead, GoesOnTo}
 use Rattle.pattern_syntax.proofs.BlanksLemmas.{head, apart, cut_at}
 use Rattle.pattern_syntax.proofs.ClassSteps.{atom_member, range_member, name_member, in_append, came_close, came_name, came_nest, came_operation}
 use Rattle.pattern_syntax.proofs.ClassMoves.{close_on, operation_on}
-use Rattle.pattern_syntax.proofs.classes.HeadLemmas.{same_head}
+use Rattle.pattern_syntax.proofs.laws.OneClassLemmas.{one_head}
 use Rattle.pattern_syntax.proofs.classes.MoveLemmas.{one_atom, second_stands, pass_on, pass_back, end_stuck, name_on, nest_on, SecondGoesOn, MemberGoesOn, begins_range, AtomGoesOn, member_on, one_back, range_back}
 
 -- what a slice reads at an index is there
@@ -248,21 +248,13 @@ module _ (k : Flags) (text : List ℕ) where
   unfolding Goes
   begun at s h none f fine written goes = record {
     on = λ found x.
-        let same = same_head k x.head h (write_inside x.inside found.1) (drop s.at text) x.fine_head fine (sym x.written ∙ written) in
+        let same = one_head k x.head h (write_inside x.inside found.1) (drop s.at text) x.fine_head fine (sym x.written ∙ written) in
         let part : found ≡ (bracketed k (is_negated h) (whole_class k (start h) x.inside), found.1) =
         ap (λ (a : ClassPart). let f : Found = (a, found.1) in f) (x.part ∙ ap (λ h. bracketed k (is_negated h) (whole_class k (start h) x.inside)) same.0) in
         moved k _ _ _ _ _ _ found (sym (ap (map frame_of) none)) (sym f) refl (x.inside, found.1, x.fine_inside, sym same.1, part);
     back = λ found x. came_back at s h found fine written (moved k _ _ _ _ _ _ found (ap (map frame_of) none) f refl x);
     more = goes.0;
     within = goes.1;
-  }
-
-  pub begun_step : (at : ℕ) (s t : Reading) → Begun k text at s → Advances k text s t → Begun k text at t
-  begun_step at s t b a = record {
-    on = λ found x. a.on found (b.on found x);
-    back = λ found x. b.back found (a.back found x);
-    more = omega (arith, b.more, a.more);
-    within = a.within;
   }
 
   pub begun_ends : (at : ℕ) (s : Reading) (class : BracketClass) (next : ℕ) → Begun k text at s → Ends k text s class next → ClassAt k text at class next
@@ -291,6 +283,3 @@ module _ (k : Flags) (text : List ℕ) where
   at_end s past found x =
       end_stuck Found k (after_of k s) (level_of s.class) found
       (subst (λ w. RestClass Found k (after_of k s) (level_of s.class) w found) (drop_of_length-le text past) x)
-
-  pub no_head : (at c : ℕ) → at < length text → get_or text at 0 ≡ c → (c ≡ 91 → ⊥) → IsClassRead k text at None
-  no_head at c lt is other h p t written fine inside = other (ap head (sym (here text at c lt is) ∙ written))

@@ -15,8 +15,7 @@ use Rattle.pattern_syntax.proofs.BlanksLemmas.{head, tail, IsClear, seen_behind,
 use Rattle.pattern_syntax.proofs.ClassSteps.{atom_member, range_member, name_member, write_range, FineRange, FineOne, GoesOn, closes, passes, ones, ranges, names, nests, operates, goes_on, came_pass, came_one, came_range}
 use Rattle.pattern_syntax.proofs.ClassMoves.{IsNoBlank, first, no_blank, not_blank, no_atom, no_member, no_operation, not_in, name_first, member_starts, clear_first, slash_no_blank, second_no_blank, range_makes, op_char, written_op, op_no_blank, op_no_bracket, op_no_open, op_no_slash, op_twice, parts_of_member, spaces_on}
 use Rattle.pattern_syntax.proofs.laws.OneAtomLemmas.{one_escape}
-use Rattle.pattern_syntax.proofs.classes.HeadLemmas.{same_head}
-use Rattle.pattern_syntax.proofs.classes.NameLemmas.{same_name, name_begins}
+use Rattle.pattern_syntax.proofs.laws.OneClassLemmas.{escape_first, one_head, one_name, name_begins}
 use Rattle.pattern_syntax.proofs.classes.PassedLemmas.{Blanked, blanks_seen, seen_same, seen_blank, first_fine, rest_fine, written_first}
 
 -- ---- one atom stands at the head of a text
@@ -37,17 +36,6 @@ sort k w (octal ds) t h = inr (tt, h.0, h.1)
 sort k w (perl c) t h = inr (tt, h.0, h.1)
 sort k w (category c bs d) t h = inr (tt, h.0, h.1)
 sort k w (category_braced c bs ds cs) t h = inr (tt, h.0, h.1)
-
-pub escape_first : (a : Atom) (t : List ℕ) → IsEscape a → head (write_atom a t) ≡ 92
-escape_first (character c) t h = absurd h
-escape_first (escaped c) t h = refl
-escape_first (control c) t h = refl
-escape_first (coded c ds) t h = refl
-escape_first (braced c bs ds cs) t h = refl
-escape_first (octal ds) t h = refl
-escape_first (perl c) t h = refl
-escape_first (category c bs d) t h = refl
-escape_first (category_braced c bs ds cs) t h = refl
 
 not_escape : (k : Flags) (w : List ℕ) (a b : Atom) (t u : List ℕ) → IsCharacterAt w a t → IsEscapeAt k w b u → ⊥
 not_escape k w a b t u (c, is, e, slash) (escape, f, fine) = apart c 92 slash (ap head (sym e ∙ f) ∙ escape_first b u escape)
@@ -253,7 +241,7 @@ module _ (F : Type 0) (k : Flags) (after : AfterClass F) (l : ClassLevel) (found
   name_of negated name t w v known q o (ones a u f e x) = absurd (no_atom k a u w 91 v refl (no_member k 91 91 v refl refl) f.0 e o)
   name_of negated name t w v known q o (ranges a bs cs b u f e x) = absurd (no_atom k a _ w 91 v refl (no_member k 91 91 v refl refl) f.0 e o)
   name_of negated name t w v known q o (names m other u f e x) =
-      let same = same_name m negated other name u t f known (sym e ∙ q) in
+      let same = one_name m negated other name u t f known (sym e ∙ q) in
       subst (λ m. RestClass F k after (name_member k m name l) t found) same.0
       (subst (λ n. RestClass F k after (name_member k m n l) t found) same.1
       (subst (λ t. RestClass F k after (name_member k m other l) t found) same.2 x))
@@ -274,7 +262,7 @@ module _ (F : Type 0) (k : Flags) (after : AfterClass F) (l : ClassLevel) (found
   nest_of h t w v none fine q o (ranges a bs cs b u f e x) = absurd (no_atom k a _ w 91 v refl (no_member k 91 91 v refl refl) f.0 e o)
   nest_of h t w v none fine q o (names m other u f e x) = absurd (true≢false (sym (name_begins m other u f) ∙ ap begins_name (sym e) ∙ none))
   nest_of h t w v none fine q o (nests g u apart f e x) =
-      let same = same_head k g h u t f fine (sym e ∙ q) in
+      let same = one_head k g h u t f fine (sym e ∙ q) in
       subst (λ g. RestClass F k (leave_class F k (is_negated g) l after) (start g) t found) same.0
       (subst (λ t. RestClass F k (leave_class F k (is_negated g) l after) (start g) t found) same.1 x)
   nest_of h t w v none fine q o (operates p u e x) = absurd (apart (op_char p) 91 (op_no_open p) (ap head (sym (written_op p u) ∙ sym e ∙ o)))

@@ -1,4 +1,4 @@
--- A text has one name of a set.
+-- How names of sets are written.
 use Rattle.std.proofs.Common.{◌≡◌, ℕ, ◌+◌, Bool, true, false, ◌==◌, ◌&&◌, ◌||◌, ◌⊎◌, inl, inr, ⊎_elim, if◌then◌else◌, List, [], ◌∷◌, ◌++◌, codes, drop, length, Option, Some, None, append_assoc, refl, sym, ap, ap₂, ◌∙◌, subst, true≢false, eqb-true, nat_eq}
 use Rattle.std.specs.List.{list_any, starts_with}
 use Rattle.std.proofs.lemmas.Bool.{and_parts, and_from, or_cases, or_left, or_right}
@@ -103,31 +103,6 @@ named_in (row ∷ rows) w h =
 pub named_there : (w : List ℕ) → begins_name w ≡ true → NamedBy ascii_names w
 named_there w h = named_in ascii_names w h
 
-row_begins : (row : List ℕ × Set) (negated : Bool) (t : List ℕ) → begins_row (write_name negated row.0 t) row ≡ true
-row_begins row true t =
-    or_right (starts_with nat_eq (write_name true row.0 t) (write_name false row.0 [])) (starts_with nat_eq (write_name true row.0 t) (write_name true row.0 []))
-    (has_prefix (write_name true row.0 t) (write_name true row.0 []) t (name_then true row.0 t))
-row_begins row false t =
-    or_left (starts_with nat_eq (write_name false row.0 t) (write_name false row.0 [])) (starts_with nat_eq (write_name false row.0 t) (write_name true row.0 []))
-    (has_prefix (write_name false row.0 t) (write_name false row.0 []) t (name_then false row.0 t))
-
-begins_by : (row : List ℕ × Set) (rows : Rows) (negated : Bool) (name t : List ℕ) (b : Bool) → same_text row.0 name ≡ b
-    → (is_some (value_of rows name) ≡ true → list_any (begins_row (write_name negated name t)) rows ≡ true)
-    → is_some (if b then Some row.1 else value_of rows name) ≡ true → list_any (begins_row (write_name negated name t)) (row ∷ rows) ≡ true
-begins_by row rows negated name t true e more h =
-    or_left (begins_row (write_name negated name t) row) (list_any (begins_row (write_name negated name t)) rows)
-    (subst (λ n. begins_row (write_name negated n t) row ≡ true) (same_text_true row.0 name e) (row_begins row negated t))
-begins_by row rows negated name t false e more h =
-    or_right (begins_row (write_name negated name t) row) (list_any (begins_row (write_name negated name t)) rows) (more h)
-
-begins_in : (rows : Rows) (negated : Bool) (name t : List ℕ) → is_some (value_of rows name) ≡ true → list_any (begins_row (write_name negated name t)) rows ≡ true
-begins_in [] negated name t h = absurd (true≢false (sym h))
-begins_in (row ∷ rows) negated name t h = begins_by row rows negated name t (same_text row.0 name) refl (begins_in rows negated name t) h
-
--- where a name is written the test says so
-pub name_begins : (negated : Bool) (name t : List ℕ) → is_some (value_of ascii_names name) ≡ true → begins_name (write_name negated name t) ≡ true
-name_begins negated name t h = begins_in ascii_names negated name t h
-
 -- ---- there is one
 
 colon_ends : (c : ℕ) (b : Bool) (t u : List ℕ) → is_ascii_lower c ≡ b → b ≡ true → after_letters t ≡ u → after_letters (c ∷ t) ≡ u
@@ -150,24 +125,3 @@ no_caret (c ∷ name) t u h e =
 
 pub caret_after : (name t : List ℕ) (u : List ℕ) → all is_ascii_lower name ≡ true → name ++ (58 ∷ t) ≡ 94 ∷ u → ⊥
 caret_after name t u h e = no_caret name t u h e
-
-same_letters : (a b t u : List ℕ) → all is_ascii_lower a ≡ true → all is_ascii_lower b ≡ true → a ++ (58 ∷ t) ≡ b ++ (58 ∷ u) → (a ≡ b) × (t ≡ u)
-same_letters a b t u f g e =
-    let behind : 58 ∷ t ≡ 58 ∷ u = sym (behind_name a t f) ∙ ap after_letters e ∙ behind_name b u g in
-    (append_cancel_right a b (58 ∷ u) (ap (λ w. a ++ w) (sym behind) ∙ e), ap tail behind)
-
-same_open : (m n : Bool) (a b t u : List ℕ) → all is_ascii_lower a ≡ true → all is_ascii_lower b ≡ true
-    → open_name m (a ++ (58 ∷ t)) ≡ open_name n (b ++ (58 ∷ u)) → (m ≡ n) × (a ++ (58 ∷ t) ≡ b ++ (58 ∷ u))
-same_open true true a b t u f g e = (refl, ap (λ w. tail (tail (tail w))) e)
-same_open false false a b t u f g e = (refl, ap (λ w. tail (tail w)) e)
-same_open true false a b t u f g e = absurd (no_caret b u (a ++ (58 ∷ t)) g (ap (λ w. tail (tail w)) (sym e)))
-same_open false true a b t u f g e = absurd (no_caret a t (b ++ (58 ∷ u)) f (ap (λ w. tail (tail w)) e))
-
-pub same_name : (m n : Bool) (a b t u : List ℕ) → is_some (value_of ascii_names a) ≡ true → is_some (value_of ascii_names b) ≡ true
-    → write_name m a t ≡ write_name n b u → (m ≡ n) × (a ≡ b) × (t ≡ u)
-same_name m n a b t u f g e =
-    let small = name_small a f in
-    let small_too = name_small b g in
-    let begun = same_open m n a b (93 ∷ t) (93 ∷ u) small small_too (sym (written_name m a t) ∙ e ∙ written_name n b u) in
-    let rest = same_letters a b (93 ∷ t) (93 ∷ u) small small_too begun.1 in
-    (begun.0, rest.0, ap tail rest.1)

@@ -22,7 +22,7 @@ use Rattle.pattern_syntax.proofs.BlanksLemmas.{head, tail, apart, two, three}
 use Rattle.pattern_syntax.proofs.ClassMoves.{first, written_first, second_starts}
 use Rattle.pattern_syntax.proofs.classes.HeadLemmas.{FineSoFar, write_one_more, fine_one_more, fine_dashes}
 use Rattle.pattern_syntax.proofs.classes.KeepLemmas.{here}
-use Rattle.pattern_syntax.proofs.classes.MoveLemmas.{sort, IsCharacterAt, IsEscapeAt, escape_first, one_atom, second_stands, stands_second, atom_written, no_atom_at_end}
+use Rattle.pattern_syntax.proofs.classes.MoveLemmas.{sort, IsCharacterAt, IsEscapeAt, one_atom, second_stands, stands_second, atom_written, no_atom_at_end}
 use Rattle.pattern_syntax.proofs.classes.NameLemmas.{name_small, written_name, named_there, behind_name, caret_after}
 use Rattle.pattern_syntax.proofs.classes.PassedLemmas.{blanks_seen, seen_short, seen_start}
 
@@ -100,9 +100,6 @@ pub record DashesTo (k : Flags) (text : List ℕ) (at place count : ℕ) : Type 
   pub fine : FineSoFar k dashes (drop place text)
   pub onward : at + count ≤ place
   pub within : place ≤ length text
-
-pub dashes_none : (k : Flags) (text : List ℕ) (at : ℕ) → at ≤ length text → DashesTo k text at at 0
-dashes_none k text at le = record { dashes = []; as_many = refl; written = refl; fine = tt; onward = omega arith; within = le }
 
 one_longer : {A : Type 0} (xs : List A) (x : A) → length (xs ++ x ∷ []) ≡ length xs + 1
 one_longer [] x = refl
@@ -197,26 +194,9 @@ head_read k text at caret bracket first place count next negates brackets lt is 
 
 -- ---- names
 
-pub no_colon : (text : List ℕ) (at : ℕ) → at < length text → ((at + 1 < length text) → get_or text (at + 1) 0 ≡ 58 → ⊥) → (t : List ℕ) → drop at text ≡ 91 ∷ 58 ∷ t → ⊥
-no_colon text at lt other t e =
-    let behind : drop (at + 1) text ≡ 58 ∷ t = ap tail (sym (here text at (get_or text at 0) lt refl) ∙ e) in
-    let more : at + 1 < length text = goes_within text (at + 1) 58 t (omega arith) behind in
-    other more (ap head (sym (here text (at + 1) (get_or text (at + 1) 0) more refl) ∙ behind))
-
 to_false : (b : Bool) → (b ≡ true → ⊥) → b ≡ false
 to_false false h = refl
 to_false true h = absurd (h refl)
-
-opened_by : (negated : Bool) (name t : List ℕ) → open_name negated (name ++ (58 ∷ 93 ∷ t)) ≡ 91 ∷ 58 ∷ tail (tail (open_name negated (name ++ (58 ∷ 93 ∷ t))))
-opened_by true name t = refl
-opened_by false name t = refl
-
--- no name without an opening
-pub name_none : (text : List ℕ) (at : ℕ) → IsNameOpen text at None → begins_name (drop at text) ≡ false
-name_none text at none =
-    to_false (begins_name (drop at text)) (λ h.
-    let there = named_there (drop at text) h in
-    none _ (there.3 ∙ written_name there.0 there.1 there.2 ∙ opened_by there.0 there.1 there.2))
 
 -- the letters of a name stand behind its opening
 letters_are : (m n : Bool) (name t u : List ℕ) → is_some (value_of ascii_names name) ≡ true → (m ≡ false → begins 94 u ≡ false)
@@ -284,10 +264,6 @@ operation_other text at c d lt is follows other e t q =
 
 -- ---- members
 
-pub or_true : (b : Bool) → (b || true) ≡ true
-or_true true = refl
-or_true false = refl
-
 pub plain_single : (k : Flags) (text : List ℕ) (at c : ℕ) → at < length text → get_or text at 0 ≡ c → (c ≡ 92 → ⊥) → (k.unicode || nat_lt c 128) ≡ true
     → MemberAt k text at (class_member.Single c) (at + 1)
 plain_single k text at c lt is other fit = record {
@@ -297,14 +273,6 @@ plain_single k text at c lt is other fit = record {
   fits = fit;
   is = refl;
 }
-
--- a character that may not be a member stands there
-pub plain_unfit : (k : Flags) (text : List ℕ) (at c : ℕ) → at < length text → get_or text at 0 ≡ c → (c ≡ 92 → ⊥) → (k.unicode || nat_lt c 128) ≡ false
-    → IsMemberRead k text at None
-plain_unfit k text at c lt is other unfit a t stands fit =
-    let own : IsAtomAt k (drop at text) (character c) (drop (at + 1) text) = (here text at c lt is, differs c 92 other) in
-    let same = one_atom k (drop at text) a (character c) t (drop (at + 1) text) stands own in
-    true≢false (sym fit ∙ ap (fits k) same.0 ∙ unfit)
 
 escape_stands : (k : Flags) (w : List ℕ) (a : Atom) (t : List ℕ) → IsEscape a → w ≡ write_atom a t → FineAtom k a t → IsAtomAt k w a t
 escape_stands k w (character c) t h e f = absurd h
@@ -320,34 +288,6 @@ escape_stands k w (category_braced c bs ds cs) t h e f = (e, f)
 stands_at : (k : Flags) (text : List ℕ) (at next : ℕ) (read : Member) (e : EscapeAt k text at read next) → IsAtomAt k (drop at text) e.atom (drop next text)
 stands_at k text at next read e = escape_stands k (drop at text) e.atom (drop next text) e.escapes e.written e.fine
 
-pub escape_single : (k : Flags) (text : List ℕ) (at next c : ℕ) → EscapeAt k text at (member.Character c) next → (k.unicode || nat_lt c 128) ≡ true
-    → MemberAt k text at (class_member.Single c) next
-escape_single k text at next c e fit = record {
-  atom = e.atom;
-  goes_on = e.goes_on;
-  stands = stands_at k text at next (member.Character c) e;
-  fits = ap (λ b. k.unicode || b) e.is.2 ∙ fit;
-  is = e.is.0;
-}
-
-pub escape_byte : (k : Flags) (text : List ℕ) (at next b c : ℕ) → c ≡ b → EscapeAt k text at (member.HexByte b) next → MemberAt k text at (class_member.Single c) next
-escape_byte k text at next b c same e = record {
-  atom = e.atom;
-  goes_on = e.goes_on;
-  stands = stands_at k text at next (member.HexByte b) e;
-  fits = ap (λ b. k.unicode || b) e.is.2 ∙ or_true k.unicode;
-  is = e.is.0 ∙ ap Some (sym same);
-}
-
-pub escape_many : (k : Flags) (text : List ℕ) (at next : ℕ) (set : Class) → EscapeAt k text at (member.Set set) next → MemberAt k text at (class_member.Many set) next
-escape_many k text at next set e = record {
-  atom = e.atom;
-  goes_on = e.goes_on;
-  stands = stands_at k text at next (member.Set set) e;
-  fits = ap (λ b. k.unicode || b) e.is.2 ∙ or_true k.unicode;
-  is = (e.is.0, e.is.1);
-}
-
 pub escape_unfit : (k : Flags) (text : List ℕ) (at next c : ℕ) → EscapeAt k text at (member.Character c) next → (k.unicode || nat_lt c 128) ≡ false
     → IsMemberRead k text at None
 escape_unfit k text at next c e unfit a t stands fit =
@@ -362,9 +302,6 @@ escape_none k text at lt is none a t stands fit =
     (sort k (drop at text) a t stands)
 
 -- ---- second ends
-
-abbrev dash_test : List ℕ → List ℕ → Bool
-dash_test after further = begins 45 after && not (begins 45 further || begins 93 further)
 
 neither : (a b : Bool) → not (a || b) ≡ true → (a ≡ false) × (b ≡ false)
 neither false false h = (refl, refl)

@@ -1,6 +1,6 @@
-use Rattle.std.proofs.Common.{◌≡◌, sym, ◌∙◌, subst}
+use Rattle.std.proofs.Common.{sym, ◌∙◌, subst}
 use Rattle.pattern_syntax.specs.declared.readings.Member.{Member}
-use Rattle.pattern_syntax.specs.Readers.{EscapeAt, IsEscapeRead}
+use Rattle.pattern_syntax.specs.Readers.{EscapeAt}
 use Rattle.pattern_syntax.proofs.classes.KeepLemmas.{read_at}
 use Rattle.pattern_syntax.proofs.classes.ReadLemmas.{plain_single, escape_none, escape_unfit}
 use Rattle.pattern_syntax.proofs.classes.members.read_member.Goals as goal

@@ -1,4 +1,4 @@
-use Rattle.std.proofs.Common.{◌≡◌, ◌<◌, ◌≤◌, ◌+◌, length, drop, get_or, sym, ap, ◌∙◌, subst, arith}
+use Rattle.std.proofs.Common.{◌≡◌, ◌<◌, ◌≤◌, ◌+◌, length, drop, sym, ap, ◌∙◌, subst, arith}
 use Rattle.pattern_syntax.specs.Flags.{seen}
 use Rattle.pattern_syntax.specs.ClassReading.{behind_dash, MemberAt}
 use Rattle.pattern_syntax.specs.declared.classes.members.ClassMember.{ClassMember}

@@ -1,10 +1,8 @@
-use Rattle.std.proofs.Common.{◌≡◌, ◌+◌, ◌∷◌, ◌++◌, [], ◌-◌, length, take, drop, sym, ap, ◌∙◌, true, true≢false, arith}
+use Rattle.std.proofs.Common.{◌+◌, ◌∷◌, [], ◌-◌, length, take, drop, sym, ◌∙◌, true≢false}
 use Rattle.std.specs.List.{slice_range}
 use Rattle.std.proofs.lemmas.Bool.Decides.{Decides-eqb}
 use Rattle.std.proofs.lemmas.List.Folds.{drop_split}
 use Rattle.std.proofs.lemmas.Slice.Eq.{starts_is}
-use Rattle.pattern_syntax.proofs.RangesLemmas.{same_set}
-use Rattle.pattern_syntax.proofs.classes.UnionLemmas.{negated_part, plain_part}
 use Rattle.pattern_syntax.proofs.classes.ReadLemmas.{name_ends, slice_rest, two_within, name_unended, name_unknown, name_found, name_plain, name_negated}
 use Rattle.pattern_syntax.proofs.classes.names.read_name.Goals as goal
 

@@ -1,4 +1,4 @@
-use Rattle.std.proofs.Common.{◌≡◌, false, ℕ, ◌==◌, ◌&&◌, ◌||◌, nat_lt, ap, ap₂, ◌∙◌}
+use Rattle.std.proofs.Common.{◌≡◌, false, ◌==◌, ◌&&◌, ◌||◌, nat_lt, ap, ◌∙◌}
 use Rattle.pattern_syntax.specs.ClassReading.{held}
 use Rattle.pattern_syntax.proofs.classes.UnionLemmas.{none_held_at}
 use Rattle.pattern_syntax.proofs.classes.StartLemmas.{first_pushed, first_none, second_pushed, second_none}

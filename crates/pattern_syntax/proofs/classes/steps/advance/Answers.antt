@@ -1,5 +1,4 @@
-use Rattle.std.proofs.Common.{◌≡◌, ◌<◌, ◌≤◌, length, drop, refl, sym, ap, ◌∙◌, arith}
-use Rattle.pattern_syntax.specs.Flags.{seen}
+use Rattle.std.proofs.Common.{◌≡◌, ◌≤◌, length, drop, refl, ap, ◌∙◌, arith}
 use Rattle.pattern_syntax.proofs.classes.KeepLemmas.{read_at, pass_keeps}
 use Rattle.pattern_syntax.proofs.classes.ReadLemmas.{onward, member_starts_at}
 use Rattle.pattern_syntax.proofs.classes.steps.advance.Goals as goal

@@ -1,5 +1,4 @@
-use Rattle.std.proofs.Common.{refl, ◌∙◌}
-use Rattle.pattern_syntax.proofs.classes.KeepLemmas.{read_at}
+use Rattle.std.proofs.Common.{refl}
 use Rattle.pattern_syntax.proofs.classes.StepLemmas.{named_keeps}
 use Rattle.pattern_syntax.proofs.classes.steps.bracket.Goals as goal
 

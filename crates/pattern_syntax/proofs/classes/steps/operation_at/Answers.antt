@@ -1,5 +1,5 @@
 use Rattle.pattern_syntax.proofs.classes.KeepLemmas.{read_at}
-use Rattle.std.proofs.Common.{◌≡◌, ◌+◌, ◌<◌, length, sym, arith}
+use Rattle.std.proofs.Common.{◌+◌, ◌<◌, length, arith}
 use Rattle.pattern_syntax.proofs.classes.ReadLemmas.{operation_end, operation_other}
 use Rattle.pattern_syntax.proofs.classes.steps.operation_at.Goals as goal
 use Rattle.pattern_syntax.proofs.classes.steps.operation_at.Goals.{then-at-text-via-then-at-text, then-at-text-via-else-at-text+then-text-at}

@@ -1,7 +1,7 @@
-use Rattle.std.proofs.Common.{◌≡◌, OnOk, Some, [], ◌∷◌, ap, ap₂, ◌∙◌, subst}
+use Rattle.std.proofs.Common.{◌≡◌, OnOk, Some, [], ◌∷◌, ap₂, ◌∙◌, subst}
 use Rattle.pattern_syntax.specs.declared.readings.Literals.{Literals}
 use Rattle.pattern_syntax.specs.Class.{matches_one}
-use Rattle.pattern_syntax.specs.ClassProgress.{literals_in, with_member}
+use Rattle.pattern_syntax.specs.ClassProgress.{with_member}
 use Rattle.pattern_syntax.specs.ClassReading.{frame_of, framed, held, level_of}
 use Rattle.pattern_syntax.specs.Sets.{Set}
 use Rattle.pattern_syntax.proofs.classes.UnionLemmas.{one_held, scalar_bound}

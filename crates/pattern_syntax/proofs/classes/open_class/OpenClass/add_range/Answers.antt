@@ -1,4 +1,4 @@
-use Rattle.std.proofs.Common.{◌≡◌, OnOk, Some, [], ◌∷◌, sym, ap, ap₂, ◌∙◌, subst}
+use Rattle.std.proofs.Common.{◌≡◌, OnOk, Some, [], ◌∷◌, sym, ap₂, ◌∙◌, subst}
 use Rattle.pattern_syntax.specs.declared.readings.Literals.{Literals}
 use Rattle.pattern_syntax.specs.Class.{range_set}
 use Rattle.pattern_syntax.specs.ClassProgress.{in_both, literals_in, with_member}

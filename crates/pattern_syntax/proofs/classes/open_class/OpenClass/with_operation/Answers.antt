@@ -1,4 +1,4 @@
-use Rattle.std.proofs.Common.{◌≡◌, Some, refl, ap, ◌∙◌}
+use Rattle.std.proofs.Common.{Some, refl, ap, ◌∙◌}
 use Rattle.pattern_syntax.specs.Class.{waits}
 use Rattle.pattern_syntax.specs.ClassReading.{held, operation_of}
 use Rattle.pattern_syntax.specs.Sets.{Set}
