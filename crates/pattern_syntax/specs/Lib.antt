@@ -7,7 +7,6 @@ pub mod Escapes
 pub mod Examples
 pub mod Flags
 pub mod OpeningReaders
-pub mod Progress
 pub mod Readers
 pub mod Reads
 pub mod Runs

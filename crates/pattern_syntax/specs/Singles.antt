@@ -5,7 +5,7 @@ use Rattle.pattern_syntax.specs.declared.flags.Flags.{Flags}
 use Rattle.pattern_syntax.specs.declared.readings.Item.{Item}
 use Rattle.pattern_syntax.specs.Sets.{closed, folds_with_another}
 use Rattle.pattern_syntax.specs.Class.{is_blank_start}
-use Rattle.pattern_syntax.specs.Syntax.{Single, dot, caret, dollar, look, class, Edge, text_start, text_end, edge, no_edge, word_start, word_end, half_start, half_end, left, right, write_edge, write_single, FineLook, is_special}
+use Rattle.pattern_syntax.specs.Syntax.{Single, dot, caret, dollar, Edge, text_start, text_end, edge, no_edge, word_start, word_end, half_start, half_end, left, right, write_edge, write_single, FineLook, is_special}
 use Rattle.pattern_syntax.specs.SetTree.{SetTree, literal}
 use Rattle.pattern_syntax.specs.Reads.{edge_look, class_tree}
 use Rattle.pattern_syntax.specs.Readers.{GoesOnTo, SingleAt}

@@ -1,13 +1,8 @@
 -- The leading `-` of a class, as they are read.
-use Rattle.std.proofs.Common.{◌≡◌, ℕ, Bool, true, false, ◌==◌, List, [], ◌∷◌, ◌++◌, codes, Option, Some, None, refl, sym, ap, ap₂, ◌∙◌, subst, true≢false, eq-eqb}
-use Rattle.ucd_props.proofs.Computing.{ucd_props}
+use Rattle.std.proofs.Common.{◌≡◌, ℕ, false, List, [], ◌∷◌, ◌++◌, codes, refl, sym, ap, subst}
 use Rattle.pattern_syntax.specs.declared.flags.Flags.{Flags}
-use Rattle.pattern_syntax.specs.Flags.{Blank, write_blanks, FineBlanks, begins, seen, is_nil}
-use Rattle.pattern_syntax.specs.Class.{Head, write_after, write_dashes, write_head, FineCaret, FineDashes, FineBracket, FineHead}
-use Rattle.pattern_syntax.proofs.BlanksLemmas.{tail, seen_behind, bracket_clear, dash_clear}
-use Rattle.pattern_syntax.proofs.SameBlanks.{same_blanks}
-use Rattle.pattern_syntax.proofs.ClassMoves.{IsNoBlank}
-use Rattle.unicode.specs.Binary.{is_white_space}
+use Rattle.pattern_syntax.specs.Flags.{Blank, write_blanks, FineBlanks, begins, seen}
+use Rattle.pattern_syntax.specs.Class.{write_dashes, FineDashes}
 
 abbrev pub FineSoFar : Flags → List (List Blank) → List ℕ → Type 0
 FineSoFar k [] t = Unit {0}

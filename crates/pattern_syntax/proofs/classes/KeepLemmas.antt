@@ -1,5 +1,5 @@
 -- What the steps of the reading keep.
-use Rattle.std.proofs.Common.{◌≡◌, ◌<◌, ◌≤◌, ℕ, zero, suc, ◌+◌, Bool, true, false, ◌==◌, ◌&&◌, ◌||◌, nat_le, List, [], ◌∷◌, ◌++◌, codes, drop, length, map, get_or, Option, Some, None, refl, sym, ap, ap₂, ◌∙◌, subst, true≢false, eqb-true, arith}
+use Rattle.std.proofs.Common.{◌≡◌, ◌<◌, ◌≤◌, ℕ, zero, suc, ◌+◌, Bool, true, false, ◌&&◌, List, [], ◌∷◌, ◌++◌, drop, length, map, get_or, None, refl, sym, ap, ◌∙◌, subst, arith}
 use Rattle.std.proofs.lemmas.Bool.{and_from}
 use Rattle.std.proofs.lemmas.List.{map-append}
 use Rattle.std.proofs.Math.ListN.{drop_of_length-le}
@@ -11,11 +11,11 @@ use Rattle.pattern_syntax.specs.declared.classes.steps.Reading.{Reading}
 use Rattle.pattern_syntax.specs.Flags.{seen}
 use Rattle.pattern_syntax.specs.Sets.{ascii_names, value_of, is_some}
 use Rattle.pattern_syntax.specs.Atom.{Atom, write_atom, single_of}
-use Rattle.pattern_syntax.specs.Class.{Head, Inside, close, Operation, write_head, write_inside, write_name, write_operation, FineHead, FineInside, FineSecond, fits, in_order, makes_range, begins_name, is_negated, head_literals, inside_literals}
+use Rattle.pattern_syntax.specs.Class.{Head, close, Operation, write_head, write_inside, write_name, write_operation, FineHead, FineInside, FineSecond, fits, in_order, makes_range, begins_name, is_negated, head_literals, inside_literals}
 use Rattle.pattern_syntax.specs.ClassProgress.{ClassPart, ClassLevel, start, literals_in, whole_class, with_member, bracketed, with_operation, AfterClass, RestClass, leave_class}
 use Rattle.pattern_syntax.specs.ClassReading.{Frame, framed, frame_of, level_of, code_part, Found, last, after_all, Goes, Continues, Advances, Ends, ClassFrom, Begun, IsAtomAt, begins_member, behind_dash}
 use Rattle.pattern_syntax.specs.Readers.{ClassAt, IsClassRead, GoesOnTo}
-use Rattle.pattern_syntax.proofs.BlanksLemmas.{head, apart, cut_at}
+use Rattle.pattern_syntax.proofs.BlanksLemmas.{cut_at}
 use Rattle.pattern_syntax.proofs.ClassSteps.{atom_member, range_member, name_member, in_append, came_close, came_name, came_nest, came_operation}
 use Rattle.pattern_syntax.proofs.ClassMoves.{close_on, operation_on}
 use Rattle.pattern_syntax.proofs.laws.OneClassLemmas.{one_head}

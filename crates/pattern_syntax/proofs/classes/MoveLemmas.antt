@@ -1,22 +1,22 @@
 -- How a class goes on behind white space, at a member, at a name, at a nested class, and at the end of the text.
-use Rattle.std.proofs.Common.{◌≡◌, ℕ, Bool, true, false, not, ◌&&◌, ◌||◌, ◌==◌, ◌⊎◌, inl, inr, ⊎_elim, nat_le, List, [], ◌∷◌, ◌++◌, codes, Option, Some, None, refl, sym, ap, ap₂, ◌∙◌, subst, eqb-true, true≢false}
-use Rattle.std.proofs.lemmas.Bool.{and_parts, and_from, or_cases, cases_Bool}
+use Rattle.std.proofs.Common.{◌≡◌, ℕ, Bool, true, false, not, ◌&&◌, ◌||◌, ◌==◌, ◌⊎◌, inl, inr, ⊎_elim, List, [], ◌∷◌, ◌++◌, codes, Option, Some, None, refl, sym, ap, ◌∙◌, subst, eqb-true, true≢false}
+use Rattle.std.proofs.lemmas.Bool.{and_parts, and_from, or_cases}
 use Rattle.ucd_props.proofs.Computing.{ucd_props}
 use Rattle.unicode.specs.Binary.{is_white_space}
 use Rattle.pattern_syntax.specs.declared.flags.Flags.{Flags}
 use Rattle.pattern_syntax.specs.Flags.{Blank, white, comment, write_blanks, FineBlanks, has, begins, rest, seen}
 use Rattle.pattern_syntax.specs.Sets.{ascii_names, value_of, is_some}
 use Rattle.pattern_syntax.specs.Atom.{Atom, character, escaped, control, coded, braced, octal, perl, category, category_braced, write_atom, FineAtom, single_of}
-use Rattle.pattern_syntax.specs.Class.{Head, Inside, close, pass, one, range, named, nested, operation, Operation, write_inside, write_head, write_name, write_operation, FineInside, FineHead, FineMember, FineSecond, fits, in_order, is_member, is_second, is_blank_start, makes_range, begins_name, is_negated}
-use Rattle.pattern_syntax.specs.ClassProgress.{ClassLevel, start, whole_class, with_operation, AfterClass, RestClass, leave_class}
+use Rattle.pattern_syntax.specs.Class.{Head, Inside, close, pass, one, range, named, nested, operation, write_inside, write_head, write_name, FineInside, FineHead, FineMember, FineSecond, fits, in_order, is_member, is_second, is_blank_start, makes_range, begins_name, is_negated}
+use Rattle.pattern_syntax.specs.ClassProgress.{ClassLevel, start, whole_class, AfterClass, RestClass, leave_class}
 use Rattle.pattern_syntax.specs.ClassReading.{IsAtomAt, begins_member, behind_dash}
 use Rattle.pattern_syntax.specs.Readers.{IsEscape}
-use Rattle.pattern_syntax.proofs.BlanksLemmas.{head, tail, IsClear, seen_behind, two, three, apart, bracket_clear, dash_clear}
-use Rattle.pattern_syntax.proofs.ClassSteps.{atom_member, range_member, name_member, write_range, FineRange, FineOne, GoesOn, closes, passes, ones, ranges, names, nests, operates, goes_on, came_pass, came_one, came_range}
-use Rattle.pattern_syntax.proofs.ClassMoves.{IsNoBlank, first, no_blank, not_blank, no_atom, no_member, no_operation, not_in, name_first, member_starts, clear_first, slash_no_blank, second_no_blank, range_makes, op_char, written_op, op_no_blank, op_no_bracket, op_no_open, op_no_slash, op_twice, parts_of_member, spaces_on}
+use Rattle.pattern_syntax.proofs.BlanksLemmas.{head, tail, IsClear, seen_behind, two, apart, bracket_clear, dash_clear}
+use Rattle.pattern_syntax.proofs.ClassSteps.{atom_member, range_member, name_member, GoesOn, closes, passes, ones, ranges, names, nests, operates, goes_on, came_pass, came_one, came_range}
+use Rattle.pattern_syntax.proofs.ClassMoves.{IsNoBlank, first, no_blank, not_blank, no_atom, no_member, no_operation, not_in, name_first, member_starts, clear_first, slash_no_blank, second_no_blank, range_makes, op_char, written_op, op_no_blank, op_no_open, op_no_slash, op_twice, parts_of_member, spaces_on}
 use Rattle.pattern_syntax.proofs.laws.OneAtomLemmas.{one_escape}
 use Rattle.pattern_syntax.proofs.laws.OneClassLemmas.{escape_first, one_head, one_name, name_begins}
-use Rattle.pattern_syntax.proofs.classes.PassedLemmas.{Blanked, blanks_seen, seen_same, seen_blank, first_fine, rest_fine, written_first}
+use Rattle.pattern_syntax.proofs.classes.PassedLemmas.{blanks_seen, seen_same, seen_blank, first_fine, rest_fine, written_first}
 
 -- ---- one atom stands at the head of a text
 

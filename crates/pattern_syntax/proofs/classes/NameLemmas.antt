@@ -1,11 +1,10 @@
 -- How names of sets are written.
-use Rattle.std.proofs.Common.{◌≡◌, ℕ, ◌+◌, Bool, true, false, ◌==◌, ◌&&◌, ◌||◌, ◌⊎◌, inl, inr, ⊎_elim, if◌then◌else◌, List, [], ◌∷◌, ◌++◌, codes, drop, length, Option, Some, None, append_assoc, refl, sym, ap, ap₂, ◌∙◌, subst, true≢false, eqb-true, nat_eq}
+use Rattle.std.proofs.Common.{◌≡◌, ℕ, Bool, true, false, ◌&&◌, ◌||◌, ◌⊎◌, inl, inr, ⊎_elim, if◌then◌else◌, List, [], ◌∷◌, ◌++◌, codes, drop, length, Option, Some, append_assoc, refl, sym, ap, ap₂, ◌∙◌, subst, true≢false, nat_eq}
 use Rattle.std.specs.List.{list_any, starts_with}
-use Rattle.std.proofs.lemmas.Bool.{and_parts, and_from, or_cases, or_left, or_right}
+use Rattle.std.proofs.lemmas.Bool.{and_parts, and_from, or_cases}
 use Rattle.std.proofs.lemmas.Bool.Decides.{Decides-eqb}
-use Rattle.std.proofs.lemmas.List.{append-nil, append_cancel_right}
+use Rattle.std.proofs.lemmas.List.{append-nil}
 use Rattle.std.proofs.lemmas.Slice.Eq.{starts_is}
-use Rattle.std.proofs.Math.ListN.{drop_of_length-le}
 use Rattle.pattern_syntax.specs.Sets.{Set, is_ascii_lower, ascii_names, same_text, value_of, is_some}
 use Rattle.pattern_syntax.specs.Atom.{all}
 use Rattle.pattern_syntax.specs.Class.{write_name, begins_name}

@@ -1,24 +1,23 @@
 -- What the parts of the code read.
-use Rattle.std.proofs.Common.{◌≡◌, ◌<◌, ◌≤◌, ◌⊎◌, inl, inr, ⊎_elim, ℕ, zero, suc, ◌+◌, ◌-◌, Bool, true, false, ◌==◌, ◌&&◌, ◌||◌, not, nat_lt, nat_eq, List, [], ◌∷◌, ◌++◌, codes, drop, take, length, map, get_or, Option, Some, None, MatchOption, refl, sym, ap, ap₂, ◌∙◌, subst, true≢false, eqb-true, eq-eqb, arith}
+use Rattle.std.proofs.Common.{◌≡◌, ◌<◌, ◌≤◌, ⊎_elim, ℕ, suc, ◌+◌, ◌-◌, Bool, true, false, ◌==◌, ◌&&◌, ◌||◌, not, nat_lt, List, [], ◌∷◌, ◌++◌, codes, drop, take, length, get_or, Option, Some, None, refl, sym, ap, ap₂, ◌∙◌, subst, true≢false, eqb-true, eq-eqb, arith}
 use Rattle.std.specs.Option.{is_some as there_is, unwrap_or}
-use Rattle.std.proofs.lemmas.Bool.{and_parts, and_from}
+use Rattle.std.proofs.lemmas.Bool.{and_parts}
 use Rattle.std.proofs.lemmas.List.{length-drop, drop-drop, take_all, append_cancel_right}
 use Rattle.std.proofs.Math.ListN.{drop_of_length-le}
 use Rattle.pattern_syntax.specs.declared.flags.Flags.{Flags}
 use Rattle.pattern_syntax.specs.declared.readings.Member.{Member}
 use Rattle.pattern_syntax.specs.declared.readings.Member.TheVariants as member
 use Rattle.pattern_syntax.specs.declared.classes.heads.ClassHead.{ClassHead}
-use Rattle.pattern_syntax.specs.declared.classes.members.ClassMember.{ClassMember}
 use Rattle.pattern_syntax.specs.declared.classes.members.ClassMember.TheVariants as class_member
 use Rattle.regex_class.specs.declared.Class.{Class}
 use Rattle.regex_class.specs.Ranges.{in_ranges}
 use Rattle.pattern_syntax.specs.Flags.{Blank, write_blanks, FineBlanks, has, begins, rest, seen, is_nil}
-use Rattle.pattern_syntax.specs.Sets.{Set, is_some, ascii_names, value_of, ascii_set, negated_if, complement, is_any}
+use Rattle.pattern_syntax.specs.Sets.{is_some, ascii_names, value_of, ascii_set, negated_if, complement, is_any}
 use Rattle.pattern_syntax.specs.Atom.{Atom, character, write_atom, FineAtom, single_of, escaped, control, coded, braced, octal, perl, category, category_braced}
-use Rattle.pattern_syntax.specs.Class.{Head, write_after, write_dashes, write_head, write_name, FineCaret, FineDashes, FineBracket, FineHead, FineSecond, fits, is_byte, is_negated, is_member, is_second, is_blank_start, makes_range, begins_name}
-use Rattle.pattern_syntax.specs.ClassReading.{NextAt, IsNextRead, IsHead, HeadAt, NameAt, IsNameRead, IsNameOpen, open_name, after_letters, IsAtomAt, IsClassMember, MemberAt, IsMemberRead, SecondAt, IsSecondRead, behind_dash, begins_member}
-use Rattle.pattern_syntax.specs.Readers.{GoesOnTo, IsEscape, EscapeAt, IsEscapeRead, IsSet}
-use Rattle.pattern_syntax.proofs.BlanksLemmas.{head, tail, apart, two, three}
+use Rattle.pattern_syntax.specs.Class.{write_after, write_dashes, FineCaret, FineDashes, FineBracket, fits, is_member, is_second, is_blank_start, makes_range, begins_name}
+use Rattle.pattern_syntax.specs.ClassReading.{NextAt, IsNextRead, HeadAt, NameAt, IsNameOpen, open_name, after_letters, IsAtomAt, MemberAt, IsMemberRead, SecondAt, IsSecondRead, behind_dash, begins_member}
+use Rattle.pattern_syntax.specs.Readers.{IsEscape, EscapeAt, IsEscapeRead, IsSet}
+use Rattle.pattern_syntax.proofs.BlanksLemmas.{head, tail, apart}
 use Rattle.pattern_syntax.proofs.ClassMoves.{first, written_first, second_starts}
 use Rattle.pattern_syntax.proofs.classes.HeadLemmas.{FineSoFar, write_one_more, fine_one_more, fine_dashes}
 use Rattle.pattern_syntax.proofs.classes.KeepLemmas.{here}

@@ -4,13 +4,12 @@ use Rattle.std.specs.List.{list_any}
 use Rattle.std.specs.Int.{from_bool}
 use Rattle.std.proofs.lemmas.Bool.Decides.{nat_tests}
 use Rattle.unicode.specs.Binary.{is_uppercase}
-use Rattle.pattern_syntax.specs.declared.readings.Literals.{Literals}
 use Rattle.pattern_syntax.specs.declared.classes.heads.ClassHead.{ClassHead}
 use Rattle.pattern_syntax.specs.Flags.{Blank, is_nil}
 use Rattle.pattern_syntax.specs.Sets.{is_some}
-use Rattle.pattern_syntax.specs.Class.{Head, head_set, head_count, head_literals, is_negated, one_if}
-use Rattle.pattern_syntax.specs.ClassProgress.{literals_in, start}
-use Rattle.pattern_syntax.specs.ClassReading.{Frame, framed, held, IsHead}
+use Rattle.pattern_syntax.specs.Class.{Head, head_set, head_count, is_negated, one_if}
+use Rattle.pattern_syntax.specs.ClassProgress.{start}
+use Rattle.pattern_syntax.specs.ClassReading.{framed, held, IsHead}
 use Rattle.pattern_syntax.proofs.RangesLemmas.{same_set}
 use Rattle.pattern_syntax.proofs.classes.UnionLemmas.{literals_as, same_literals, same_frame, dash_small, bracket_small}
 

@@ -1,15 +1,15 @@
 -- The steps at members, ranges and names.
-use Rattle.std.proofs.Common.{◌≡◌, ◌<◌, ◌≤◌, ℕ, Bool, true, false, ◌&&◌, List, [], ◌∷◌, ◌++◌, drop, length, get_or, Option, Some, None, refl, sym, ap, ap₂, ◌∙◌, true≢false, leb-true, le-leb, nat_le, arith}
+use Rattle.std.proofs.Common.{◌≡◌, ◌<◌, ◌≤◌, ℕ, Bool, true, false, ◌&&◌, List, [], ◌∷◌, ◌++◌, drop, length, get_or, Some, None, refl, sym, ap, ap₂, ◌∙◌, leb-true, le-leb, arith}
 use Rattle.regex_class.specs.declared.Class.{Class}
 use Rattle.regex_class.specs.Ranges.{in_ranges}
 use Rattle.pattern_syntax.specs.declared.flags.Flags.{Flags}
 use Rattle.pattern_syntax.specs.declared.classes.members.ClassMember.TheVariants as class_member
 use Rattle.pattern_syntax.specs.declared.classes.steps.Reading.{Reading}
 use Rattle.pattern_syntax.specs.Sets.{Set, is_some}
-use Rattle.pattern_syntax.specs.Atom.{Atom, write_atom, single_of}
-use Rattle.pattern_syntax.specs.Class.{FineSecond, fits, in_order, makes_range, atom_set, range_set, matches_one, listed}
+use Rattle.pattern_syntax.specs.Atom.{Atom, single_of}
+use Rattle.pattern_syntax.specs.Class.{fits, in_order, makes_range, atom_set, range_set, matches_one, listed}
 use Rattle.pattern_syntax.specs.ClassProgress.{ClassLevel, literals_in, with_member}
-use Rattle.pattern_syntax.specs.ClassReading.{Frame, framed, frame_of, level_of, Found, Continues, Advances, IsAtomAt, begins_member, behind_dash, MemberAt, NameAt, SecondAt, IsSecondRead}
+use Rattle.pattern_syntax.specs.ClassReading.{framed, frame_of, level_of, Found, Continues, Advances, IsAtomAt, begins_member, behind_dash, MemberAt, NameAt, SecondAt, IsSecondRead}
 use Rattle.pattern_syntax.specs.Readers.{IsSet}
 use Rattle.pattern_syntax.proofs.RangesLemmas.{same_set}
 use Rattle.pattern_syntax.proofs.ClassSteps.{atom_member, range_member}

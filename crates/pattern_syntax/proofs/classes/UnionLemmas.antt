@@ -1,5 +1,5 @@
 -- Unions of ranges, and what an open class has of them.
-use Rattle.std.proofs.Common.{◌≡◌, ◌<◌, ◌≤◌, ◌⊎◌, ℕ, Bool, true, false, ◌==◌, ◌&&◌, ◌||◌, not, nat_le, List, [], ◌∷◌, ◌++◌, Option, Some, None, refl, sym, ap, ap₂, ◌∙◌, subst, true≢false, eqb-true, eq-eqb, leb-true, le-leb, arith}
+use Rattle.std.proofs.Common.{◌≡◌, ◌<◌, ◌≤◌, ℕ, Bool, true, false, ◌==◌, ◌&&◌, ◌||◌, not, nat_le, List, [], ◌∷◌, ◌++◌, Option, Some, refl, sym, ap, ap₂, ◌∙◌, eqb-true, eq-eqb, leb-true, le-leb, arith}
 use Rattle.std.proofs.lemmas.Bool.{and_parts, and_from}
 use Rattle.std.proofs.lemmas.Bool.Decides.{nat_tests}
 use Rattle.std.specs.Char.{IsScalar}
@@ -10,13 +10,11 @@ use Rattle.regex_class.specs.Ranges.{in_ranges, in_range, HasExactly, bool_xor}
 use Rattle.regex_class.proofs.RangesLemmas.{in_ranges-append, in_ranges-above_max, or-false}
 use Rattle.pattern_syntax.specs.declared.flags.Flags.{Flags}
 use Rattle.pattern_syntax.specs.declared.readings.Literals.{Literals}
-use Rattle.pattern_syntax.specs.declared.classes.heads.ClassHead.{ClassHead}
-use Rattle.pattern_syntax.specs.Flags.{is_nil, Blank}
-use Rattle.pattern_syntax.specs.Sets.{Set, none_of, union, is_between, is_some, complement, negated_if}
+use Rattle.pattern_syntax.specs.Sets.{Set, none_of, union, is_between, complement, negated_if}
 use Rattle.pattern_syntax.specs.Atom.{Atom, character, escaped, control, coded, braced, octal, perl, category, category_braced, single_of}
-use Rattle.pattern_syntax.specs.Class.{Head, Operation, both, minus, either, Waiting, combined, same, matches_one, range_set, atom_set, head_set, head_literals, head_count, one_if}
-use Rattle.pattern_syntax.specs.ClassProgress.{ClassLevel, ClassPart, part_of, literals_in, in_both}
-use Rattle.pattern_syntax.specs.ClassReading.{Frame, framed, held, IsHead}
+use Rattle.pattern_syntax.specs.Class.{both, minus, either, Waiting, combined, same, matches_one, range_set, atom_set}
+use Rattle.pattern_syntax.specs.ClassProgress.{part_of, literals_in, in_both}
+use Rattle.pattern_syntax.specs.ClassReading.{Frame, framed, held}
 use Rattle.pattern_syntax.specs.Readers.{IsSet}
 use Rattle.pattern_syntax.proofs.RangesLemmas.{same_set, same_test}
 

@@ -1,7 +1,7 @@
 -- Lists without a character twice.
-use Rattle.std.proofs.Common.{◌≡◌, ℕ, ◌+◌, ◌<◌, ◌≤◌, Bool, true, false, not, List, [], ◌∷◌, ◌++◌, ◌==◌, ◌&&◌, ◌||◌, length, take, drop, get_or, refl, sym, ap, ap₂, ◌∙◌, subst, ⊎_elim, true≢false}
+use Rattle.std.proofs.Common.{◌≡◌, ℕ, ◌+◌, ◌<◌, Bool, true, false, not, List, [], ◌∷◌, ◌++◌, ◌==◌, ◌&&◌, ◌||◌, length, take, drop, get_or, refl, sym, ap, ap₂, ◌∙◌, ⊎_elim, true≢false}
 use Rattle.std.proofs.lemmas.Bool.{and_parts, and_from, and_left, and_right, both_ways, cases_Bool, eqb-true, eq-eqb, or_parts, or_from, or_left, or_right, or_cases, false_from_ne_true}
-use Rattle.std.proofs.lemmas.List.{take-append-drop, take_more, append-nil, take_all}
+use Rattle.std.proofs.lemmas.List.{take-append-drop, take_more}
 use Rattle.pattern_syntax.specs.Flags.{has, are_letters}
 use Rattle.pattern_syntax.specs.Atom.{all}
 use Rattle.pattern_syntax.specs.Runs.{is_flag}

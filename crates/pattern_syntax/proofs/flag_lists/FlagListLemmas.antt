@@ -1,11 +1,11 @@
 -- Flag lists are written one way.
-use Rattle.std.proofs.Common.{◌≡◌, ℕ, ◌+◌, ◌-◌, ◌<◌, ◌≤◌, Bool, true, false, not, List, [], ◌∷◌, ◌++◌, ◌==◌, ◌&&◌, ◌||◌, Option, Some, None, length, take, drop, refl, sym, ap, ◌∙◌, subst, ⊎_elim, true≢false, arith, append_assoc, length-append, length-drop}
+use Rattle.std.proofs.Common.{◌≡◌, ℕ, ◌+◌, ◌-◌, ◌<◌, ◌≤◌, Bool, true, false, not, List, [], ◌∷◌, ◌++◌, ◌==◌, Option, Some, None, length, take, drop, refl, sym, ap, ◌∙◌, ⊎_elim, true≢false, arith, append_assoc, length-append, length-drop}
 use Rattle.std.proofs.lemmas.Bool.{and_from, both_ways, eqb-true, or_cases}
 use Rattle.std.proofs.lemmas.List.{take_at}
 use Rattle.std.specs.List.{slice_range}
 use Rattle.pattern_syntax.specs.declared.flags.Flags.{Flags}
 use Rattle.pattern_syntax.specs.Atom.{all}
-use Rattle.pattern_syntax.specs.Flags.{FlagList, apply, letters_of, write_off, write_flags, FineFlags, are_letters, begins, clears_none, set_flags}
+use Rattle.pattern_syntax.specs.Flags.{FlagList, letters_of, write_off, write_flags, FineFlags, are_letters, begins, clears_none, set_flags}
 use Rattle.pattern_syntax.specs.Runs.{is_flag, comes}
 use Rattle.pattern_syntax.specs.OpeningReaders.{are_distinct, off_ends, IsOffRead, ends_flags, FlagsAt}
 use Rattle.pattern_syntax.proofs.BlanksLemmas.{two}

@@ -1,15 +1,14 @@
 -- Letters and digits, and lists of characters that a test holds of.
-use Rattle.std.proofs.Common.{◌≡◌, ℕ, zero, suc, ◌+◌, ◌<◌, ◌≤◌, Bool, true, false, List, [], ◌∷◌, ◌++◌, codes, ◌==◌, ◌||◌, ◌&&◌, ◌⊎◌, inl, inr, ⊎_elim, not, nat_le, nat_lt, nat_eq, map, Option, Some, None, if◌then◌else◌, refl, sym, ap, ap₂, ◌∙◌, subst, true≢false, eqb-true, leb-true, arith}
+use Rattle.std.proofs.Common.{◌≡◌, ℕ, zero, suc, ◌+◌, ◌<◌, ◌≤◌, Bool, true, false, List, [], ◌∷◌, codes, ◌==◌, ◌||◌, ◌&&◌, ◌⊎◌, ⊎_elim, not, nat_le, nat_lt, nat_eq, map, Option, Some, None, if◌then◌else◌, refl, sym, ap, ap₂, ◌∙◌, subst, true≢false, eqb-true, leb-true, arith}
 use Rattle.std.proofs.lemmas.Bool.{and_parts, or_cases}
 use Rattle.std.proofs.lemmas.Bool.Decides.{nat_tests}
-use Rattle.std.specs.List.{list_any, starts_with}
-use Rattle.std.specs.Char.{is_digit, digit_value, to_ascii_lowercase}
+use Rattle.std.specs.List.{starts_with}
+use Rattle.std.specs.Char.{is_digit, to_ascii_lowercase}
 use Rattle.ucd_props.proofs.Computing.{ucd_props}
 use Rattle.unicode.specs.Binary.{is_white_space}
 use Rattle.pattern_syntax.specs.Flags.{has}
 use Rattle.pattern_syntax.specs.Sets.{is_between, same_text, value_of, is_some, category_names, category_named}
 use Rattle.pattern_syntax.specs.Atom.{all, control_of, coded_length}
-use Rattle.pattern_syntax.proofs.BlanksLemmas.{no_or_left, no_or_right}
 use Rattle.pattern_syntax.proofs.SameBlanks.{IsClear}
 
 -- a test that all members pass

@@ -1,21 +1,21 @@
 -- Two classes at one place are one.
-use Rattle.std.proofs.Common.{◌≡◌, ℕ, Bool, true, false, List, [], ◌∷◌, ◌++◌, codes, ◌==◌, ◌||◌, ◌&&◌, ◌⊎◌, inl, inr, ⊎_elim, not, if◌then◌else◌, nat_eq, Option, Some, None, refl, sym, ap, ap₂, ◌∙◌, subst, true≢false, eqb-true, arith}
+use Rattle.std.proofs.Common.{◌≡◌, ℕ, Bool, true, false, List, [], ◌∷◌, ◌++◌, codes, ◌==◌, ◌||◌, ◌&&◌, ◌⊎◌, inl, inr, ⊎_elim, if◌then◌else◌, nat_eq, Option, Some, None, refl, sym, ap, ap₂, ◌∙◌, subst, true≢false, arith}
 use Rattle.std.proofs.lemmas.Bool.{and_parts}
 use Rattle.std.proofs.lemmas.Bool.Decides.{nat_tests}
 use Rattle.std.specs.List.{list_any, starts_with}
 use Rattle.ucd_props.proofs.Computing.{ucd_props}
 use Rattle.unicode.specs.Binary.{is_white_space}
 use Rattle.pattern_syntax.specs.declared.flags.Flags.{Flags}
-use Rattle.pattern_syntax.specs.Flags.{Blank, white, comment, write_blanks, FineBlanks, has, begins, rest, seen, is_nil, ends_line}
+use Rattle.pattern_syntax.specs.Flags.{Blank, white, comment, write_blanks, FineBlanks, has, begins, seen, is_nil}
 use Rattle.pattern_syntax.specs.Sets.{Set, ascii_names, value_of, is_some, same_text}
 use Rattle.pattern_syntax.specs.Atom.{Atom, character, escaped, control, coded, braced, octal, perl, category, category_braced, write_atom, single_of, all, FineAtom}
-use Rattle.pattern_syntax.specs.Class.{Head, Inside, close, pass, one, range, named, nested, operation, Operation, both, minus, either, write_head, write_after, write_dashes, write_inside, write_name, write_operation, FineHead, FineCaret, FineDashes, FineBracket, FineInside, FineMember, FineSecond, is_member, is_second, is_blank_start, makes_range, begins_name, in_order, fits}
+use Rattle.pattern_syntax.specs.Class.{Head, Inside, close, pass, one, range, named, nested, operation, Operation, both, minus, either, write_head, write_after, write_dashes, write_inside, write_name, write_operation, FineHead, FineCaret, FineDashes, FineBracket, FineInside, FineMember, FineSecond, is_member, is_blank_start, makes_range, begins_name, in_order, fits}
 use Rattle.pattern_syntax.specs.Readers.{IsEscape}
 use Rattle.pattern_syntax.proofs.BlanksLemmas.{apart, seen_behind, three, two, no_or_left, no_or_right, bracket_clear, dash_clear, and_clear, tilde_clear, number_sign}
 use Rattle.pattern_syntax.proofs.SameBlanks.{head, tail, IsClear, same_blanks, same_line}
 use Rattle.pattern_syntax.proofs.ClassSteps.{FineRange}
-use Rattle.pattern_syntax.proofs.ClassMoves.{range_makes, IsNoBlank}
-use Rattle.pattern_syntax.proofs.laws.CharacterLemmas.{has_all, is_solid, solid_apart, same_text_is, found_passes}
+use Rattle.pattern_syntax.proofs.ClassMoves.{range_makes}
+use Rattle.pattern_syntax.proofs.laws.CharacterLemmas.{is_solid, solid_apart, same_text_is, found_passes}
 use Rattle.pattern_syntax.proofs.laws.OneAtomLemmas.{one_escape}
 
 -- ---- blanks before what is clear where they are passed over

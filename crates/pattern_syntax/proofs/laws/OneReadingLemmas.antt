@@ -1,32 +1,23 @@
 -- A text has at most one reading.
-use Rattle.std.proofs.Common.{◌≡◌, ℕ, Bool, true, false, List, [], ◌∷◌, ◌++◌, codes, ◌==◌, ◌||◌, ◌&&◌, not, if◌then◌else◌, refl, sym, ap, ap₂, ◌∙◌, subst, ⊎_elim, true≢false, eqb-true}
-use Rattle.std.proofs.lemmas.Bool.{cases_Bool}
+use Rattle.std.proofs.Common.{◌≡◌, ℕ, Bool, true, false, List, [], ◌∷◌, ◌==◌, ◌||◌, ◌&&◌, not, if◌then◌else◌, refl, sym, ap, ap₂, ◌∙◌, subst, true≢false, eqb-true}
 use Rattle.ucd_props.proofs.Computing.{ucd_props}
 use Rattle.unicode.specs.Binary.{is_white_space}
 use Rattle.pattern_syntax.specs.declared.flags.Flags.{Flags}
 use Rattle.pattern_syntax.specs.Flags.{FlagList, apply, Blank, white, comment, write_blanks, FineBlanks, has, begins, seen, is_nil}
 use Rattle.pattern_syntax.specs.Class.{is_blank_start}
-use Rattle.pattern_syntax.specs.Syntax.{Syntax, end, bar as bar_before, pass, set as set_before, single, group, Single, Count, optional, star, plus, exactly, at_least, between, Kind, Repeated, inside_flags, write, write_count, write_swap, write_repeats, Fine, FineSingle, FineRepeats, fine_count, fine_swap, swaps_next, is_braced, is_optional}
-use Rattle.pattern_syntax.specs.Tokens.{Token, bar, set, item, opens, closes, write_token, FineToken, write_repeated, swap_comes, FineRepeated}
+use Rattle.pattern_syntax.specs.Syntax.{Syntax, end, bar as bar_before, pass, set as set_before, single, group, Single, Count, optional, star, plus, exactly, at_least, between, Kind, Repeated, inside_flags, write, write_count, write_swap, write_repeats, Fine, FineRepeats, fine_count, swaps_next, is_braced, is_optional}
+use Rattle.pattern_syntax.specs.Tokens.{Token, bar, set, item, opens, closes, write_token, write_repeated, swap_comes, FineRepeated}
 use Rattle.pattern_syntax.specs.Reads.{Found, Reads, found_of}
-use Rattle.pattern_syntax.proofs.BlanksLemmas.{apart, no_or_left, no_or_right, seen_behind}
-use Rattle.pattern_syntax.proofs.SameBlanks.{head, tail, IsClear}
+use Rattle.pattern_syntax.proofs.BlanksLemmas.{apart, seen_behind}
+use Rattle.pattern_syntax.proofs.SameBlanks.{tail}
+use Rattle.pattern_syntax.proofs.repetitions.OneRepeated.{count_clear}
 use Rattle.pattern_syntax.proofs.laws.OneClassLemmas.{one_blank}
-use Rattle.pattern_syntax.proofs.laws.OneTokenLemmas.{OneOpening, one_token, single_low, token_kind, single_kind, kind_at}
+use Rattle.pattern_syntax.proofs.laws.OneTokenLemmas.{OneOpening, one_token, single_low, single_kind, kind_at}
 use Rattle.pattern_syntax.proofs.laws.StartsLemmas.{Front, token_front, operators, NoOperator, no_operator_first, opens_fine, IsStop}
 
 -- two repetitions at one place are one
 abbrev pub OneRepeated : Type 0
 OneRepeated = (k : Flags) (r q : Repeated) (s t : List ℕ) → write_repeated r s ≡ write_repeated q t → FineRepeated k r s → FineRepeated k q t → (r ≡ q) × (s ≡ t)
-
-count_clear : (m : Count) (t : List ℕ) → IsClear (write_count m t)
-unfolding ucd_props
-count_clear optional t = (refl, refl)
-count_clear star t = (refl, refl)
-count_clear plus t = (refl, refl)
-count_clear (exactly a) t = (refl, refl)
-count_clear (at_least a) t = (refl, refl)
-count_clear (between a b) t = (refl, refl)
 
 count_mark : (m : Count) (t : List ℕ) → begins 63 (write_count m t) ≡ is_optional m
 count_mark optional t = refl
@@ -57,14 +48,14 @@ and_false false = refl
 and_false true = refl
 
 -- both words on a `?` that comes next say the same
-mark_by : (k : Flags) (d : Bool) (before : List Blank) (m : Count) (w : List ℕ) → FineBlanks k before (write_count m w)
+pub mark_by : (k : Flags) (d : Bool) (before : List Blank) (m : Count) (w : List ℕ) → FineBlanks k before (write_count m w)
     → begins 63 (if d then seen k (write_blanks before (write_count m w)) else write_blanks before (write_count m w)) ≡ (is_optional m && (d || is_nil before))
 mark_by k true before m w f =
     ap (begins 63) (seen_behind k before (write_count m w) f (λ _. count_clear m w)) ∙ count_mark m w ∙ and_true (is_optional m)
 mark_by k false [] m w f = count_mark m w ∙ and_true (is_optional m)
 mark_by k false (b ∷ bs) m w f = blank_mark k b bs (write_count m w) f ∙ and_false (is_optional m)
 
-and_shift : (a b s n : Bool) → (a && (b && (s || not n))) ≡ (a && b && (s || (if n then false else true)))
+pub and_shift : (a b s n : Bool) → (a && (b && (s || not n))) ≡ (a && b && (s || (if n then false else true)))
 and_shift false b s n = refl
 and_shift true false s n = refl
 and_shift true true true n = refl
@@ -77,7 +68,7 @@ swap_at_end : (k : Flags) (d : Bool) (t : List ℕ) → NoOperator k t → begin
 swap_at_end k true t none = (none 63 refl).1
 swap_at_end k false t none = (none 63 refl).0
 
-swap_told : (k : Flags) (m : Count) (rs : List Repeated) (t : List ℕ) → NoOperator k t → FineRepeats k rs t → swap_comes k m (write_repeats rs t) ≡ swaps_next m rs
+pub swap_told : (k : Flags) (m : Count) (rs : List Repeated) (t : List ℕ) → NoOperator k t → FineRepeats k rs t → swap_comes k m (write_repeats rs t) ≡ swaps_next m rs
 swap_told k m [] t none f = swap_at_end k (is_braced m) t none
 swap_told k m (r ∷ rs) t none f = mark_by k (is_braced m) r.before r.count (write_blanks r.gap (write_swap r.swaps (write_repeats rs t))) f.0
 

@@ -1,20 +1,18 @@
 -- Two tokens at one place are one.
-use Rattle.std.proofs.Common.{◌≡◌, ℕ, Bool, true, false, List, [], ◌∷◌, ◌++◌, codes, ◌==◌, ◌||◌, ◌&&◌, ◌⊎◌, inl, inr, ⊎_elim, not, nat_lt, nat_eq, if◌then◌else◌, refl, sym, ap, ap₂, ◌∙◌, subst, true≢false, eqb-true, arith}
-use Rattle.std.proofs.lemmas.Bool.{and_parts}
+use Rattle.std.proofs.Common.{◌≡◌, ℕ, Bool, true, false, List, [], ◌∷◌, ◌++◌, codes, ◌==◌, ◌||◌, inl, inr, not, nat_lt, if◌then◌else◌, refl, sym, ap, ◌∙◌, subst, true≢false, eqb-true, arith}
 use Rattle.std.proofs.lemmas.Bool.Decides.{nat_tests}
 use Rattle.std.specs.List.{list_any}
 use Rattle.pattern_syntax.specs.declared.flags.Flags.{Flags}
-use Rattle.pattern_syntax.specs.Flags.{has, begins, rest, is_nil}
-use Rattle.pattern_syntax.specs.Atom.{Atom, character, escaped, control, coded, braced, octal, perl, category, category_braced, write_atom, all, is_escapable, is_octal_digit, FineAtom}
+use Rattle.pattern_syntax.specs.Flags.{has, begins, rest}
+use Rattle.pattern_syntax.specs.Atom.{Atom, character, escaped, control, coded, braced, octal, perl, category, category_braced, write_atom, all, FineAtom}
 use Rattle.pattern_syntax.specs.Class.{is_blank_start}
 use Rattle.pattern_syntax.specs.Syntax.{Edge, text_start, text_end, edge, no_edge, word_start, word_end, half_start, half_end, left, right, Single, atom, dot, caret, dollar, look, class, write_edge, write_single, fine_edge, FineLook, FineAlone, FineSingle, is_special, Kind, numbered, named, flagged}
 use Rattle.pattern_syntax.specs.Tokens.{Token, bar, set, item, opens, closes, write_token, FineToken}
 use Rattle.pattern_syntax.specs.Readers.{IsEscape, OpensGroup}
-use Rattle.pattern_syntax.proofs.BlanksLemmas.{apart, no_or_left, no_or_right}
+use Rattle.pattern_syntax.proofs.BlanksLemmas.{apart, no_or_left}
 use Rattle.pattern_syntax.proofs.SameBlanks.{head, tail}
-use Rattle.pattern_syntax.proofs.laws.CharacterLemmas.{has_all}
 use Rattle.pattern_syntax.proofs.laws.OneAtomLemmas.{Kind as LetterKind, escapable, controls, code, octals, perls, categories, test_of, kind_of, letter_of, letter_is, letter_stands, clash}
-use Rattle.pattern_syntax.proofs.laws.OneClassLemmas.{Stands, one_standing, escape_first, not_among, one_class}
+use Rattle.pattern_syntax.proofs.laws.OneClassLemmas.{Stands, one_standing, not_among, one_class}
 
 -- ---- looks
 

@@ -1,15 +1,15 @@
 -- How tokens and syntaxes begin: with no white space that is passed over, and with no operator of a repetition.
-use Rattle.std.proofs.Common.{◌≡◌, ℕ, Bool, true, false, List, [], ◌∷◌, ◌++◌, codes, ◌==◌, ◌||◌, ◌&&◌, not, if◌then◌else◌, refl, sym, ap, ap₂, ◌∙◌, subst, true≢false, eqb-true}
+use Rattle.std.proofs.Common.{◌≡◌, ℕ, Bool, true, false, List, [], ◌∷◌, codes, ◌==◌, ◌||◌, ◌&&◌, not, refl, sym, ap, ap₂, ◌∙◌, subst, true≢false, eqb-true}
 use Rattle.ucd_props.proofs.Computing.{ucd_props}
 use Rattle.unicode.specs.Binary.{is_white_space}
 use Rattle.pattern_syntax.specs.declared.flags.Flags.{Flags}
-use Rattle.pattern_syntax.specs.Flags.{Blank, white, comment, write_blanks, FineBlanks, has, begins, seen, seen_if, passed}
-use Rattle.pattern_syntax.specs.Atom.{Atom, character, escaped, control, coded, braced, octal, perl, category, category_braced, all}
+use Rattle.pattern_syntax.specs.Flags.{Blank, white, comment, write_blanks, FineBlanks, has, begins, seen, seen_if}
+use Rattle.pattern_syntax.specs.Atom.{character, escaped, control, coded, braced, octal, perl, category, category_braced}
 use Rattle.pattern_syntax.specs.Class.{is_blank_start}
-use Rattle.pattern_syntax.specs.Syntax.{Syntax, end, bar as bar_before, pass, set as set_before, single, group, Edge, text_start, text_end, edge, no_edge, word_start, word_end, half_start, half_end, left, right, Single, atom, dot, caret, dollar, look, class, Kind, numbered, named, flagged, inside_flags, write, write_single, write_kind, write_repeats, Fine, FineKind, FineSingle, is_special}
+use Rattle.pattern_syntax.specs.Syntax.{Syntax, end, bar as bar_before, pass, set as set_before, single, group, text_start, text_end, edge, no_edge, word_start, word_end, half_start, half_end, left, right, Single, atom, dot, caret, dollar, look, class, Kind, numbered, named, flagged, inside_flags, write, write_single, write_kind, write_repeats, Fine, FineKind, FineSingle, is_special}
 use Rattle.pattern_syntax.specs.Tokens.{Token, bar, set, item, opens, closes, write_token, FineToken, FineOpen}
 use Rattle.pattern_syntax.proofs.BlanksLemmas.{no_or_left, no_or_right, passed_blanks, seen_behind}
-use Rattle.pattern_syntax.proofs.SameBlanks.{head, tail, IsClear}
+use Rattle.pattern_syntax.proofs.SameBlanks.{tail, IsClear}
 use Rattle.pattern_syntax.proofs.laws.CharacterLemmas.{has_all}
 use Rattle.pattern_syntax.proofs.laws.OneClassLemmas.{no_start}
 use Rattle.pattern_syntax.proofs.laws.OneTokenLemmas.{kind_at, plain_kind, token_kind, single_kind}

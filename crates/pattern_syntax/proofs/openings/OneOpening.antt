@@ -1,5 +1,5 @@
 -- One opening is written at a place.
-use Rattle.std.proofs.Common.{◌≡◌, ◌⊎◌, ℕ, Bool, true, false, List, [], ◌∷◌, ◌++◌, ◌==◌, inl, inr, refl, sym, ap, ◌∙◌, subst, ⊎_elim, true≢false}
+use Rattle.std.proofs.Common.{◌≡◌, ◌⊎◌, ℕ, false, List, [], ◌∷◌, inl, inr, refl, sym, ap, ◌∙◌, ⊎_elim, true≢false}
 use Rattle.pattern_syntax.specs.declared.flags.Flags.{Flags}
 use Rattle.pattern_syntax.specs.Flags.{Blank, white, comment, write_blanks, FineBlanks, ends_line, seen, begins}
 use Rattle.pattern_syntax.specs.Syntax.{numbered, named, flagged}

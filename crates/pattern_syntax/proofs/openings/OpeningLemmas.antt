@@ -1,18 +1,18 @@
 -- The opening at a place.
-use Rattle.std.proofs.Common.{◌≡◌, ℕ, ◌+◌, ◌<◌, ◌≤◌, Bool, true, false, List, [], ◌∷◌, ◌++◌, Option, Some, None, Result, Ok, Err, length, drop, refl, sym, ap, ◌∙◌, subst, ⊎_elim, true≢false, arith}
+use Rattle.std.proofs.Common.{◌≡◌, ℕ, ◌+◌, ◌<◌, ◌≤◌, false, List, [], ◌∷◌, Option, Some, None, Result, Ok, Err, length, drop, refl, sym, ap, ◌∙◌, subst, ⊎_elim, true≢false, arith}
 use Rattle.std.specs.Prelude.{IfOk}
 use Rattle.pattern_syntax.specs.declared.flags.Flags.{Flags}
 use Rattle.pattern_syntax.specs.declared.readings.Opening.{Opening}
 use Rattle.pattern_syntax.specs.declared.readings.Opening.TheVariants as opening
 use Rattle.pattern_syntax.specs.Flags.{Blank, write_blanks, FineBlanks, seen, begins}
-use Rattle.pattern_syntax.specs.Syntax.{numbered, named, flagged}
-use Rattle.pattern_syntax.specs.Tokens.{Token, set, opens, write_token, FineToken}
+use Rattle.pattern_syntax.specs.Syntax.{numbered, named}
+use Rattle.pattern_syntax.specs.Tokens.{Token, opens, write_token, FineToken}
 use Rattle.pattern_syntax.specs.Readers.{IsOpening, OpeningAt, OpensGroup, IsOpeningRead}
-use Rattle.pattern_syntax.specs.OpeningReaders.{Marked, sets, plain, called, write_marked, FineMarked, marked_token, IsMarked, MarkedAt, IsMarkedRead}
+use Rattle.pattern_syntax.specs.OpeningReaders.{Marked, sets, plain, called, write_marked, FineMarked, marked_token, IsMarked, IsMarkedRead}
 use Rattle.pattern_syntax.proofs.BlankSplits.{Blanks, blanks_seen, blanks_onward}
 use Rattle.pattern_syntax.proofs.SameBlanks.{tail}
 use Rattle.pattern_syntax.proofs.runs.RunLemmas.{NextIs}
-use Rattle.pattern_syntax.proofs.openings.OneOpening.{before_mark, marked_written, marked_fine, HasMark, HasNone, shown, mark_written, none_written, mark_seen}
+use Rattle.pattern_syntax.proofs.openings.OneOpening.{before_mark, marked_written, marked_fine, shown, mark_written, none_written, mark_seen}
 
 pub ok_with : {T E : Type 0} (P Q : T → Type 0) (r : Result T E) → ((x : T) → P x → Q x) → IfOk r P → IfOk r Q
 ok_with P Q (Ok x) f h = f x h

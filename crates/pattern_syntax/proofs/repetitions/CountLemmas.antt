@@ -1,12 +1,11 @@
 -- Counts are written one way.
-use Rattle.std.proofs.Common.{◌≡◌, ℕ, ◌+◌, ◌<◌, ◌≤◌, Bool, true, false, List, [], ◌∷◌, ◌++◌, ◌&&◌, Option, Some, None, length, drop, refl, sym, ap, ◌∙◌, arith, true≢false}
+use Rattle.std.proofs.Common.{◌≡◌, ℕ, ◌+◌, ◌<◌, ◌≤◌, Bool, true, false, List, ◌∷◌, ◌&&◌, Option, Some, None, length, drop, refl, sym, ap, ◌∙◌, arith, true≢false}
 use Rattle.std.specs.Prelude.{nat_le}
-use Rattle.std.proofs.lemmas.Bool.{and_parts, and_from, both_ways, leb-true, le-leb}
+use Rattle.std.proofs.lemmas.Bool.{and_parts, and_from, leb-true, le-leb}
 use Rattle.ucd_props.proofs.Computing.{ucd_props}
 use Rattle.unicode.specs.Binary.{is_white_space}
 use Rattle.pattern_syntax.specs.declared.repetitions.Counted.{Counted}
 use Rattle.pattern_syntax.specs.Flags.{begins}
-use Rattle.pattern_syntax.specs.Sets.{is_ascii_digit}
 use Rattle.pattern_syntax.specs.Syntax.{Number, Count, optional, star, plus, exactly, at_least, between, write_number, write_count, fine_number, fine_count, value}
 use Rattle.pattern_syntax.specs.SetTree.{repetition}
 use Rattle.pattern_syntax.specs.CountReaders.{WholeNumber, NumberAt, CountAt}

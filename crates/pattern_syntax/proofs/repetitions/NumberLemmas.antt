@@ -14,7 +14,7 @@ use Rattle.pattern_syntax.specs.Sets.{is_ascii_digit}
 use Rattle.pattern_syntax.specs.Syntax.{Number, write_number, fine_number, value, value_from}
 use Rattle.pattern_syntax.specs.CountReaders.{WholeNumber, NumberAt}
 use Rattle.pattern_syntax.proofs.BlanksLemmas.{cut_at}
-use Rattle.pattern_syntax.proofs.SameBlanks.{head, tail}
+use Rattle.pattern_syntax.proofs.SameBlanks.{head}
 use Rattle.pattern_syntax.proofs.runs.RunLemmas.{RunAt, one_run}
 
 none_below : agree_below (λ c. is_white_space c && is_ascii_digit c) (λ c. false) 58 ≡ true

@@ -1,19 +1,15 @@
 -- The repetition at a place.
-use Rattle.std.proofs.Common.{◌≡◌, ℕ, ◌+◌, ◌<◌, ◌≤◌, Bool, true, false, List, [], ◌∷◌, ◌++◌, ◌==◌, ◌&&◌, ◌||◌, if◌then◌else◌, Option, Some, None, length, drop, refl, sym, ap, ◌∙◌, subst, ⊎_elim, true≢false, arith, length-drop}
-use Rattle.std.proofs.lemmas.Bool.{and_from, cases_Bool, eqb-true, or_left}
+use Rattle.std.proofs.Common.{◌≡◌, ℕ, ◌<◌, ◌≤◌, Bool, true, false, List, [], ◌∷◌, ◌&&◌, ◌||◌, if◌then◌else◌, None, length, drop, refl, sym, ap, ◌∙◌, subst, true≢false, arith, length-drop}
+use Rattle.std.proofs.lemmas.Bool.{and_from, eqb-true}
 use Rattle.pattern_syntax.specs.declared.flags.Flags.{Flags}
-use Rattle.pattern_syntax.specs.declared.readings.Repetition.{Repetition}
 use Rattle.pattern_syntax.specs.declared.repetitions.Counted.{Counted}
 use Rattle.pattern_syntax.specs.Flags.{Blank, write_blanks, FineBlanks, seen, seen_if, begins, rest, is_nil}
-use Rattle.pattern_syntax.specs.Syntax.{Count, optional, star, plus, exactly, at_least, between, Repeated, write_count, write_swap, fine_count, is_braced}
-use Rattle.pattern_syntax.specs.SetTree.{SetTree, repetition}
-use Rattle.pattern_syntax.specs.Reads.{count_tree}
+use Rattle.pattern_syntax.specs.Syntax.{Count, Repeated, write_count, write_swap, fine_count, is_braced}
 use Rattle.pattern_syntax.specs.Tokens.{write_repeated, swap_comes, FineRepeated}
 use Rattle.pattern_syntax.specs.Readers.{RepetitionAt}
 use Rattle.pattern_syntax.specs.CountReaders.{CountAt, IsCountRead, IsSwapRead}
 use Rattle.pattern_syntax.proofs.BlankSplits.{Blanks, blanks_seen, blanks_onward, no_shorter}
-use Rattle.pattern_syntax.proofs.BlanksLemmas.{apart, seen_behind}
-use Rattle.pattern_syntax.proofs.SameBlanks.{head}
+use Rattle.pattern_syntax.proofs.BlanksLemmas.{seen_behind}
 use Rattle.pattern_syntax.proofs.repetitions.OneRepeated.{made, count_clear, fine_counted}
 
 begins_rest : (c : ℕ) (t : List ℕ) → begins c t ≡ true → t ≡ c ∷ rest t

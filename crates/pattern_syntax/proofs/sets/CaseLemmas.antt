@@ -1,14 +1,14 @@
 -- Sets closed under folding.
-use Rattle.std.proofs.Common.{◌≡◌, ◌⊎◌, inl, inr, ⊎_elim, ℕ, ◌+◌, ◌-◌, ◌<◌, ◌≤◌, Bool, true, false, not, ◌&&◌, ◌||◌, ◌==◌, nat_le, nat_lt, List, [], ◌∷◌, ◌++◌, length, take, if◌then◌else◌, refl, sym, ap, ap₂, ◌∙◌, subst, true≢false, leb-true, arith}
+use Rattle.std.proofs.Common.{◌≡◌, ⊎_elim, ℕ, ◌+◌, ◌-◌, ◌<◌, ◌≤◌, Bool, true, false, not, ◌&&◌, ◌||◌, ◌==◌, nat_le, List, [], ◌∷◌, length, take, if◌then◌else◌, refl, sym, ap, ap₂, ◌∙◌, true≢false, leb-true, arith}
 use Rattle.std.specs.List.{list_all}
 use Rattle.std.specs.Char.{to_ascii_lowercase, to_ascii_uppercase, is_ascii_alphabetic}
 use Rattle.std.proofs.lemmas.List.{take_all}
-use Rattle.std.proofs.lemmas.Bool.{and_parts, cases_Bool, cases_lt}
+use Rattle.std.proofs.lemmas.Bool.{and_parts, cases_Bool}
 use Rattle.std.proofs.lemmas.Bool.Decides.{nat_tests}
 use Rattle.unicode.specs.CaseFolding.{fold_pairs}
 use Rattle.ucd_case.specs.FoldOtherRows.{fold_other_rows}
 use Rattle.regex_class.specs.Ranges.{in_range, in_ranges, range_at}
-use Rattle.regex_class.proofs.RangesLemmas.{in_ranges-more, in_ranges-nil, in_ranges-push}
+use Rattle.regex_class.proofs.RangesLemmas.{in_ranges-more, in_ranges-nil}
 use Rattle.pattern_syntax.specs.declared.flags.Flags.{Flags}
 use Rattle.pattern_syntax.specs.Sets.{Set, image, closed, with_alike, with_cases, is_ascii_lower, is_ascii_upper}
 use Rattle.pattern_syntax.proofs.sets.MemberLemmas.{Ends}

@@ -1,4 +1,4 @@
-use Rattle.std.proofs.Common.{◌≡◌, ◌<◌, true, false, take, length, sym, ◌∙◌, subst, arith}
+use Rattle.std.proofs.Common.{◌≡◌, true, false, take, sym, ◌∙◌, subst, arith}
 use Rattle.pattern_syntax.specs.Flags.{has}
 use Rattle.pattern_syntax.proofs.flag_lists.DistinctLemmas.{twice_at, distinct_step}
 use Rattle.pattern_syntax.proofs.flag_lists.are_distinct.Goals as goal

@@ -1,4 +1,4 @@
-use Rattle.std.proofs.Common.{◌≡◌, ◌∷◌, ◌+◌, Some, not, refl, sym, ap, ◌∙◌, arith}
+use Rattle.std.proofs.Common.{◌∷◌, ◌+◌, Some, not, refl, sym, ap, ◌∙◌, arith}
 use Rattle.std.specs.List.{slice_range}
 use Rattle.pattern_syntax.specs.Runs.{is_flag}
 use Rattle.pattern_syntax.proofs.runs.RunLemmas.{RunAt, NextIs, run_at, next_is}

@@ -1,4 +1,4 @@
-use Rattle.std.proofs.Common.{◌≡◌, sym, ◌∙◌}
+use Rattle.std.proofs.Common.{sym, ◌∙◌}
 use Rattle.pattern_syntax.proofs.runs.RunLemmas.{next_is}
 use Rattle.pattern_syntax.proofs.openings.MarkedLemmas.{angle_behind_p, angle_alone, no_angle_behind_p, no_angle_alone}
 use Rattle.pattern_syntax.proofs.openings.behind_angle.Goals as goal

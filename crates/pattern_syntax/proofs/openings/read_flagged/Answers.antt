@@ -1,4 +1,4 @@
-use Rattle.std.proofs.Common.{◌≡◌, sym, ◌∙◌}
+use Rattle.std.proofs.Common.{sym, ◌∙◌}
 use Rattle.pattern_syntax.proofs.openings.MarkedLemmas.{no_flagged, plain_at, no_letters, sets_at}
 use Rattle.pattern_syntax.proofs.openings.read_flagged.Goals as goal
 

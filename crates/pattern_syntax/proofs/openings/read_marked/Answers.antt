@@ -1,4 +1,3 @@
-use Rattle.std.proofs.Common.{◌≡◌}
 use Rattle.pattern_syntax.specs.OpeningReaders.{IsNamedRead, IsMarkedRead}
 use Rattle.pattern_syntax.proofs.openings.MarkedLemmas.{named_marked, flagged_marked}
 use Rattle.pattern_syntax.proofs.openings.OpeningLemmas.{ok_with}

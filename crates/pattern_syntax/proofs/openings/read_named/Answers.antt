@@ -1,4 +1,4 @@
-use Rattle.std.proofs.Common.{◌≡◌, sym, ◌∙◌}
+use Rattle.std.proofs.Common.{sym, ◌∙◌}
 use Rattle.pattern_syntax.specs.Sets.{is_ascii_word}
 use Rattle.pattern_syntax.proofs.runs.RunLemmas.{run_at}
 use Rattle.pattern_syntax.proofs.openings.MarkedLemmas.{no_name_end, no_name_word, named_at}

@@ -1,4 +1,4 @@
-use Rattle.std.proofs.Common.{◌≡◌, ◌+◌, sym, ◌∙◌}
+use Rattle.std.proofs.Common.{◌+◌, sym, ◌∙◌}
 use Rattle.pattern_syntax.specs.Readers.{IsOpeningRead}
 use Rattle.pattern_syntax.specs.OpeningReaders.{IsMarkedRead}
 use Rattle.pattern_syntax.proofs.runs.RunLemmas.{next_is}

@@ -1,5 +1,4 @@
-use Rattle.std.proofs.Common.{◌≡◌, ◌<◌, ◌≤◌, ◌+◌, false, drop, sym, ◌∙◌, subst, arith}
-use Rattle.pattern_syntax.specs.Flags.{begins}
+use Rattle.std.proofs.Common.{◌≡◌, ◌+◌, drop, sym, ◌∙◌, subst, arith}
 use Rattle.pattern_syntax.specs.Syntax.{value}
 use Rattle.pattern_syntax.proofs.runs.RunLemmas.{next_is}
 use Rattle.pattern_syntax.proofs.repetitions.CountLemmas.{Behind, behind_at, no_first, no_sign, no_second, no_end, exactly_at, at_least_at, between_at}
