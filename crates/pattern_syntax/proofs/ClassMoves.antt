@@ -11,11 +11,11 @@ use Rattle.pattern_syntax.proofs.BlanksLemmas.{head, tail, IsClear, seen_behind,
 use Rattle.pattern_syntax.proofs.ClassSteps.{atom_member, range_member, FineRange, GoesOn, closes, passes, ones, ranges, names, nests, operates, goes_on}
 
 -- the first character of an atom
-abbrev first : Atom → ℕ
+abbrev pub first : Atom → ℕ
 first (character c) = c
 first _ = 92
 
-written_first : (a : Atom) (t : List ℕ) → head (write_atom a t) ≡ first a
+pub written_first : (a : Atom) (t : List ℕ) → head (write_atom a t) ≡ first a
 written_first (character c) t = refl
 written_first (escaped c) t = refl
 written_first (control c) t = refl
@@ -27,7 +27,7 @@ written_first (category c bs d) t = refl
 written_first (category_braced c bs ds cs) t = refl
 
 -- a `\`, or a character that is a member there
-member_starts : (k : Flags) (a : Atom) (w : List ℕ) → FineMember k a w → (first a ≡ 92) ⊎ (is_member k (first a) w ≡ true)
+pub member_starts : (k : Flags) (a : Atom) (w : List ℕ) → FineMember k a w → (first a ≡ 92) ⊎ (is_member k (first a) w ≡ true)
 member_starts k (character c) w f = inr f
 member_starts k (escaped c) w f = inl refl
 member_starts k (control c) w f = inl refl
@@ -38,7 +38,7 @@ member_starts k (perl c) w f = inl refl
 member_starts k (category c bs d) w f = inl refl
 member_starts k (category_braced c bs ds cs) w f = inl refl
 
-second_starts : (k : Flags) (a : Atom) (w : List ℕ) → FineSecond k a w → (first a ≡ 92) ⊎ (is_second k (first a) ≡ true)
+pub second_starts : (k : Flags) (a : Atom) (w : List ℕ) → FineSecond k a w → (first a ≡ 92) ⊎ (is_second k (first a) ≡ true)
 second_starts k (character c) w f = inr f
 second_starts k (escaped c) w f = inl refl
 second_starts k (control c) w f = inl refl
@@ -57,11 +57,11 @@ no_blank_by : (c : ℕ) (b : Bool) → (b && (is_white_space c || (c == 35))) �
 no_blank_by c true h e = (no_or_left (is_white_space c) (c == 35) h, no_or_right (is_white_space c) (c == 35) h)
 no_blank_by c false h e = absurd (true≢false (sym e))
 
-no_blank : (k : Flags) (c : ℕ) → is_blank_start k c ≡ false → k.spaces ≡ true → IsNoBlank c
+pub no_blank : (k : Flags) (c : ℕ) → is_blank_start k c ≡ false → k.spaces ≡ true → IsNoBlank c
 no_blank k c h e = no_blank_by c k.spaces h e
 
 -- an atom's text begins with its first character
-clear_first : (a : Atom) (t : List ℕ) → IsNoBlank (first a) → IsClear (write_atom a t)
+pub clear_first : (a : Atom) (t : List ℕ) → IsNoBlank (first a) → IsClear (write_atom a t)
 clear_first (character c) t f = f
 clear_first (escaped c) t f = f
 clear_first (control c) t f = f
@@ -83,10 +83,10 @@ begins_first d (perl c) t = refl
 begins_first d (category c bs e) t = refl
 begins_first d (category_braced c bs ds cs) t = refl
 
-slash_no_blank : IsNoBlank 92
+pub slash_no_blank : IsNoBlank 92
 slash_no_blank = (slash_clear, refl)
 
-second_no_blank : (k : Flags) (b : Atom) (t : List ℕ) → FineSecond k b t → k.spaces ≡ true → IsNoBlank (first b)
+pub second_no_blank : (k : Flags) (b : Atom) (t : List ℕ) → FineSecond k b t → k.spaces ≡ true → IsNoBlank (first b)
 second_no_blank k b t f on =
     ⊎_elim
     (λ slash. subst IsNoBlank (sym slash) slash_no_blank)
@@ -98,7 +98,7 @@ not_in_by : (c d : ℕ) (cs : List ℕ) (b : Bool) → (c == d) ≡ b → has c 
 not_in_by c d cs false q h e = refl
 not_in_by c d cs true q h e = absurd (true≢false (sym e ∙ ap (λ z. has z cs) (sym (eqb-true c d q)) ∙ h))
 
-not_in : (c d : ℕ) (cs : List ℕ) → has c cs ≡ false → has d cs ≡ true → (c == d) ≡ false
+pub not_in : (c d : ℕ) (cs : List ℕ) → has c cs ≡ false → has d cs ≡ true → (c == d) ≡ false
 not_in c d cs h e = not_in_by c d cs (c == d) refl h e
 
 second_is_none : (k : Flags) (b : Atom) (t : List ℕ) (d : ℕ) → (92 == d) ≡ false → has d (codes "[]\\-") ≡ true → FineSecond k b t → begins d (write_atom b t) ≡ false
@@ -140,75 +140,68 @@ atom_here k (category c bs g) t w d v f e q = inl (ap head (sym q ∙ e))
 atom_here k (category_braced c bs ds cs) t w d v f e q = inl (ap head (sym q ∙ e))
 
 -- no atom stands there
-no_atom : (k : Flags) (a : Atom) (t w : List ℕ) (d : ℕ) (v : List ℕ) → (d == 92) ≡ false → (is_member k d v ≡ true → ⊥)
+pub no_atom : (k : Flags) (a : Atom) (t w : List ℕ) (d : ℕ) (v : List ℕ) → (d == 92) ≡ false → (is_member k d v ≡ true → ⊥)
     → FineMember k a t → w ≡ write_atom a t → w ≡ d ∷ v → ⊥
 no_atom k a t w d v slash none f e q = ⊎_elim (λ s. apart d 92 slash s) (λ m. none m.2) (atom_here k a t w d v f e q)
 
-not_blank : (k : Flags) (b : Blank) (t w : List ℕ) (d : ℕ) (v : List ℕ) → IsNoBlank d → FineBlanks k (b ∷ []) t → w ≡ write_blanks (b ∷ []) t → w ≡ d ∷ v → ⊥
+pub not_blank : (k : Flags) (b : Blank) (t w : List ℕ) (d : ℕ) (v : List ℕ) → IsNoBlank d → FineBlanks k (b ∷ []) t → w ≡ write_blanks (b ∷ []) t → w ≡ d ∷ v → ⊥
 not_blank k (white c) t w d v clear f e q = true≢false (sym f.1 ∙ ap is_white_space (ap head (sym e ∙ q)) ∙ clear.0)
 not_blank k (comment cs) t w d v clear f e q = apart d 35 clear.1 (ap head (sym q ∙ e))
 
-spaces_on : (k : Flags) (b : Blank) (t : List ℕ) → FineBlanks k (b ∷ []) t → k.spaces ≡ true
+pub spaces_on : (k : Flags) (b : Blank) (t : List ℕ) → FineBlanks k (b ∷ []) t → k.spaces ≡ true
 spaces_on k (white c) t f = f.0
 spaces_on k (comment cs) t f = f.0
 
 -- what a member is not
-abbrev parts_of_member : (k : Flags) (d : ℕ) (v : List ℕ) → is_member k d v ≡ true
+abbrev pub parts_of_member : (k : Flags) (d : ℕ) (v : List ℕ) → is_member k d v ≡ true
     → (has d (codes "[]\\") ≡ false) × (is_blank_start k d ≡ false) × ((has d (codes "&-~") && begins d v) ≡ false)
 parts_of_member k d v m = three (has d (codes "[]\\")) (is_blank_start k d) (has d (codes "&-~") && begins d v) m
 
-no_member : (k : Flags) (d c : ℕ) (v : List ℕ) → has c (codes "[]\\") ≡ true → d ≡ c → is_member k d v ≡ true → ⊥
+pub no_member : (k : Flags) (d c : ℕ) (v : List ℕ) → has c (codes "[]\\") ≡ true → d ≡ c → is_member k d v ≡ true → ⊥
 no_member k d c v bad same m = true≢false (sym bad ∙ ap (λ z. has z (codes "[]\\")) (sym same) ∙ (parts_of_member k d v m).0)
 
-no_operation : (k : Flags) (d c : ℕ) (v t : List ℕ) → (has c (codes "&-~") && begins c (c ∷ t)) ≡ true → d ∷ v ≡ c ∷ c ∷ t → is_member k d v ≡ true → ⊥
+pub no_operation : (k : Flags) (d c : ℕ) (v t : List ℕ) → (has c (codes "&-~") && begins c (c ∷ t)) ≡ true → d ∷ v ≡ c ∷ c ∷ t → is_member k d v ≡ true → ⊥
 no_operation k d c v t bad same m =
     let h : d ≡ c = ap head same in
     let r : v ≡ c ∷ t = ap tail same in
     true≢false (sym bad ∙ ap₂ (λ z w. has z (codes "&-~") && begins z w) (sym h) (sym r) ∙ (parts_of_member k d v m).2)
 
-op_char : Operation → ℕ
+abbrev pub op_char : Operation → ℕ
 op_char both = 38
 op_char minus = 45
 op_char either = 126
 
-written_op : (o : Operation) (v : List ℕ) → write_operation o v ≡ op_char o ∷ op_char o ∷ v
-unfolding op_char
+pub written_op : (o : Operation) (v : List ℕ) → write_operation o v ≡ op_char o ∷ op_char o ∷ v
 written_op both v = refl
 written_op minus v = refl
 written_op either v = refl
 
-op_no_blank : (o : Operation) → IsNoBlank (op_char o)
-unfolding op_char
+pub op_no_blank : (o : Operation) → IsNoBlank (op_char o)
 op_no_blank both = (and_clear, refl)
 op_no_blank minus = (dash_clear, refl)
 op_no_blank either = (tilde_clear, refl)
 
-op_no_slash : (o : Operation) → (op_char o == 92) ≡ false
-unfolding op_char
+pub op_no_slash : (o : Operation) → (op_char o == 92) ≡ false
 op_no_slash both = refl
 op_no_slash minus = refl
 op_no_slash either = refl
 
-op_no_bracket : (o : Operation) → (op_char o == 93) ≡ false
-unfolding op_char
+pub op_no_bracket : (o : Operation) → (op_char o == 93) ≡ false
 op_no_bracket both = refl
 op_no_bracket minus = refl
 op_no_bracket either = refl
 
-op_no_open : (o : Operation) → (op_char o == 91) ≡ false
-unfolding op_char
+pub op_no_open : (o : Operation) → (op_char o == 91) ≡ false
 op_no_open both = refl
 op_no_open minus = refl
 op_no_open either = refl
 
-op_twice : (o : Operation) (t : List ℕ) → (has (op_char o) (codes "&-~") && begins (op_char o) (op_char o ∷ t)) ≡ true
-unfolding op_char
+pub op_twice : (o : Operation) (t : List ℕ) → (has (op_char o) (codes "&-~") && begins (op_char o) (op_char o ∷ t)) ≡ true
 op_twice both t = refl
 op_twice minus t = refl
 op_twice either t = refl
 
 op_same : (o p : Operation) → op_char o ≡ op_char p → o ≡ p
-unfolding op_char
 op_same both both e = refl
 op_same both minus e = absurd (apart 38 45 refl e)
 op_same both either e = absurd (apart 38 126 refl e)
@@ -219,7 +212,7 @@ op_same either both e = absurd (apart 126 38 refl e)
 op_same either minus e = absurd (apart 126 45 refl e)
 op_same either either e = refl
 
-name_first : (negated : Bool) (name t : List ℕ) → head (write_name negated name t) ≡ 91
+pub name_first : (negated : Bool) (name t : List ℕ) → head (write_name negated name t) ≡ 91
 name_first true name t = refl
 name_first false name t = refl
 

@@ -1,24 +1,28 @@
 -- One step of a reading of a class, both ways.
-use Rattle.std.proofs.Common.{◌≡◌, ℕ, ◌+◌, max, Bool, true, false, ◌&&◌, ◌||◌, List, [], ◌∷◌, ◌++◌, codes, append_assoc, refl, sym, ap, ◌∙◌, subst, arith}
+use Rattle.std.proofs.Common.{◌≡◌, ℕ, ◌+◌, max, Bool, true, false, ◌&&◌, ◌||◌, not, List, [], ◌∷◌, ◌++◌, codes, refl, sym, ap, ap₂, ◌∙◌, subst, arith}
+use Rattle.std.specs.List.{list_any}
+use Rattle.unicode.specs.Binary.{is_uppercase}
+use Rattle.regex_class.proofs.RangesLemmas.{or_assoc}
+use Rattle.pattern_syntax.specs.declared.readings.Literals.{Literals}
 use Rattle.pattern_syntax.specs.declared.flags.Flags.{Flags}
-use Rattle.pattern_syntax.specs.Flags.{Blank, write_blanks, FineBlanks}
+use Rattle.pattern_syntax.specs.Flags.{Blank, write_blanks, FineBlanks, is_nil}
 use Rattle.pattern_syntax.specs.Sets.{Set, negated_if, ascii_names, ascii_set, value_of, is_some}
 use Rattle.pattern_syntax.specs.Atom.{Atom, write_atom, single_of}
-use Rattle.pattern_syntax.specs.Class.{Head, Inside, close, pass, one, range, named, nested, operation, Operation, write_inside, write_head, write_name, write_operation, FineInside, FineHead, FineMember, FineSecond, fits, makes_range, in_order, begins_name, atom_set, range_set, inside_set, inside_depth, inside_literals, listed}
-use Rattle.pattern_syntax.specs.ClassProgress.{ClassPart, ClassLevel, start, part_of, whole_class, with_member, bracketed, with_operation, AfterClass, RestClass, leave_class}
+use Rattle.pattern_syntax.specs.Class.{Head, Inside, close, pass, one, range, named, nested, operation, Operation, write_inside, write_head, write_name, write_operation, FineInside, FineHead, FineMember, FineSecond, fits, makes_range, in_order, begins_name, is_negated, head_literals, atom_set, range_set, inside_set, inside_depth, inside_literals, listed}
+use Rattle.pattern_syntax.specs.ClassProgress.{ClassPart, ClassLevel, start, literals_in, in_both, part_of, whole_class, with_member, bracketed, with_operation, AfterClass, RestClass, leave_class}
 
 max_zero : (d : ℕ) → max d 0 ≡ d
 max_zero d = omega arith
 
 -- a member of a level
 abbrev pub atom_member : Flags → Atom → ClassLevel → ClassLevel
-atom_member k a l = with_member (atom_set k a) 0 (listed (single_of a)) l
+atom_member k a l = with_member (atom_set k a) 0 (literals_in (listed (single_of a))) l
 
 abbrev pub range_member : Atom → Atom → ClassLevel → ClassLevel
-range_member a b l = with_member (range_set (single_of a) (single_of b)) 0 (listed (single_of a) ++ listed (single_of b)) l
+range_member a b l = with_member (range_set (single_of a) (single_of b)) 0 (literals_in (listed (single_of a) ++ listed (single_of b))) l
 
 abbrev pub name_member : Flags → Bool → List ℕ → ClassLevel → ClassLevel
-name_member k negated name l = with_member (negated_if negated k (ascii_set name)) 0 [] l
+name_member k negated name l = with_member (negated_if negated k (ascii_set name)) 0 (literals_in []) l
 
 abbrev pub write_range : Atom → List Blank → List Blank → Atom → List ℕ → List ℕ
 write_range a bs cs b t = write_atom a (write_blanks bs (codes "-" ++ write_blanks cs (write_atom b t)))
@@ -33,15 +37,38 @@ FineRange k a bs cs b w =
 abbrev pub FineOne : Flags → Atom → List ℕ → Type 0
 FineOne k a w = FineMember k a w × (fits k a ≡ true) × ((is_some (single_of a) && makes_range k w) ≡ false)
 
-same_part : (s : Set) (d e : ℕ) (cs ds : List ℕ) → d ≡ e → cs ≡ ds → part_of s d cs ≡ part_of s e ds
+-- LITERALS
+abbrev literals_as : Bool → Bool → Literals
+literals_as any uppercase = record { any = any; uppercase = uppercase }
+
+nil_append : (cs ds : List ℕ) → not (is_nil (cs ++ ds)) ≡ (not (is_nil cs) || not (is_nil ds))
+nil_append [] ds = refl
+nil_append (c ∷ cs) ds = refl
+
+any_append : (f : ℕ → Bool) (cs ds : List ℕ) → list_any f (cs ++ ds) ≡ (list_any f cs || list_any f ds)
+any_append f [] ds = refl
+any_append f (c ∷ cs) ds = ap (λ b. f c || b) (any_append f cs ds) ∙ or_assoc (f c) (list_any f cs) (list_any f ds)
+
+-- those of two lists are those of either
+pub in_append : (cs ds : List ℕ) → literals_in (cs ++ ds) ≡ in_both (literals_in cs) (literals_in ds)
+in_append cs ds = ap₂ literals_as (nil_append cs ds) (any_append is_uppercase cs ds)
+
+in_three : (a b c : Literals) → in_both a (in_both b c) ≡ in_both (in_both a b) c
+in_three a b c = ap₂ literals_as (or_assoc a.any b.any c.any) (or_assoc a.uppercase b.uppercase c.uppercase)
+
+-- those of a part that is read further
+in_more : (l : Literals) (cs ds : List ℕ) → in_both l (literals_in (cs ++ ds)) ≡ in_both (in_both l (literals_in cs)) (literals_in ds)
+in_more l cs ds = ap (in_both l) (in_append cs ds) ∙ in_three l (literals_in cs) (literals_in ds)
+
+same_part : (s : Set) (d e : ℕ) (cs ds : Literals) → d ≡ e → cs ≡ ds → part_of s d cs ≡ part_of s e ds
 same_part s d e cs ds f g = ap (λ d. part_of s d cs) f ∙ ap (λ cs. part_of s e cs) g
 
 -- one member more is read first
 whole_member : (k : Flags) (s : Set) (cs : List ℕ) (l : ClassLevel) (p : Inside)
-    → part_of (inside_set k l.waiting (λ c. l.union c || s c) p) (inside_depth l.left (l.count + 1) l.deepest p) (l.literals ++ (cs ++ inside_literals p))
-    ≡ whole_class k (with_member s 0 cs l) p
+    → part_of (inside_set k l.waiting (λ c. l.union c || s c) p) (inside_depth l.left (l.count + 1) l.deepest p) (in_both l.literals (literals_in (cs ++ inside_literals p)))
+    ≡ whole_class k (with_member s 0 (literals_in cs) l) p
 whole_member k s cs l p =
-    same_part _ _ _ _ _ (ap (λ d. inside_depth l.left (l.count + 1) d p) (sym (max_zero l.deepest))) (sym (append_assoc l.literals cs (inside_literals p)))
+    same_part _ _ _ _ _ (ap (λ d. inside_depth l.left (l.count + 1) d p) (sym (max_zero l.deepest))) (in_more l.literals cs (inside_literals p))
 
 module _ (F : Type 0) where
   -- how the rest of a class begins
@@ -54,7 +81,7 @@ module _ (F : Type 0) where
     names : (negated : Bool) (name t : List ℕ) → is_some (value_of ascii_names name) ≡ true → w ≡ write_name negated name t
         → RestClass F k after (name_member k negated name l) t found → GoesOn k after l w found
     nests : (h : Head) (t : List ℕ) → begins_name w ≡ false → FineHead k h t → w ≡ write_head h t
-        → RestClass F k (leave_class F k h l after) (start h) t found → GoesOn k after l w found
+        → RestClass F k (leave_class F k (is_negated h) l after) (start h) t found → GoesOn k after l w found
     operates : (o : Operation) (t : List ℕ) → w ≡ write_operation o t → RestClass F k after (with_operation k o l) t found → GoesOn k after l w found
 
   moved : (after : AfterClass F) (a b : ClassPart) (v : List ℕ) (found : F) → a ≡ b → after a v found → after b v found
@@ -62,9 +89,11 @@ module _ (F : Type 0) where
 
   whole_nested : (k : Flags) (h : Head) (q p : Inside) (l : ClassLevel)
       → whole_class k l (nested h q p)
-      ≡ whole_class k (with_member (bracketed k h (whole_class k (start h) q)).set (bracketed k h (whole_class k (start h) q)).depth (bracketed k h (whole_class k (start h) q)).literals l) p
+      ≡ whole_class k (with_member (bracketed k (is_negated h) (whole_class k (start h) q)).set (bracketed k (is_negated h) (whole_class k (start h) q)).depth (bracketed k (is_negated h) (whole_class k (start h) q)).literals l) p
   whole_nested k h q p l =
-      same_part _ _ _ _ _ refl (sym (append_assoc l.literals ((start h).literals ++ inside_literals q) (inside_literals p)))
+      same_part _ _ _ _ _ refl
+      (in_more l.literals (head_literals h ++ inside_literals q) (inside_literals p)
+      ∙ ap (λ both. in_both (in_both l.literals both) (literals_in (inside_literals p))) (in_append (head_literals h) (inside_literals q)))
 
   goes_of : (k : Flags) (after : AfterClass F) (l : ClassLevel) (w : List ℕ) (found : F) (p : Inside) (v : List ℕ) → FineInside k p v → w ≡ write_inside p v
       → after (whole_class k l p) v found → GoesOn k after l w found
@@ -132,7 +161,7 @@ module _ (F : Type 0) where
   )
 
   pub came_nest : (k : Flags) (after : AfterClass F) (l : ClassLevel) (h : Head) (t : List ℕ) (found : F) → begins_name (write_head h t) ≡ false → FineHead k h t
-      → RestClass F k (leave_class F k h l after) (start h) t found → RestClass F k after l (write_head h t) found
+      → RestClass F k (leave_class F k (is_negated h) l after) (start h) t found → RestClass F k after l (write_head h t) found
   came_nest k after l h t found apart fine (q, u, f, e, (p, v, g, i, s)) =
       let inside : t ≡ write_inside q (write_inside p v) = e ∙ ap (write_inside q) i in (
         nested h q p,

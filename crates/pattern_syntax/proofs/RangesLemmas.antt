@@ -29,7 +29,7 @@ holds (r ∷ rest) c e =
     (or_cases (is_between r.0 r.1 c) (in_set rest c) e)
 
 -- tests that pass together are equal
-same_test : (a b : Bool) → (a ≡ true → b ≡ true) → (b ≡ true → a ≡ true) → a ≡ b
+pub same_test : (a b : Bool) → (a ≡ true → b ≡ true) → (b ≡ true → a ≡ true) → a ≡ b
 same_test true b f g = sym (f refl)
 same_test false true f g = g refl
 same_test false false f g = refl

@@ -1,5 +1,5 @@
 -- The tree of parts in a row.
-use Rattle.std.proofs.Common.{◌≡◌, ◌<◌, ℕ, List, [], ◌∷◌, length, map, refl, sym, ap, ◌∙◌, arith}
+use Rattle.std.proofs.Common.{◌≡◌, ◌<◌, ℕ, List, [], ◌∷◌, length, map, refl, ap, ◌∙◌, arith}
 use Rattle.hir_tree.specs.Hirs.{parts_of}
 use Rattle.hir_tree.specs.Tree as hir_tree
 use Rattle.hir_tree.specs.Tree.{tree_of}

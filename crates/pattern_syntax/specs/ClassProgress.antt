@@ -1,14 +1,26 @@
 -- What a reading of a class from left to right has so far.
-use Rattle.std.specs.Prelude.{◌≡◌, ℕ, ◌+◌, max, List, ◌++◌, Option, Some, None}
+use Rattle.std.specs.Prelude.{◌≡◌, ℕ, ◌+◌, max, Bool, ◌||◌, not, List, Option, Some, None}
+use Rattle.std.specs.List.{list_any}
+use Rattle.unicode.specs.Binary.{is_uppercase}
 use Rattle.pattern_syntax.specs.declared.flags.Flags.{Flags}
+use Rattle.pattern_syntax.specs.declared.readings.Literals.{Literals}
+use Rattle.pattern_syntax.specs.Flags.{is_nil}
 use Rattle.pattern_syntax.specs.Sets.{Set, none_of, union, negated_if}
-use Rattle.pattern_syntax.specs.Class.{Head, Inside, Operation, Waiting, nothing, waits, side, write_inside, FineInside, inside_set, inside_depth, inside_literals, head_set, head_count, head_literals, is_negated, union_depth, operated}
+use Rattle.pattern_syntax.specs.Class.{Head, Inside, Operation, Waiting, nothing, waits, side, write_inside, FineInside, inside_set, inside_depth, inside_literals, head_set, head_count, head_literals, union_depth, operated}
+
+-- whether there is a literal character among these, and one that is upper case
+abbrev pub literals_in : List ℕ → Literals
+literals_in cs = record { any = not (is_nil cs); uppercase = list_any is_uppercase cs }
+
+-- in either of two parts
+abbrev pub in_both : Literals → Literals → Literals
+in_both a b = record { any = a.any || b.any; uppercase = a.uppercase || b.uppercase }
 
 -- the set that stands between brackets, how deep it nests, and its literal characters
 pub record ClassPart : Type 0 where
   pub set : Set
   pub depth : ℕ
-  pub literals : List ℕ
+  pub literals : Literals
 
 -- what stands left of the operation that waits, and the union behind it; how deep they nest
 pub record ClassLevel : Type 0 where
@@ -17,31 +29,31 @@ pub record ClassLevel : Type 0 where
   pub left : Option ℕ
   pub count : ℕ
   pub deepest : ℕ
-  pub literals : List ℕ
+  pub literals : Literals
 
 abbrev pub start : Head → ClassLevel
-start h = record { waiting = nothing; union = head_set h; left = None; count = head_count h; deepest = 0; literals = head_literals h }
+start h = record { waiting = nothing; union = head_set h; left = None; count = head_count h; deepest = 0; literals = literals_in (head_literals h) }
 
-abbrev pub part_of : Set → ℕ → List ℕ → ClassPart
+abbrev pub part_of : Set → ℕ → Literals → ClassPart
 part_of s d cs = record { set = s; depth = d; literals = cs }
 
 abbrev pub whole_class : Flags → ClassLevel → Inside → ClassPart
-whole_class k l p = part_of (inside_set k l.waiting l.union p) (inside_depth l.left l.count l.deepest p) (l.literals ++ inside_literals p)
+whole_class k l p = part_of (inside_set k l.waiting l.union p) (inside_depth l.left l.count l.deepest p) (in_both l.literals (literals_in (inside_literals p)))
 
 -- one member more
-abbrev pub with_member : Set → ℕ → List ℕ → ClassLevel → ClassLevel
+abbrev pub with_member : Set → ℕ → Literals → ClassLevel → ClassLevel
 with_member s d cs l = record {
   waiting = l.waiting;
   union = union l.union s;
   left = l.left;
   count = l.count + 1;
   deepest = max l.deepest d;
-  literals = l.literals ++ cs;
+  literals = in_both l.literals cs;
 }
 
--- with its brackets
-abbrev pub bracketed : Flags → Head → ClassPart → ClassPart
-bracketed k h a = part_of (negated_if (is_negated h) k a.set) (a.depth + 1) a.literals
+-- with its brackets, and negated or not
+abbrev pub bracketed : Flags → Bool → ClassPart → ClassPart
+bracketed k negated a = part_of (negated_if negated k a.set) (a.depth + 1) a.literals
 
 -- an operation begins
 abbrev pub with_operation : Flags → Operation → ClassLevel → ClassLevel
@@ -64,7 +76,7 @@ module _ (F : Type 0) where
   RestClass k after l t found =
       (p : Inside) × (v : List ℕ) × FineInside k p v × (t ≡ write_inside p v) × after (whole_class k l p) v found
 
-  -- after the end of a nested class
-  abbrev pub leave_class : Flags → Head → ClassLevel → AfterClass → AfterClass
-  leave_class k h l after a v found =
-      let b = bracketed k h a in RestClass k after (with_member b.set b.depth b.literals l) v found
+  -- after the end of a nested class, which is negated or not
+  abbrev pub leave_class : Flags → Bool → ClassLevel → AfterClass → AfterClass
+  leave_class k negated l after a v found =
+      let b = bracketed k negated a in RestClass k after (with_member b.set b.depth b.literals l) v found

@@ -1,5 +1,5 @@
 -- What is read at a place of a pattern, and when nothing is.
-use Rattle.std.specs.Prelude.{◌≡◌, ◌<◌, ◌≤◌, ◌⊎◌, ℕ, Bool, true, false, List, [], ◌∷◌, ◌++◌, ◌==◌, drop, length, not, nat_lt, Option, Some, None, encode_utf8, if◌then◌else◌}
+use Rattle.std.specs.Prelude.{◌≡◌, ◌<◌, ◌≤◌, ℕ, Bool, true, List, [], ◌∷◌, ◌++◌, drop, length, not, nat_lt, Option, Some, None, encode_utf8, if◌then◌else◌}
 use Rattle.std.specs.List.{list_any}
 use Rattle.unicode.specs.Binary.{is_uppercase}
 use Rattle.hir_tree.specs.Tree.{tree_of}

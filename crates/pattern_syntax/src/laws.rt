@@ -1,6 +1,8 @@
-//! Laws of sets.
+//! Laws of sets and of readings.
 
 ghost use Rattle.std.specs.Prelude.{◌≡◌, ◌↔◌, ℕ, IsTrue, List};
+ghost use Rattle.pattern_syntax.specs.declared.flags.Flags.{Flags};
+ghost use Rattle.pattern_syntax.specs.Reads.{Found, Reads};
 ghost use Rattle.unicode.specs.CaseFolding.{simple_fold};
 ghost use Rattle.hir_tree.specs.Ranges.{AreByteRanges, AreCharRanges};
 ghost use Rattle.hir_tree.specs.Tree.{class_bytes, class_chars};
@@ -19,3 +21,8 @@ pub fn a_class_with_its_set_has_one_list_of_ranges()
 {
     hir_tree::a_set_has_one_list_of_ranges();
 }
+
+/// A text has at most one reading.
+pub fn a_text_has_at_most_one_reading()
+    ensures { (k : Flags) (text : List ℕ) (a b : Found) → Reads k text a → Reads k text b → a ≡ b }
+{}

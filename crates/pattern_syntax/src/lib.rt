@@ -2,19 +2,27 @@
 #![tactic(auto)]
 
 mod blanks;
+mod categories;
 mod class_trees;
 mod classes;
+mod codes;
 mod escapes;
+mod flag_lists;
 mod flags;
 mod folding;
 mod laws;
+mod literals;
+mod looks;
+mod octal;
 mod openings;
 mod readings;
 mod reads_examples;
 mod repetitions;
 mod rows;
+mod runs;
 mod sets;
 mod singles;
+mod spelling;
 
 pub use blanks::{behind_blanks, makes_range};
 pub use class_trees::{bytes, characters, class_of_bytes, class_of_characters};
@@ -22,7 +30,10 @@ pub use classes::read_class;
 pub use escapes::read_escape;
 pub use flags::Flags;
 pub use folding::folded;
-pub use laws::{a_class_with_its_set_has_one_list_of_ranges, folded_sets_have_what_folds_alike};
+pub use laws::{
+    a_class_with_its_set_has_one_list_of_ranges, a_text_has_at_most_one_reading,
+    folded_sets_have_what_folds_alike,
+};
 pub use openings::read_opening;
 pub use readings::{BracketClass, Item, Literals, Member, Opening, Repetition};
 pub use reads_examples::{

@@ -1,0 +1,9 @@
+pub mod HeadLemmas
+pub mod KeepLemmas
+pub mod MoveLemmas
+pub mod NameLemmas
+pub mod PassedLemmas
+pub mod ReadLemmas
+pub mod StartLemmas
+pub mod StepLemmas
+pub mod UnionLemmas

@@ -1,0 +1,4 @@
+pub mod CountLemmas
+pub mod NumberLemmas
+pub mod OneRepeated
+pub mod RepetitionLemmas

@@ -1,0 +1,3 @@
+pub mod BlanksSplit
+pub mod PlainLemmas
+pub mod SpellingLemmas
