@@ -5,7 +5,6 @@ pub use Rattle.pattern_syntax.specs.Class
 pub use Rattle.pattern_syntax.specs.ClassProgress
 pub use Rattle.pattern_syntax.specs.Examples
 pub use Rattle.pattern_syntax.specs.Flags
-pub use Rattle.pattern_syntax.specs.Progress
 pub use Rattle.pattern_syntax.specs.Reads
 pub use Rattle.pattern_syntax.specs.SetTree
 pub use Rattle.pattern_syntax.specs.Sets
