@@ -4,6 +4,7 @@ pub mod ClassProgress
 pub mod CountReaders
 pub mod Examples
 pub mod Flags
+pub mod OpeningReaders
 pub mod Progress
 pub mod Readers
 pub mod Reads

@@ -5,6 +5,7 @@ mod blanks;
 mod class_trees;
 mod classes;
 mod escapes;
+mod flag_lists;
 mod flags;
 mod folding;
 mod laws;

@@ -152,8 +152,12 @@ pub fn read_repetition(
     match read_count(text, start) {
         Some(count) => {
             let (swaps, next) = read_swap(text, count.next, count.braced && flags.spaces);
-            let (min, max) = (count.min, count.max);
-            Ok(Some((Repetition { min, max, swaps }, next)))
+            let repetition = Repetition {
+                min: count.min,
+                max: count.max,
+                swaps,
+            };
+            Ok(Some((repetition, next)))
         }
         None => Ok(None),
     }

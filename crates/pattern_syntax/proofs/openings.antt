@@ -1,0 +1,3 @@
+pub mod MarkedLemmas
+pub mod OneOpening
+pub mod OpeningLemmas
