@@ -1,8 +1,12 @@
 pub mod BlankSplits
 pub mod BlanksLemmas
+pub use Rattle.pattern_syntax.proofs.sets.CaseLemmas
 pub mod ClassMoves
 pub mod ClassSteps
 pub mod FoldLemmas
+pub use Rattle.pattern_syntax.proofs.sets.MemberLemmas
+pub use Rattle.pattern_syntax.proofs.sets.NameLemmas
+pub use Rattle.pattern_syntax.proofs.sets.PairLemmas
 pub mod PatternBlanks
 pub mod PatternSteps
 pub mod RangesLemmas

@@ -142,9 +142,13 @@ abbrev pub named_set : Option Named → Set
 named_set (Some name) = characters (in_set name)
 named_set None = none_of
 
+-- closed under folding
+abbrev pub closed_category : Flags → List ℕ → Set
+closed_category k name = closed k (named_set (category_named name))
+
 -- `\p` and the name, or `\P` where it is negated: closed under folding before negation
 abbrev pub category_set : Flags → Bool → List ℕ → Set
-category_set k negated name = negated_if negated k (closed k (named_set (category_named name)))
+category_set k negated name = negated_if negated k (closed_category k name)
 
 -- `\d`, `\s` and `\w`
 abbrev pub digits_of : Flags → Set

@@ -1,0 +1,4 @@
+pub mod CaseLemmas
+pub mod MemberLemmas
+pub mod NameLemmas
+pub mod PairLemmas
