@@ -1,11 +1,12 @@
 pub mod Answers
 pub mod Escape
+pub mod Parsing
+pub mod Progress
 pub use Rattle.pattern_syntax.specs.Atom
 pub use Rattle.pattern_syntax.specs.Class
 pub use Rattle.pattern_syntax.specs.ClassProgress
 pub use Rattle.pattern_syntax.specs.Examples
 pub use Rattle.pattern_syntax.specs.Flags
-pub use Rattle.pattern_syntax.specs.Progress
 pub use Rattle.pattern_syntax.specs.Reads
 pub use Rattle.pattern_syntax.specs.SetTree
 pub use Rattle.pattern_syntax.specs.Sets

@@ -7,6 +7,7 @@ pub mod FoldLemmas
 pub use Rattle.pattern_syntax.proofs.sets.MemberLemmas
 pub use Rattle.pattern_syntax.proofs.sets.NameLemmas
 pub use Rattle.pattern_syntax.proofs.sets.PairLemmas
+pub mod OneAtAPlace
 pub mod PatternBlanks
 pub mod PatternSteps
 pub mod RangesLemmas

@@ -1,0 +1,10 @@
+-- At one place of a text stands at most one token, and at most one repetition.
+use Rattle.pattern_syntax.proofs.OneAtAPlace as place
+use Rattle.pattern_core.proofs.parsing.TokenLemmas.{OneToken}
+use Rattle.pattern_core.proofs.parsing.RepeatLemmas.{OneRepeated}
+
+pub one_token : OneToken
+one_token k a b s t e f g = place.one_token k a b s t e f g
+
+pub one_repeated : OneRepeated
+one_repeated k r q s t e f g = place.one_repeated k r q s t e f g
