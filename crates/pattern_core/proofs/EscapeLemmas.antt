@@ -13,7 +13,7 @@ use Rattle.pattern_syntax.specs.Reads.{Row, Found, Reads, found_of, branches, si
 use Rattle.pattern_core.specs.Escape.{is_meta, escaped_char, escaped_text, encoded, joined, joined_all, text_of, texts_of, EscapedIsReadAsItself}
 
 -- a test that all members pass
-has_all : (p : ℕ → Bool) (cs : List ℕ) (c : ℕ) → all p cs ≡ true → has c cs ≡ true → p c ≡ true
+pub has_all : (p : ℕ → Bool) (cs : List ℕ) (c : ℕ) → all p cs ≡ true → has c cs ≡ true → p c ≡ true
 has_all p [] c every h = cc
 has_all p (d ∷ cs) c every h =
     let parts = and_parts (p d) (all p cs) every in

@@ -1,5 +1,7 @@
 pub mod Answers
 pub mod Escape
+pub mod Parsing
+pub mod Progress
 pub use Rattle.pattern_syntax.specs.Atom
 pub use Rattle.pattern_syntax.specs.Class
 pub use Rattle.pattern_syntax.specs.ClassProgress

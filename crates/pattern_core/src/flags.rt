@@ -1,5 +1,10 @@
 //! The flags that a pattern is read under.
 
+ghost use Rattle.std.specs.Prelude.{◌≡◌};
+ghost use Rattle.pattern_core.specs.Answers.{flags_of};
+
+use pattern_syntax::Flags;
+
 /// How a pattern is read.
 #[derive(Clone, Copy, Debug, PartialEq, Eq)]
 pub struct PatternFlags {
@@ -21,4 +26,22 @@ pub struct PatternFlags {
     pub crlf: bool,
     /// How deep a pattern may nest, at most 1000.
     pub nest_limit: u32,
+}
+
+impl PatternFlags {
+    /// The flags of the grammar.
+    pub(crate) fn grammar(&self) -> Flags
+        ensures { result ≡ flags_of self.now }
+    {
+        Flags {
+            folds: self.case_insensitive,
+            multi: self.multi_line,
+            dot_all: self.dot_matches_new_line,
+            crlf: self.crlf,
+            swaps: self.swap_greed,
+            unicode: self.unicode,
+            spaces: self.ignore_whitespace,
+            octal: self.octal,
+        }
+    }
 }

@@ -8,6 +8,7 @@ mod escaping;
 mod fault;
 mod flags;
 mod parsed;
+mod parsing;
 #[cfg(test)]
 mod tests;
 
@@ -15,6 +16,7 @@ pub use escaping::{an_escaped_text_is_read_as_itself, escape, is_meta};
 pub use fault::PatternFault;
 pub use flags::PatternFlags;
 pub use parsed::Parsed;
+pub use parsing::parse;
 pub use pattern_syntax::{
     Flags, a_class_with_its_set_has_one_list_of_ranges, behind_blanks, bytes, captured, characters,
     choice, class_of_bytes, class_of_characters, escapes_are_read_as_in_the_examples, folded,

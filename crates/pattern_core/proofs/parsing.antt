@@ -1,0 +1,11 @@
+pub mod AnswerLemmas
+pub mod BlankLemmas
+pub mod NameLemmas
+pub mod NestLemmas
+pub mod OneLemmas
+pub mod ReachLemmas
+pub mod RepeatLemmas
+pub mod StateLemmas
+pub mod StepLemmas
+pub mod TextLemmas
+pub mod TokenLemmas
