@@ -8,8 +8,6 @@ pub use Rattle.pattern_syntax.proofs.sets.MemberLemmas
 pub use Rattle.pattern_syntax.proofs.sets.NameLemmas
 pub use Rattle.pattern_syntax.proofs.sets.PairLemmas
 pub mod OneAtAPlace
-pub mod PatternBlanks
-pub mod PatternSteps
 pub mod RangesLemmas
 pub mod ReadsExamples
 pub mod RowsLemmas

@@ -5,7 +5,6 @@ pub mod CountReaders
 pub mod Examples
 pub mod Flags
 pub mod OpeningReaders
-pub mod Progress
 pub mod Readers
 pub mod Reads
 pub mod Runs
