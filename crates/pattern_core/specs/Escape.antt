@@ -1,9 +1,14 @@
 -- A text as a pattern.
 use Rattle.std.specs.Prelude.{◌≡◌, ℕ, Bool, false, List, [], ◌∷◌, ◌++◌, codes, flat_map, encode_utf8, Option, Some, None, option_map, option_and_then, if◌then◌else◌}
+use Rattle.std.specs.Str.{chars as chars_of, IsUtf8}
+use Rattle.hir_tree.specs.PlainText.{text_of as text_of_hir}
 use Rattle.pattern_syntax.specs.declared.flags.Flags.{Flags}
 use Rattle.pattern_syntax.specs.Flags.{has}
 use Rattle.pattern_syntax.specs.SetTree.{SetTree, SetTrees, empty, literal, chars, bytes, looks, repetition, capture, concat, alternation, none, more}
 use Rattle.pattern_syntax.specs.Reads.{Found, Reads}
+use Rattle.pattern_core.specs.declared.flags.PatternFlags.{PatternFlags}
+use Rattle.pattern_core.specs.declared.parsed.Parsed.{Parsed}
+use Rattle.pattern_core.specs.Answers.{IsPattern}
 
 -- the meta characters
 abbrev pub is_meta : ℕ → Bool
@@ -51,3 +56,8 @@ abbrev mutual
 abbrev pub EscapedIsReadAsItself : Type 0
 EscapedIsReadAsItself = (k : Flags) (text : List ℕ) → k.spaces ≡ false → k.folds ≡ false
     → (found : Found) × (Reads k (escaped_text text) found × (text_of found.part.tree ≡ Some (encoded text)))
+
+-- A pattern that spells an escaped text is parsed as that text, where white space counts and letters aren't folded: so its only runs spell the text.
+abbrev pub EscapedIsParsedAsItself : Type 0
+EscapedIsParsedAsItself = (flags : PatternFlags) (text pattern : List ℕ) (parsed : Parsed) → flags.ignore_whitespace ≡ false → flags.case_insensitive ≡ false
+    → IsUtf8 text → IsUtf8 pattern → pattern ≡ encoded (escaped_text (chars_of text)) → IsPattern flags pattern parsed → text_of_hir parsed.hir ≡ Some text

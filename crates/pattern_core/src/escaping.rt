@@ -3,7 +3,7 @@
 ghost use Rattle.std.specs.Prelude.{◌≡◌, ◌++◌, IfOk, OnOk};
 ghost use Rattle.std.specs.Str.{chars};
 ghost use Rattle.std.specs.String.{string_bytes};
-ghost use Rattle.pattern_core.specs.Escape.{EscapedIsReadAsItself, encoded, escaped_char, escaped_text, is_meta};
+ghost use Rattle.pattern_core.specs.Escape.{EscapedIsParsedAsItself, EscapedIsReadAsItself, encoded, escaped_char, escaped_text, is_meta};
 
 use sd_base::{NoMemory, Text};
 use std::alloc::Global;
@@ -60,3 +60,11 @@ pub fn escape(alloc: Global, text: &str) -> Result<Text, NoMemory>
 pub fn an_escaped_text_is_read_as_itself()
     ensures { EscapedIsReadAsItself }
 {}
+
+/// What is parsed of an escaped text is that text, where white space counts and letters aren't folded.
+pub fn an_escaped_text_is_parsed_as_itself()
+    ensures { EscapedIsParsedAsItself }
+{
+    pattern_syntax::a_text_has_at_most_one_reading();
+    an_escaped_text_is_read_as_itself();
+}

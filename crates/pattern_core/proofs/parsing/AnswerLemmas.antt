@@ -1,13 +1,12 @@
 -- What a parser answers, from what is read in the text.
-use Rattle.std.proofs.Common.{◌≡◌, ◌<◌, ◌≤◌, ◌^◌, ◌⊎◌, inl, inr, ℕ, Bool, true, false, not, List, length, IsTrue, Result, Ok, Err, IsErrAnd, refl, sym, ap, ◌∙◌, subst, true≢false, arith}
+use Rattle.std.proofs.Common.{◌≡◌, ◌<◌, ◌≤◌, ◌^◌, inl, inr, ℕ, true, false, List, length, Result, Ok, Err, IsErrAnd, sym, ap, ◌∙◌, subst, true≢false, arith}
 use Rattle.std.specs.Str.{chars}
-use Rattle.pattern_syntax.specs.Reads.{Part, Found, Reads}
-use Rattle.pattern_core.specs.Answers.{flags_of, most_depth, HasOneTwice, IsGrammar, IsNest, IsDoubleName, IsPattern}
+use Rattle.pattern_syntax.specs.Reads.{Part, Reads}
+use Rattle.pattern_core.specs.Answers.{flags_of, most_depth, IsGrammar, IsNest, IsDoubleName, IsPattern}
 use Rattle.pattern_core.specs.Parsing.{part_of, IsSamePart, Finds, IsWhole}
 use Rattle.pattern_core.specs.declared.fault.PatternFault.{PatternFault}
 use Rattle.pattern_core.specs.declared.fault.PatternFault.TheVariants as fault
 use Rattle.pattern_core.specs.declared.flags.PatternFlags.{PatternFlags}
-use Rattle.pattern_core.specs.declared.parsed.Parsed.{Parsed}
 use Rattle.pattern_core.specs.declared.parsing.reading.Whole.{Whole}
 
 -- the error of a result is this one

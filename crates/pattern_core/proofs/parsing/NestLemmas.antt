@@ -1,9 +1,8 @@
 -- Parts that are equal, or both nest deeper than the limit, and what is made of them.
-use Rattle.std.proofs.Common.{◌≡◌, ◌<◌, ◌≤◌, ◌+◌, ◌⊎◌, inl, inr, ℕ, max, List, [], ◌∷◌, ◌++◌, length, length-append, refl, sym, ap, ◌∙◌, subst, arith}
-use Rattle.pattern_syntax.specs.Syntax.{Kind, numbered, named, flagged}
+use Rattle.std.proofs.Common.{◌<◌, ◌+◌, ◌⊎◌, inl, inr, ℕ, List, [], ◌∷◌, ◌++◌, length, length-append, sym, ap, ◌∙◌, subst, arith}
 use Rattle.pattern_syntax.specs.SetTree.{SetTree, SetTrees, concat, alternation}
-use Rattle.pattern_syntax.specs.Reads.{Part, Row, at_depth, united, sequence, choice, grouped}
-use Rattle.pattern_core.specs.Progress.{Level, behind, push, close_branch, finished, in_group}
+use Rattle.pattern_syntax.specs.Reads.{Part, Row, at_depth, united, sequence, choice}
+use Rattle.pattern_core.specs.Progress.{Level, behind, finished}
 use Rattle.pattern_core.specs.Parsing.{IsSamePart, IsSameRow}
 
 pub same_part_on : (limit : ℕ) (a b c : Part) → IsSamePart limit a b → IsSamePart limit b c → IsSamePart limit a c

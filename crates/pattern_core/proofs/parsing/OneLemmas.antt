@@ -1,7 +1,7 @@
 -- At one place of a text stands at most one token, and at most one repetition.
-use Rattle.pattern_syntax.proofs.laws.OneTokenLemmas as tokens
-use Rattle.pattern_syntax.proofs.openings.OneOpening.{one_opening}
-use Rattle.pattern_syntax.proofs.repetitions.OneRepeated as repetitions
+use Rattle.pattern_syntax.proofs.OneTokenLemmas as tokens
+use Rattle.pattern_syntax.proofs.OneOpening.{one_opening}
+use Rattle.pattern_syntax.proofs.OneRepeated as repetitions
 use Rattle.pattern_core.proofs.parsing.TokenLemmas.{OneToken}
 use Rattle.pattern_core.proofs.parsing.RepeatLemmas.{OneRepeated}
 

@@ -1,5 +1,5 @@
 -- What the code's functions reach, from what they call.
-use Rattle.std.proofs.Common.{◌≡◌, ◌<◌, ◌≤◌, ◌+◌, ℕ, Bool, true, false, not, List, [], ◌∷◌, ◌++◌, drop, length, length-drop, get_or, drop-cons, Option, Some, None, Result, Ok, Err, IfOk, IsErrAnd, refl, sym, ap, ◌∙◌, subst, arith}
+use Rattle.std.proofs.Common.{◌≡◌, ◌<◌, ◌≤◌, ◌+◌, ℕ, true, not, List, [], ◌∷◌, ◌++◌, drop, length, length-drop, get_or, drop-cons, None, Result, Ok, Err, IfOk, IsErrAnd, sym, ap, ◌∙◌, subst, arith}
 use Rattle.sd_base.specs.declared.no_memory.NoMemory.{NoMemory}
 use Rattle.std.proofs.Math.ListN.{drop_of_length-le}
 use Rattle.pattern_syntax.specs.declared.flags.Flags.{Flags}
@@ -8,7 +8,7 @@ use Rattle.pattern_syntax.specs.declared.readings.Opening.{Opening}
 use Rattle.pattern_syntax.specs.declared.readings.Opening.TheVariants as opening
 use Rattle.pattern_syntax.specs.declared.readings.Repetition.{Repetition}
 use Rattle.pattern_syntax.specs.Flags.{seen}
-use Rattle.pattern_syntax.specs.Syntax.{Single, Repeated, FineSingle, write_single}
+use Rattle.pattern_syntax.specs.Syntax.{Repeated, FineSingle}
 use Rattle.pattern_syntax.specs.SetTree.{repetition}
 use Rattle.pattern_syntax.specs.Reads.{Part, Found, Reads, at_depth, single_part, single_literals, repeat, xor}
 use Rattle.pattern_syntax.specs.Tokens as token
@@ -16,8 +16,8 @@ use Rattle.pattern_syntax.specs.Tokens.{Token, write_token, FineToken, FineRepea
 use Rattle.pattern_syntax.specs.Readers as readers
 use Rattle.pattern_syntax.specs.Readers.{SingleAt, OpeningAt, RepetitionAt, IsOpening, IsOpeningRead, IsSingleRead, IsRepetitionRead, HasLiterals, GoesOnTo}
 use Rattle.pattern_syntax.proofs.SameBlanks.{head}
-use Rattle.pattern_core.specs.Progress.{Progress, Level, Frame, fresh, finished, in_group, GoesOn}
-use Rattle.pattern_core.specs.Parsing.{IsSamePart, IsPart, IsLevel, AreFrames, AreNames, IsState, Leaves, IsLeft, Same, SameBehind, SomeRepeated, Reaches, ReachesBehind, Repeats, IsStuck, Steps, IsAtToken, IsBegun, Finds, IsWhole, is_other, begun, behind_item, behind_token, noted, outside}
+use Rattle.pattern_core.specs.Progress.{Progress, Level, finished, in_group, GoesOn}
+use Rattle.pattern_core.specs.Parsing.{IsPart, IsLevel, AreFrames, AreNames, IsState, Leaves, Same, SameBehind, SomeRepeated, Reaches, ReachesBehind, Repeats, IsStuck, Steps, IsAtToken, IsBegun, Finds, IsWhole, is_other, begun, behind_item, behind_token, noted, outside}
 use Rattle.pattern_core.specs.declared.fault.PatternFault.{PatternFault}
 use Rattle.pattern_core.specs.declared.fault.PatternFault.TheVariants as fault
 use Rattle.pattern_core.specs.declared.parsing.pieces.Piece.{Piece}

@@ -5,7 +5,7 @@ use Rattle.pattern_syntax.specs.Flags.{FlagList, apply, letters_of, Blank, write
 use Rattle.pattern_syntax.specs.Syntax.{Syntax, end, bar, pass, set, single, group, Single, Repeated, Kind, inside_flags, write, write_single, write_repeats, write_kind, Fine, FineSingle, FineRepeats, FineKind}
 use Rattle.pattern_syntax.specs.SetTree.{SetTree, empty}
 use Rattle.pattern_syntax.specs.Reads.{Part, Row, Found, Reads, found_of, at_depth, no_parts, in_front, row_of, put, joined, single_part, single_literals, literals_of, names_of, repeat, own, own_name, captures, branches, sequence, choice}
-use Rattle.pattern_core.specs.Progress.{Gathered, nothing, with_group, with_literals, with_syntax, Level, Frame, push, close_branch, finished, fresh, put_all, behind, both, whole, in_group, After, last, Rest, RestItem, leave, after_all}
+use Rattle.pattern_core.specs.Progress.{Gathered, nothing, with_group, with_literals, with_syntax, Level, Frame, push, close_branch, finished, fresh, put_all, behind, both, whole, in_group, After, last, Rest, RestItem, leave}
 
 append-nil : {A : Type 0} (xs : List A) → xs ++ [] ≡ xs
 append-nil [] = refl

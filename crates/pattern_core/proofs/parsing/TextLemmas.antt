@@ -1,16 +1,16 @@
 -- How a reading goes on with a text, place by place.
-use Rattle.std.proofs.Common.{◌≡◌, ◌<◌, ◌≤◌, ◌+◌, ◌⊎◌, inl, inr, ℕ, zero, suc, Bool, true, false, List, [], ◌∷◌, ◌++◌, codes, drop, length, get_or, drop-cons, add-one, refl, sym, ap, ◌∙◌, subst, true≢false, arith}
+use Rattle.std.proofs.Common.{◌≡◌, ◌<◌, ◌+◌, ℕ, zero, suc, List, [], ◌∷◌, ◌++◌, drop, length, get_or, drop-cons, add-one, refl, sym, ap, ◌∙◌, subst, true≢false, arith}
 use Rattle.pattern_syntax.specs.declared.flags.Flags.{Flags}
 use Rattle.pattern_syntax.specs.Flags.{seen, is_nil}
 use Rattle.pattern_syntax.specs.Syntax.{Single, Repeated, write_single, FineSingle}
-use Rattle.pattern_syntax.specs.Reads.{Part, Found, Reads, at_depth, no_parts, single_part, single_literals, repeat}
+use Rattle.pattern_syntax.specs.Reads.{Part, Found, Reads, no_parts, single_part, single_literals, repeat}
 use Rattle.pattern_syntax.specs.Tokens as token
 use Rattle.pattern_syntax.specs.Tokens.{Token, write_token, FineToken, write_repeated, FineRepeated}
 use Rattle.pattern_syntax.proofs.SameBlanks.{tail, IsClear}
-use Rattle.pattern_core.specs.Progress.{Gathered, Level, Frame, Progress, push, finished, fresh, whole, in_group, After, last, Rest, RestItem, leave, after_all, GoesOn, GoesOnBehind}
-use Rattle.pattern_core.specs.Parsing.{Same, SameBehind, SomeRepeated, IsAtToken, begun, behind_item, noted, within, behind_token, outside}
+use Rattle.pattern_core.specs.Progress.{Gathered, Frame, Progress, finished, whole, in_group, After, last, Rest, RestItem, leave, after_all, GoesOn, GoesOnBehind}
+use Rattle.pattern_core.specs.Parsing.{Same, SameBehind, SomeRepeated, IsAtToken, behind_item, noted, within, behind_token, outside}
 use Rattle.pattern_core.proofs.parsing.StepLemmas.{whole_end, came_end, frame}
-use Rattle.pattern_core.proofs.parsing.BlankLemmas.{Stops, stops, after_more, seen_on, seen_back, seen_split}
+use Rattle.pattern_core.proofs.parsing.BlankLemmas.{stops, after_more, seen_on, seen_back, seen_split}
 use Rattle.pattern_core.proofs.parsing.TokenLemmas.{OneToken, Behind, token_on, token_back, no_token, at_end}
 use Rattle.pattern_core.proofs.parsing.RepeatLemmas.{OneRepeated, repeat_on, repeat_back, done_on, done_back}
 

@@ -1,22 +1,22 @@
 -- A reading goes on with the token that stands at its place.
-use Rattle.std.proofs.Common.{◌≡◌, ℕ, Bool, true, false, List, [], ◌∷◌, ◌++◌, ◌==◌, ◌||◌, ◌&&◌, codes, not, if◌then◌else◌, ◌⊎◌, inl, inr, eqb-true, refl, sym, ap, ◌∙◌, subst, true≢false}
+use Rattle.std.proofs.Common.{◌≡◌, ℕ, Bool, true, false, List, [], ◌∷◌, ◌||◌, codes, not, ◌⊎◌, inl, inr, eqb-true, refl, sym, ap, ◌∙◌, subst, true≢false}
 use Rattle.ucd_props.proofs.Computing.{ucd_props}
 use Rattle.pattern_syntax.proofs.BlanksLemmas.{apart}
 use Rattle.pattern_syntax.specs.Readers.{OpensGroup}
 use Rattle.pattern_syntax.proofs.SameBlanks.{head, tail, IsClear}
 use Rattle.pattern_syntax.specs.declared.flags.Flags.{Flags}
-use Rattle.pattern_syntax.specs.Flags.{FlagList, apply, Blank, write_blanks, white, comment, FineBlanks, has, begins, seen, is_nil}
+use Rattle.pattern_syntax.specs.Flags.{apply, Blank, write_blanks, white, comment, FineBlanks, has, begins, seen, is_nil}
 use Rattle.pattern_syntax.specs.Atom.{character, escaped, control, coded, braced, octal, perl, category, category_braced}
 use Rattle.pattern_syntax.specs.Syntax.{Single, atom, dot, caret, dollar, look, class, text_start, text_end, edge, no_edge, word_start, word_end, half_start, half_end, left, right, Count, optional, star, plus, exactly, at_least, between, Kind, numbered, named, flagged, inside_flags, write_single, write_kind, write_count, FineSingle, FineKind, is_special}
 use Rattle.pattern_syntax.specs.SetTree.{empty}
-use Rattle.pattern_syntax.specs.Reads.{Part, Found, at_depth, no_parts, single_part, single_literals}
+use Rattle.pattern_syntax.specs.Reads.{Found, at_depth, no_parts, single_part, single_literals}
 use Rattle.pattern_syntax.specs.Tokens as token
 use Rattle.pattern_syntax.specs.Tokens.{Token, write_token, FineToken, FineOpen}
 use Rattle.pattern_core.specs.Parsing.{is_other}
 use Rattle.pattern_core.proofs.EscapeLemmas.{has_all}
 use Rattle.pattern_core.specs.Progress.{Gathered, with_group, with_literals, Level, push, close_branch, fresh, whole, After, Rest, RestItem, leave}
 use Rattle.pattern_core.proofs.parsing.StepLemmas.{Goes, ends, bars, passes, sets, items, opens, goes, frame, came_end, came_bar, came_set, came_item, came_open}
-use Rattle.pattern_core.proofs.parsing.BlankLemmas.{IsStop, Stops, stops_leave, spaces_on, not_clear, single_clear, open_clear, bar_clear, set_clear, close_clear, mark_clear, pass_all, seen_on, seen_split}
+use Rattle.pattern_core.proofs.parsing.BlankLemmas.{IsStop, Stops, stops_leave, spaces_on, not_clear, single_clear, open_clear, bar_clear, set_clear, close_clear, pass_all, seen_on}
 
 -- a token begins so
 abbrev starts_token : List ℕ → Bool

@@ -1,4 +1,4 @@
-use Rattle.std.proofs.Common.{◌≡◌, ◌-◌, length}
+use Rattle.std.proofs.Common.{◌-◌, length}
 use Rattle.pattern_core.specs.Parsing.{Repeats}
 use Rattle.pattern_core.proofs.parsing.reading.repeat.Given as goal
 
