@@ -1,5 +1,5 @@
 -- What the code of a parser has of a reading.
-use Rattle.std.specs.Prelude.{◌≡◌, ◌<◌, ◌≤◌, ◌⊎◌, ◌+◌, ℕ, Bool, true, false, List, [], ◌∷◌, ◌++◌, length, map, drop, IsTrue, ◌↔◌, not, codes, Option, Some, None, Result, Ok, Err}
+use Rattle.std.specs.Prelude.{◌≡◌, ◌<◌, ◌≤◌, ◌⊎◌, ℕ, Bool, List, [], ◌∷◌, ◌++◌, length, map, drop, IsTrue, ◌↔◌, not, codes, Option, Some, None, Result, Ok, Err}
 use Rattle.std.specs.Ordering.{nat_cmp}
 use Rattle.std.specs.Cmp.Lexicographic.{slice_cmp}
 use Rattle.std.specs.BTreeSet.{contains}
@@ -14,7 +14,7 @@ use Rattle.pattern_syntax.specs.Tokens as token
 use Rattle.pattern_syntax.specs.Tokens.{Token}
 use Rattle.pattern_syntax.specs.Readers.{HasLiterals}
 use Rattle.pattern_core.specs.Answers.{IsAmong, HasOneTwice}
-use Rattle.pattern_core.specs.Progress.{Gathered, nothing, with_group, with_literals, Level, Frame, Progress, push, close_branch, finished, fresh, in_group, GoesOn, GoesOnBehind}
+use Rattle.pattern_core.specs.Progress.{nothing, with_group, with_literals, Level, Frame, Progress, push, close_branch, finished, fresh, in_group, GoesOn, GoesOnBehind}
 use Rattle.pattern_core.specs.declared.fault.PatternFault.{PatternFault}
 use Rattle.pattern_core.specs.declared.fault.PatternFault.TheVariants as fault
 use Rattle.pattern_core.specs.declared.parsing.names.Names.{Names}

@@ -85,10 +85,6 @@ open_clear numbered t = (refl, refl)
 open_clear (named bs p name) t = (refl, refl)
 open_clear (flagged bs l) t = (refl, refl)
 
-pub mark_clear : (t : List ℕ) → IsClear (63 ∷ t)
-unfolding ucd_props
-mark_clear t = (refl, refl)
-
 pub bar_clear : (t : List ℕ) → IsClear (124 ∷ t)
 unfolding ucd_props
 bar_clear t = (refl, refl)

@@ -27,7 +27,7 @@ use Rattle.pattern_core.specs.declared.parsing.state.State.{State}
 use Rattle.pattern_core.proofs.parsing.BlankLemmas.{length_seen, seen_again}
 use Rattle.pattern_core.proofs.parsing.StepLemmas.{begun as begun_on, read_back}
 use Rattle.pattern_core.proofs.parsing.TokenLemmas.{opens_group, no_item}
-use Rattle.pattern_core.proofs.parsing.TextLemmas.{IsMove, moved_same, blanks_same, item_same, left_same, left_none, open_at_end, no_token_at, whole_read, none_repeated, one_more_repeated, all_repeated, same_on, cut_at}
+use Rattle.pattern_core.proofs.parsing.TextLemmas.{IsMove, moved_same, blanks_same, item_same, left_same, left_none, open_at_end, no_token_at, whole_read, one_more_repeated, all_repeated, same_on, cut_at}
 use Rattle.pattern_core.proofs.parsing.StateLemmas.{Innermost, innermost, no_frames, last_of}
 use Rattle.pattern_core.proofs.parsing.OneLemmas.{one_token, one_repeated}
 
@@ -64,13 +64,6 @@ repeats_more limit text k first at old new i j r so_far read made = record {
       );
   further = omega (arith, so_far.further, read.goes_on.0);
   within = read.goes_on.1;
-}
-
-pub repeats_none : (limit : ℕ) (text : List ℕ) (k : Flags) (first : Piece) (at : ℕ) → at ≤ length text → Repeats limit text k first at first at
-repeats_none limit text k first at h = record {
-  keeps = λ before part same is. (part, (is, none_repeated text before part at at));
-  further = omega arith;
-  within = h;
 }
 
 -- all repetitions of a piece are read, and it is put behind the items

@@ -1,13 +1,10 @@
 -- What a state of the code keeps of a reading.
-use Rattle.std.proofs.Common.{◌≡◌, inl, ◌<◌, ◌+◌, ℕ, Bool, true, false, ◌||◌, not, List, [], ◌∷◌, ◌++◌, length, Some, None, Result, Ok, Err, IfOk, refl, sym, ap, ◌∙◌, subst, arith}
-use Rattle.std.specs.List.{list_any}
-use Rattle.unicode.specs.Binary.{is_uppercase}
+use Rattle.std.proofs.Common.{◌≡◌, inl, ◌<◌, ◌+◌, ℕ, List, [], ◌∷◌, ◌++◌, length, Some, None, Result, Ok, Err, IfOk, refl, sym, ap, ◌∙◌, subst, arith}
 use Rattle.sd_base.specs.declared.no_memory.NoMemory.{NoMemory}
 use Rattle.pattern_syntax.specs.declared.flags.Flags.{Flags}
-use Rattle.pattern_syntax.specs.declared.readings.Literals.{Literals}
 use Rattle.pattern_syntax.specs.declared.readings.Opening.{Opening}
 use Rattle.pattern_syntax.specs.declared.readings.Opening.TheVariants as opening
-use Rattle.pattern_syntax.specs.Flags.{apply, is_nil}
+use Rattle.pattern_syntax.specs.Flags.{apply}
 use Rattle.pattern_syntax.specs.Syntax.{Kind, numbered, named, flagged, inside_flags}
 use Rattle.pattern_syntax.specs.SetTree.{empty, capture}
 use Rattle.pattern_syntax.specs.Reads.{Part, at_depth, own, own_name}
@@ -60,26 +57,6 @@ last_of [] h = absurd (omega arith)
 last_of (x ∷ []) h = ([], x, refl)
 last_of (x ∷ y ∷ xs) h =
     let more = last_of (y ∷ xs) (omega arith) in (x ∷ more.0, more.1, ap (λ zs. x ∷ zs) more.2)
-
-or_assoc : (a b c : Bool) → (a || (b || c)) ≡ ((a || b) || c)
-or_assoc true b c = refl
-or_assoc false b c = refl
-
-any_both : (p : ℕ → Bool) (xs ys : List ℕ) → (list_any p xs || list_any p ys) ≡ list_any p (xs ++ ys)
-any_both p [] ys = refl
-any_both p (x ∷ xs) ys = sym (or_assoc (p x) (list_any p xs) (list_any p ys)) ∙ ap (λ b. p x || b) (any_both p xs ys)
-
-filled_both : (xs ys : List ℕ) → (not (is_nil xs) || not (is_nil ys)) ≡ not (is_nil (xs ++ ys))
-filled_both [] ys = refl
-filled_both (x ∷ xs) ys = refl
-
--- literal characters more
-pub literals_more : (a b c : Literals) (xs ys : List ℕ) → HasLiterals a xs → HasLiterals b ys → c.any ≡ (a.any || b.any)
-    → c.uppercase ≡ (a.uppercase || b.uppercase) → HasLiterals c (xs ++ ys)
-literals_more a b c xs ys h i e f = (
-  e ∙ ap (λ d. d || b.any) h.0 ∙ ap (λ d. not (is_nil xs) || d) i.0 ∙ filled_both xs ys,
-  f ∙ ap (λ d. d || b.uppercase) h.1 ∙ ap (λ d. list_any is_uppercase xs || d) i.1 ∙ any_both is_uppercase xs ys,
-)
 
 append-nil : {A : Type 0} (xs : List A) → xs ++ [] ≡ xs
 append-nil [] = refl

@@ -1,0 +1,133 @@
+//! White space and comments that are passed over.
+
+use crate::finding::{PLAIN, Row, check_all, check_class};
+use std::test::Fail;
+
+const PASSED: &[Row] = &[
+    ("(?x) a b ", "ab", Some("ab")),
+    ("(?x)a\tb\nc\rd\u{B}e\u{C}f", "abcdef", Some("abcdef")),
+    (
+        "(?x)a\u{85}b\u{A0}c\u{2003}d\u{2028}e",
+        "abcde",
+        Some("abcde"),
+    ),
+    ("(?x)a\u{200B}b", "ab", None),
+    ("(?x)a#b\nc", "ac", Some("ac")),
+    ("(?x)a#b\rc\nd", "ad", Some("ad")),
+    ("(?x)a#b", "a", Some("a")),
+    ("(?x)#", "a", Some("")),
+    ("(?x)# a\n# b\n", "a", Some("")),
+    ("(?x)a#(*[\nb", "ab", Some("ab")),
+    ("(?x)", "a", Some("")),
+    ("(?x) ", "a", Some("")),
+    (r"(?x)a\ b", "a b", Some("a b")),
+    (r"(?x)a\#b", "a#b", Some("a#b")),
+    ("(?x)a\\\nb", "a\nb", Some("a\nb")),
+    (r"(?x)a\x20b", "a b", Some("a b")),
+    (r"(?x)a\x23", "a#", Some("a#")),
+    ("(?x) ( a | b ) c", "bc", Some("bc")),
+    ("(?x)( a#1\n| b#2\n)#3\nc", "bc", Some("bc")),
+    ("(?x)(?: a ) b", "ab", Some("ab")),
+    ("(?x)( ?: a ) b", "ab", Some("ab")),
+    ("(?x)( ?i: a ) b", "Ab", Some("Ab")),
+    ("(?x)( ?i) a", "A", Some("A")),
+    ("(?x)(#c\n?i) a", "A", Some("A")),
+    ("(?x)( ?<n> a ) b", "ab", Some("ab")),
+    ("(?x) a | b ", "b", Some("b")),
+    ("(?x) | a", "b", Some("")),
+    ("(?x) ^ a $ ", "a", Some("a")),
+    ("(?x) . ", " ", Some(" ")),
+    (r"(?x) \d \A ", "1", None),
+    ("(?x) a + ", "aaa", Some("aaa")),
+    ("(?x) a #c\n + ", "aaa", Some("aaa")),
+    ("(?x)a+ ?", "aaa", Some("aaa")),
+    ("(?x)a+?", "aaa", Some("a")),
+    ("(?x)a* #c\n?", "aaa", Some("aaa")),
+    ("(?x)a? ?", "a", Some("a")),
+    ("(?x)a??", "a", Some("")),
+    ("(?x)a? ? ?", "a", Some("a")),
+    ("(?x)a{1,2} ?", "aaa", Some("a")),
+    ("(?x)a{1,2} #c\n ?", "aaa", Some("a")),
+    ("(?x)a{1,2} ? ?", "aaa", Some("a")),
+    ("(?x)a{2} +", "aaaaa", Some("aaaa")),
+    ("(?x) a { 2 } ", "aaa", Some("aa")),
+    ("(?x) a {2} ", "aaa", Some("aa")),
+    ("(?x) a { 2 ,}", "aaa", Some("aaa")),
+    ("(?x) a {2 , 3} b", "aaaab", Some("aaab")),
+    ("(?x) ( a ) {2}", "aaa", Some("aa")),
+    ("(?x)(?-x) a", " a", Some(" a")),
+    ("(?x)(?-x: a) b", " ab", Some(" ab")),
+    ("(?x: a ) b", "a b", Some("a b")),
+    ("((?x) a ) b", "a b", Some("a b")),
+    ("(?x)a b(?-x) c", "ab c", Some("ab c")),
+    ("a (?x) b c", "a bc", Some("a bc")),
+    ("a#b", "a#b", Some("a#b")),
+    ("a b", "ab", None),
+    (r"(?x)\x 4 1", "A", Some("A")),
+    ("(?x)\\x#c\n4#d\n1", "A", Some("A")),
+    (r"(?x)\x 4 1 1", "A1", Some("A1")),
+    (r"(?x)\u 0 0 e 9", "é", Some("é")),
+    (r"(?x)\U 0 0 0 1 F 6 0 0", "\u{1F600}", Some("\u{1F600}")),
+    (r"(?x)\x {41}", "A", Some("A")),
+    (r"(?x)\x{ 4 1 }", "A", Some("A")),
+    ("(?x)\\u #c\n { 4 #d\n 1 }", "A", Some("A")),
+    (r"(?x)\p L", "1é", Some("é")),
+    (r"(?x)\p {L}", "1é", Some("é")),
+    (r"(?x)\p{ L u }", "éÉ", Some("É")),
+    ("(?x)\\P #c\n { L #d\n u }", "Éé", Some("é")),
+    (r"(?x) [ \x 4 1 ] ", "x41 A", Some("A")),
+    (r"(?x)\b{start} b", "a b", Some("b")),
+    ("( ?:a)", ":a", Some(":a")),
+    ("( ?:a)", " :a", Some(" :a")),
+];
+
+#[test]
+fn blanks_are_passed_over(rt: HostRuntime) -> Result<(), Fail> {
+    check_all(&rt, &PLAIN, PASSED)
+}
+
+/// A class, members of it, and other characters.
+const CLASSES: &[(&str, &str, &str)] = &[
+    ("(?x)[a b]", "ab", " "),
+    ("(?x)[ a - c ]", "abc", "- "),
+    ("(?x)[a#b\nc]", "ac", "#b\n"),
+    ("(?x)[#]\na]", "a", "#]\n"),
+    ("(?x)[a #-\n - #c\n c]", "abc", "-#"),
+    ("(?x)[ ^a ]", "b ^", "a"),
+    ("(?x)[#c\n^a]", "b#^", "a"),
+    ("(?x)[^ a]", "b ", "a"),
+    ("(?x)[ -a ]", "-a", " "),
+    ("(?x)[ - - a ]", "-a", ".A "),
+    ("(?x)[ ]a]", "]a", " ["),
+    ("(?x)[ ^ ]a]", "b ", "]a"),
+    ("(?x)[ - ]", "-", " "),
+    ("(?x)[a - ]", "a-", " "),
+    ("(?x)[a - #c\n]", "a-", " #c"),
+    ("(?x)[a - - b]", "aA-Bb", "c,"),
+    ("(?x)[a- -b]", "aA-Bb", "c,"),
+    ("(?x)[a -- b]", "a", "-b"),
+    ("(?x)[a-c && b]", "b", "ac& "),
+    ("(?x)[ a-c && [ ^ b ] ]", "ac", "b "),
+    ("(?x)[a & & b]", "a&b", " "),
+    ("(?x)[a-c ~~ b-d]", "ad", "bc~"),
+    ("(?x)[ && a ]", "", "a& "),
+    ("(?x)[ [:alpha:] ]", "az", ": "),
+    ("(?x)[[:alpha: ]]", ":alph", "z ["),
+    ("(?x)[[ :alpha:]]", ":alph", "z ["),
+    (r"(?x)[\ a]", " a", "\\"),
+    (r"(?x)[\#a]", "#a", "\\"),
+    (r"(?x)[a - \x 6 3]", "abc", "-x63 "),
+    ("(?x)[\\d - a]", "5-a", " b"),
+    ("[a b]", "a b", "#"),
+    ("[a #]", "a #", "b"),
+    ("[ -a]", " -a", "b"),
+    ("[ ^a]", " ^a", "b"),
+];
+
+#[test]
+fn blanks_in_classes_are_passed_over(rt: HostRuntime) -> Result<(), Fail> {
+    for (class, members, others) in CLASSES {
+        check_class(&rt, class, members, others)?;
+    }
+    Ok(())
+}
