@@ -9,8 +9,10 @@ use std::test::Fail;
 /// How many parts there are.
 const MANY: usize = 100_000;
 
-/// How many characters there are in a class.
-const MANY_CHARACTERS: u32 = 100_000;
+/// How many characters there are in a long class, and in the longest.
+const MANY_CHARACTERS: u32 = 10_000;
+
+const MOST_CHARACTERS: u32 = 100_000;
 
 /// A part, so many times, between two texts.
 fn repeated(
@@ -176,16 +178,18 @@ fn many_names_are_compared(rt: HostRuntime) -> Result<(), Fail> {
     Ok(())
 }
 
-/// A class of many characters, no two of them side by side, as they rise or fall.
-fn long_class(rt: &impl AllocGlobal, before: &str, falls: bool) -> Result<String, Fail> {
+/// A class of so many characters, no two of them side by side, as they rise or fall.
+fn long_class(
+    rt: &impl AllocGlobal,
+    before: &str,
+    count: u32,
+    falls: bool,
+) -> Result<String, Fail> {
     let mut class = String::from_str(rt.alloc(), before)?;
-    for number in 0..MANY_CHARACTERS {
-        let place = if falls {
-            MANY_CHARACTERS - 1 - number
-        } else {
-            number
-        };
-        class.push(char::from_u32(0x1_0000 + 2 * place).ok_or("no character")?)?;
+    for number in 0..count {
+        let place = if falls { count - 1 - number } else { number };
+        let code = place.saturating_mul(2).saturating_add(0x1_0000);
+        class.push(char::from_u32(code).ok_or("no character")?)?;
     }
     class.push(']')?;
     Ok(class)
@@ -203,10 +207,13 @@ fn a_class_of_many_members(rt: HostRuntime) -> Result<(), Fail> {
         ("[\\pL&&", false),
         ("(?i)[\\pL--", true),
     ] {
-        let parsed = read(rt.alloc(), &long_class(&rt, before, falls)?, &PLAIN)?;
+        let class = long_class(&rt, before, MANY_CHARACTERS, falls)?;
+        let parsed = read(rt.alloc(), &class, &PLAIN)?;
         let found = find(rt.alloc(), &parsed, "\u{10400}\u{10401}".as_bytes())?;
         assert!(rt; found.is_some(), "{before}");
     }
+    let longest = long_class(&rt, "[", MOST_CHARACTERS, false)?;
+    assert!(rt; read(rt.alloc(), &longest, &PLAIN).is_ok());
     Ok(())
 }
 
