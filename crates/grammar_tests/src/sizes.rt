@@ -187,7 +187,11 @@ fn long_class(
 ) -> Result<String, Fail> {
     let mut class = String::from_str(rt.alloc(), before)?;
     for number in 0..count {
-        let place = if falls { count - 1 - number } else { number };
+        let place = if falls {
+            count.saturating_sub(number)
+        } else {
+            number
+        };
         let code = place.saturating_mul(2).saturating_add(0x1_0000);
         class.push(char::from_u32(code).ok_or("no character")?)?;
     }
