@@ -6,8 +6,6 @@
 #[cfg(test)]
 mod chosen_files;
 #[cfg(test)]
-mod crashes;
-#[cfg(test)]
 mod memory_disks;
 #[cfg(test)]
 mod runs;

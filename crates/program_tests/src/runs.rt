@@ -5,10 +5,10 @@ use sd_edge::{DiskFault, MemDisk, MemSink, MemSource, Words};
 use std::alloc::Global;
 use std::test::Fail;
 
-pub(crate) const TREE_COMMAND: [&str; 6] = ["--root", "/t", "--", "one", "1", "*.txt"];
+const TREE_COMMAND: [&str; 6] = ["--root", "/t", "--", "one", "1", "*.txt"];
 
 /// A disk with `/t/a.txt` and `/t/b.md`.
-pub(crate) fn two_files(alloc: Global) -> Result<MemDisk, Fail> {
+fn two_files(alloc: Global) -> Result<MemDisk, Fail> {
     let mut disk = MemDisk::new(alloc);
     disk.add_dir("/t")?;
     disk.add_file("/t/a.txt", b"one two one", 0o640)?;
@@ -18,14 +18,14 @@ pub(crate) fn two_files(alloc: Global) -> Result<MemDisk, Fail> {
 
 /// What a run ended with, and what it printed.
 #[derive(Drop)]
-pub(crate) struct Run {
-    pub(crate) ended: Ended,
-    pub(crate) out: MemSink,
-    pub(crate) err: MemSink,
+pub struct Run {
+    pub ended: Ended,
+    pub out: MemSink,
+    pub err: MemSink,
 }
 
 /// Runs the words without input. What is printed has so many bytes of room.
-pub(crate) fn run_words(
+pub fn run_words(
     alloc: Global,
     disk: &mut MemDisk,
     words: &[&str],
@@ -43,7 +43,7 @@ pub(crate) fn run_words(
 }
 
 /// Whether the file at a path holds these bytes.
-pub(crate) fn holds(alloc: Global, disk: &MemDisk, path: &str, bytes: &[u8]) -> Result<bool, Fail> {
+pub fn holds(alloc: Global, disk: &MemDisk, path: &str, bytes: &[u8]) -> Result<bool, Fail> {
     match disk.read_all(alloc, path)? {
         None => Ok(false),
         Some(held) => Ok(held.as_slice() == bytes),
@@ -72,7 +72,7 @@ fn rewrites_chosen_files_and_counts(rt: HostRuntime) -> Result<(), Fail> {
 /// The counted calls of the tree command on `two_files`. The root is resolved and its kind asked for (2). Its list is
 /// opened, gives two entries and then its end (4). `a.txt` alone fits the glob, so it is asked for its length (1), and
 /// then read, a temporary file created, written, synced and renamed, and its folder synced (6).
-pub(crate) const CALLS: u64 = 13;
+const CALLS: u64 = 13;
 
 #[test]
 fn each_failing_call_leaves_files_old_or_new(rt: HostRuntime) -> Result<(), Fail> {

@@ -1,9 +1,43 @@
 //! What a crash leaves of a run, and of a disk in memory.
 
-use crate::runs::{CALLS, TREE_COMMAND, holds, run_words, two_files};
-use sd_edge::{Disk, Kind, MemDisk};
+use sd_core::{Ended, run};
+use sd_edge::{Disk, Kind, MemDisk, MemSink, MemSource, Words};
 use std::alloc::Global;
 use std::test::Fail;
+
+const TREE_COMMAND: [&str; 6] = ["--root", "/t", "--", "one", "1", "*.txt"];
+
+/// The counted calls of that command on `two_files`.
+const CALLS: u64 = 13;
+
+/// A disk with `/t/a.txt` and `/t/b.md`.
+fn two_files(alloc: Global) -> Result<MemDisk, Fail> {
+    let mut disk = MemDisk::new(alloc);
+    disk.add_dir("/t")?;
+    disk.add_file("/t/a.txt", b"one two one", 0o640)?;
+    disk.add_file("/t/b.md", b"one", 0o640)?;
+    Ok(disk)
+}
+
+/// Runs the words without input, and gives how the run ended.
+fn run_words(alloc: Global, disk: &mut MemDisk, words: &[&str]) -> Result<Ended, Fail> {
+    let mut list = Words::new(alloc);
+    for word in words {
+        list.push(word)?;
+    }
+    let mut input = MemSource::new(alloc, b"", 1)?;
+    let mut out = MemSink::new(alloc, 1000)?;
+    let mut err = MemSink::new(alloc, 1000)?;
+    Ok(run(alloc, &list, disk, &mut input, &mut out, &mut err))
+}
+
+/// Whether the file at a path holds these bytes.
+fn holds(alloc: Global, disk: &MemDisk, path: &str, bytes: &[u8]) -> Result<bool, Fail> {
+    match disk.read_all(alloc, path)? {
+        None => Ok(false),
+        Some(held) => Ok(held.as_slice() == bytes),
+    }
+}
 
 /// The first choices of an image.
 const CHOICES: u64 = 16;
@@ -16,17 +50,17 @@ fn is_reserved(name: &str) -> bool {
 /// How many entries of `/t` have other names than the two files and temporary ones. There are at most four.
 fn strangers(alloc: Global, disk: &mut MemDisk) -> Result<usize, Fail> {
     let list = disk.open_dir("/t")?;
-    let mut count = 0;
+    let mut count = 0_usize;
     for _ in 0..4 {
         if let Some(entry) = disk.next_entry(alloc, list)? {
             let name = entry.name.as_str();
             if name != "a.txt" && name != "b.md" && !is_reserved(name) {
-                count += 1;
+                count = count.saturating_add(1);
             }
         }
     }
     if disk.next_entry(alloc, list)?.is_some() {
-        count += 1;
+        count = count.saturating_add(1);
     }
     Ok(count)
 }
@@ -37,7 +71,7 @@ fn each_stop_and_crash_leaves_the_file_old_or_new(rt: HostRuntime) -> Result<(),
     for call in 1..=CALLS {
         let mut disk = two_files(alloc)?;
         disk.stop_at(call);
-        let _run = run_words(alloc, &mut disk, &TREE_COMMAND, 1000)?;
+        let _run = run_words(alloc, &mut disk, &TREE_COMMAND)?;
         for choice in 0..CHOICES {
             let mut image = disk.crash(alloc, choice)?;
             let old = holds(alloc, &image, "/t/a.txt", b"one two one")?;
@@ -66,8 +100,8 @@ fn each_stop_and_crash_leaves_the_file_old_or_new(rt: HostRuntime) -> Result<(),
 fn after_a_run_each_crash_leaves_the_new_file_alone(rt: HostRuntime) -> Result<(), Fail> {
     let alloc = rt.alloc();
     let mut disk = two_files(alloc)?;
-    let run = run_words(alloc, &mut disk, &TREE_COMMAND, 1000)?;
-    assert_eq!(rt; run.ended.status, 0);
+    let ended = run_words(alloc, &mut disk, &TREE_COMMAND)?;
+    assert_eq!(rt; ended.status, 0);
     for choice in 0..CHOICES {
         let image = disk.crash(alloc, choice)?;
         assert!(rt;
@@ -134,13 +168,13 @@ fn a_file_that_was_written_in_place_may_hold_anything_until_it_is_synced(
     let before = disk.crash(alloc, 0)?;
     assert!(rt; holds(alloc, &before, "/t/b.md", b"one")?);
     disk.sync("/t/b.md")?;
-    let run = run_words(
+    let ended = run_words(
         alloc,
         &mut disk,
         &["--root", "/t", "--", "two", "2", "*"],
         1000,
     )?;
-    assert_eq!(rt; run.ended.status, 0);
+    assert_eq!(rt; ended.status, 0);
     for choice in 0..CHOICES {
         let image = disk.crash(alloc, choice)?;
         assert!(rt; holds(alloc, &image, "/t/b.md", b"2")?, "choice {choice}");
