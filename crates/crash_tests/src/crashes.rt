@@ -168,12 +168,8 @@ fn a_file_that_was_written_in_place_may_hold_anything_until_it_is_synced(
     let before = disk.crash(alloc, 0)?;
     assert!(rt; holds(alloc, &before, "/t/b.md", b"one")?);
     disk.sync("/t/b.md")?;
-    let ended = run_words(
-        alloc,
-        &mut disk,
-        &["--root", "/t", "--", "two", "2", "*"],
-        1000,
-    )?;
+    let words = ["--root", "/t", "--", "two", "2", "*"];
+    let ended = run_words(alloc, &mut disk, &words)?;
     assert_eq!(rt; ended.status, 0);
     for choice in 0..CHOICES {
         let image = disk.crash(alloc, choice)?;
