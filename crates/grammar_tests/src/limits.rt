@@ -1,7 +1,7 @@
 //! How deep patterns nest, names that stand twice, which refusal comes first, and what else is told of a pattern.
 
 use crate::finding::{PLAIN, read};
-use hir_core::{Hir, spots};
+use hir_core::spots;
 use pattern_core::{PatternFault, PatternFlags};
 use std::process::Abort;
 use std::test::Fail;
@@ -324,20 +324,6 @@ fn patterns_have_so_many_spots(rt: HostRuntime) -> Result<(), Fail> {
     for (pattern, count) in SPOTS {
         let parsed = read(rt.alloc(), pattern, &PLAIN)?;
         assert_eq!(rt; spots(&parsed.hir), *count, "{pattern}");
-    }
-    Ok(())
-}
-
-// The characters a and c are one class of two ranges.
-#[test]
-fn a_class_without_one_of_its_members(rt: HostRuntime) -> Result<(), Fail> {
-    match read(rt.alloc(), "[a-c&&[^b]]", &PLAIN)?.hir {
-        Hir::ClassChars(ranges) => {
-            assert!(rt; ranges.len() == 2);
-            assert_eq!(rt; ranges.get(0), ('a', 'a'));
-            assert_eq!(rt; ranges.get(1), ('c', 'c'));
-        }
-        _ => assert!(rt; false, "no class"),
     }
     Ok(())
 }

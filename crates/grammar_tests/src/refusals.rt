@@ -1,6 +1,6 @@
 //! Texts that the grammar doesn't read.
 
-use crate::finding::{OCTAL, PLAIN, check_all_refused, check_refused, read};
+use crate::finding::{OCTAL, PLAIN, check_all_refused, check_refused};
 use pattern_core::PatternFault;
 use std::test::Fail;
 
@@ -535,32 +535,6 @@ const CLASSES: &[&str] = &[
 #[test]
 fn classes_that_are_refused(rt: HostRuntime) -> Result<(), Fail> {
     check_all_refused(&rt, &PLAIN, CLASSES)
-}
-
-/// One of everything.
-const LONG: &str =
-    "(?im-s)^a\\.\\x41\\u00e9\\U0001F600\\x{41}[]a-c&&[^b]\\d--\\pL~~[:alpha:]-z]{2,3}?(?P<n>b|(?<m>.*)+?|)(?x: c # d\n \
-[ e - f # g\n] {4} \\p { L u } ( ?i) \\ )(?-u:\\xFF[\\x80-\\xFF]\\W)\\b{start}\\b{2}\\<\\>\\A\\z\\B\\b{end-half}(((h)))é$";
-
-#[test]
-fn parts_of_a_long_pattern_are_read_or_refused(rt: HostRuntime) -> Result<(), Fail> {
-    let alloc = rt.alloc();
-    read(alloc, LONG, &PLAIN)?;
-    for (at, c) in LONG.char_indices() {
-        let before = LONG.get(..at).ok_or("no text")?;
-        let from = LONG.get(at..).ok_or("no text")?;
-        let behind = LONG
-            .get(at.saturating_add(c.len_utf8())..)
-            .ok_or("no text")?;
-        let mut without = String::from_str(alloc, before)?;
-        without.push_str(behind)?;
-        for part in [before, from, without.as_str()] {
-            if let Err(fault) = read(alloc, part, &PLAIN) {
-                assert_eq!(rt; fault, PatternFault::Grammar, "{part}");
-            }
-        }
-    }
-    Ok(())
 }
 
 // What is open at a place of the pattern, and isn't closed behind it.

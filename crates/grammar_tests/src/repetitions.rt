@@ -157,38 +157,6 @@ fn groups_have_numbers_by_their_opening(rt: HostRuntime) -> Result<(), Fail> {
     Ok(())
 }
 
-/// A pattern that is one group, and its name.
-const NAMES: &[(&str, Option<&str>)] = &[
-    ("(a)", None),
-    ("(?P<n>a)", Some("n")),
-    ("(?<n>a)", Some("n")),
-    ("(?<_>a)", Some("_")),
-    ("(?<_1>a)", Some("_1")),
-    ("(?P<P>a)", Some("P")),
-    ("(?<aZ_09z>a)", Some("aZ_09z")),
-    (
-        "(?<name_of_a_group_that_is_rather_long>a)",
-        Some("name_of_a_group_that_is_rather_long"),
-    ),
-];
-
-#[test]
-fn groups_have_names(rt: HostRuntime) -> Result<(), Fail> {
-    for (pattern, name) in NAMES {
-        match read(rt.alloc(), pattern, &PLAIN)?.hir {
-            Hir::Capture(group) => {
-                assert_eq!(rt; group.index, 1);
-                assert!(rt;
-                    group.name.as_ref().map(|text| text.as_str()) == *name,
-                    "{pattern}"
-                );
-            }
-            _ => assert!(rt; false, "{pattern} is no group"),
-        }
-    }
-    Ok(())
-}
-
 /// Patterns of the greatest counts, which are read but too great to be searched for.
 const GREATEST: &[&str] = &[
     "a{4294967295}",
