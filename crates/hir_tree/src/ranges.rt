@@ -14,14 +14,12 @@ fn leaves_gap(end: u32, start: u32) -> bool
     end < start && start - end > 1
 }
 
-/// How many ranges at the front end before a start, with a number between.
+/// How many sorted ranges at the front end before a start, with a number between.
 fn ranges_before(ranges: &[(u32, u32)], start: u32) -> usize
+    requires { AreApart next_byte ranges.now }
     ensures { result ≡ prefix_len (λ range. nat_lt (range.1 + 1) start) ranges.now }
 {
-    ranges
-        .iter()
-        .take_while(|range| leaves_gap(range.1, start))
-        .count()
+    ranges.partition_point(|range| leaves_gap(range.1, start))
 }
 
 /// Puts one range where those from `first` to before `last` stood. A refusal changes nothing.

@@ -1,8 +1,11 @@
 -- Which numbers sorted ranges hold.
-use Rattle.std.proofs.Common.{◌≡◌, ℕ, ◌+◌, ◌<◌, ◌≤◌, Bool, false, List, [], ◌∷◌, length, map, drop, get_or, drop-cons, add-one, refl, ap, ap₂, ◌∙◌, arith}
-use Rattle.std.specs.Prelude.{◌&&◌, ◌||◌, nat_le}
+use Rattle.std.proofs.Common.{◌≡◌, ℕ, zero, suc, ◌+◌, ◌<◌, ◌≤◌, Bool, true, false, List, [], ◌∷◌, length, map, drop, get_or, drop-cons, add-one, refl, sym, ap, ap₂, ◌∙◌, arith}
+use Rattle.std.specs.Prelude.{◌&&◌, ◌||◌, nat_le, nat_lt}
 use Rattle.std.proofs.Math.Bool.{or-false}
 use Rattle.std.proofs.lemmas.Bool.Decides.{nat_tests}
+use Rattle.std.specs.List.{prefix_len}
+use Rattle.std.specs.List.Sorted.{IsPartitionedBy, IsPartitionPoint}
+use Rattle.std.proofs.lemmas.List.Sums.{prefix_len_is}
 use Rattle.hir_tree.specs.Ranges.{AreApart, StartsPast, chars_between, next_byte, nth_char}
 use Rattle.hir_tree.specs.Runs.{in_set}
 
@@ -51,3 +54,25 @@ same_le m n = grind (arith, nat_tests)
 pub in_set-chars : (xs : List (ℕ × ℕ)) (n : ℕ) → in_set (map chars_between xs) (nth_char n) ≡ in_set xs n
 in_set-chars [] n = refl
 in_set-chars (r ∷ rest) n = ap₂ (λ a b. a || b) (ap₂ (λ a b. a && b) (same_le r.0 n) (same_le n r.1)) (in_set-chars rest n)
+
+-- the ends of sorted ranges rise
+starts_past_end : (xs : List (ℕ × ℕ)) (n j : ℕ) (d : ℕ × ℕ) → StartsPast n xs → AreApart next_byte xs → j < length xs → n < (get_or xs j d).1
+starts_past_end [] n j d past apart within = absurd (omega arith)
+starts_past_end (r ∷ rest) n zero d past apart within = omega (arith, past, apart.0)
+starts_past_end (r ∷ rest) n (suc j) d past apart within =
+    let later = starts_past_end rest (next_byte r.1) j d apart.1 apart.2 (omega (arith, within)) in omega (arith, past, apart.0, later)
+
+ends_rise : (xs : List (ℕ × ℕ)) (i j : ℕ) (d : ℕ × ℕ) → AreApart next_byte xs → i ≤ j → j < length xs → (get_or xs i d).1 ≤ (get_or xs j d).1
+ends_rise [] i j d apart order within = absurd (omega arith)
+ends_rise (r ∷ rest) zero zero d apart order within = omega arith
+ends_rise (r ∷ rest) zero (suc j) d apart order within = let later = starts_past_end rest (next_byte r.1) j d apart.1 apart.2 (omega (arith, within)) in omega (arith, later)
+ends_rise (r ∷ rest) (suc i) zero d apart order within = absurd (omega (arith, order))
+ends_rise (r ∷ rest) (suc i) (suc j) d apart order within = ends_rise rest i j d apart.2 (omega (arith, order)) (omega (arith, within))
+
+-- those that end before a start stand before the others
+pub ends_parted : (xs : List (ℕ × ℕ)) (start : ℕ) → AreApart next_byte xs → IsPartitionedBy (λ (r : ℕ × ℕ). nat_lt (r.1 + 1) start) xs
+ends_parted xs start apart i j d order within later = let rise = ends_rise xs i j d apart order within in grind (arith, nat_tests)
+
+-- a place of parting is the number of those at the front that pass
+pub parted_at : (xs : List (ℕ × ℕ)) (p : ℕ × ℕ → Bool) (n : ℕ) → n ≤ length xs → IsPartitionPoint (λ r. p r ≡ true) (λ r. p r ≡ false) xs n → n ≡ prefix_len p xs
+parted_at xs p n bound point = sym (prefix_len_is p xs n (0, 0) bound (λ k less. point.0 k (0, 0) (omega arith) less) (λ less. point.1 n (0, 0) (omega arith) less))
