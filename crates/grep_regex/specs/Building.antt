@@ -1,0 +1,107 @@
+-- When a matcher is built, and when it is refused.
+use Rattle.std.specs.Prelude.{◌≡◌, ℕ, ◌*◌, ◌^◌, ◌<◌, ◌≤◌, min, true, false, List, [], ◌∷◌, ◌++◌, All, Option, Some, None, IfSome, sum, map, length}
+use Rattle.hir_tree.specs.Spots.{spots_of_tree}
+use Rattle.hir_tree.specs.Tree.{Tree}
+use Rattle.grep_regex.specs.Stripping.{asks_for, not_allowed}
+use Rattle.grep_regex.specs.Options.{optioned, terminator, terminator_told, together}
+use Rattle.grep_regex.specs.Readings.{AreTrees, HasDoubleName, IsFirst, IsUnread, NestsTooDeep}
+use Rattle.grep_regex.specs.declared.options.Options.{Options}
+use Rattle.grep_regex.specs.declared.error.ErrorKind.{ErrorKind}
+use Rattle.grep_regex.specs.declared.error.ErrorKind.TheVariants as kind
+use Rattle.grep_regex.specs.declared.error.RegexFault.{RegexFault}
+use Rattle.grep_regex.specs.declared.error.RegexFault.TheVariants as fault
+
+-- the patterns together have fewer than 2^32 bytes, so that the numbers of their groups fit
+abbrev pub FitTogether : List (List ℕ) → Type 0
+FitTogether patterns = sum (map length patterns) < 2 ^ 32
+
+-- the bytes of the terminator are ASCII
+abbrev pub IsAscii : List ℕ → Type 0
+IsAscii bytes = All (λ b. b < 128) bytes
+
+-- the limit of the size, in bytes
+abbrev pub size_cap : Options → ℕ
+size_cap o = min o.size_limit (2 ^ 36)
+
+-- the size of a pattern, in bytes: 32 for each spot
+abbrev pub size_of : Tree → ℕ
+size_of tree = 32 * spots_of_tree tree
+
+-- the banned byte isn't asked for
+abbrev pub IsUnbanned : Options → Tree → Type 0
+IsUnbanned o tree = IfSome o.ban_byte (λ b. asks_for b tree ≡ false)
+
+-- why patterns aren't read
+abbrev pub IsUnreadable : Options → List (List ℕ) → RegexFault → Type 0
+IsUnreadable o patterns fault.Grammar = IsFirst o patterns (IsUnread o)
+IsUnreadable o patterns fault.Nest = IsFirst o patterns (NestsTooDeep o)
+IsUnreadable o patterns fault.DoubleName = HasDoubleName o patterns
+IsUnreadable o patterns (fault.Size limit) = ⊥
+
+-- what the tests before that of the ban let pass
+pub record Passes (o : Options) (patterns : List (List ℕ)) (trees : List Tree) : Type 0 where
+  pub ascii : IsAscii (terminator o)
+  pub are : AreTrees o patterns trees
+  pub single : HasDoubleName o patterns → ⊥
+
+-- A MATCHER IS BUILT of this pattern.
+pub record IsBuilt (o : Options) (patterns : List (List ℕ)) (tree : Tree) : Type 0 where
+  pub trees : List Tree
+  pub passes : Passes o patterns trees
+  pub unbanned : IsUnbanned o (together trees)
+  pub allowed : not_allowed (terminator o) (together trees) ≡ None
+  pub fits : size_of tree ≤ size_cap o
+  pub is : tree ≡ optioned o trees
+
+-- the pattern asks for the banned byte
+pub record IsBanned (o : Options) (patterns : List (List ℕ)) (byte : ℕ) : Type 0 where
+  pub trees : List Tree
+  pub passes : Passes o patterns trees
+  pub ban : o.ban_byte ≡ Some byte
+  pub asked : asks_for byte (together trees) ≡ true
+
+-- the pattern must take a byte of the terminator
+pub record IsNotAllowed (o : Options) (patterns : List (List ℕ)) (byte : ℕ) : Type 0 where
+  pub trees : List Tree
+  pub passes : Passes o patterns trees
+  pub unbanned : IsUnbanned o (together trees)
+  pub refused : not_allowed (terminator o) (together trees) ≡ Some byte
+
+-- the pattern is larger than its limit
+pub record IsTooLarge (o : Options) (patterns : List (List ℕ)) (limit : ℕ) : Type 0 where
+  pub trees : List Tree
+  pub passes : Passes o patterns trees
+  pub unbanned : IsUnbanned o (together trees)
+  pub allowed : not_allowed (terminator o) (together trees) ≡ None
+  pub limit_is : limit ≡ size_cap o
+  pub large : limit < size_of (optioned o trees)
+
+-- the first of the bytes that isn't ASCII
+pub record IsBeyondAscii (bytes : List ℕ) (byte : ℕ) : Type 0 where
+  pub before : List ℕ
+  pub behind : List ℕ
+  pub all : bytes ≡ before ++ byte ∷ behind
+  pub ascii : IsAscii before
+  pub beyond : 128 ≤ byte
+
+-- why bytes can't be taken out of the classes of a tree
+abbrev pub IsStripRefused : List ℕ → Tree → ErrorKind → Type 0
+IsStripRefused bytes tree (kind.InvalidLineTerminator byte) = IsBeyondAscii bytes byte
+IsStripRefused bytes tree (kind.NotAllowed byte) = IsAscii bytes × (not_allowed bytes tree ≡ Some byte)
+IsStripRefused bytes tree kind.NoMemory = Unit {0}
+IsStripRefused bytes tree _ = ⊥
+
+-- WHY NO MATCHER IS BUILT. Want of memory may come at any time.
+abbrev pub IsRefused : Options → List (List ℕ) → ErrorKind → Type 0
+IsRefused o patterns (kind.InvalidLineTerminator byte) = IsBeyondAscii (terminator o) byte
+IsRefused o patterns (kind.Banned byte) = IsBanned o patterns byte
+IsRefused o patterns (kind.NotAllowed byte) = IsNotAllowed o patterns byte
+IsRefused o patterns (kind.Regex (fault.Size limit)) = IsTooLarge o patterns limit
+IsRefused o patterns (kind.Regex fault) = IsAscii (terminator o) × IsUnreadable o patterns fault
+IsRefused o patterns kind.NoMemory = Unit {0}
+
+-- the same of reading alone
+abbrev pub IsReadingRefused : Options → List (List ℕ) → ErrorKind → Type 0
+IsReadingRefused o patterns (kind.Regex fault) = IsUnreadable o patterns fault
+IsReadingRefused o patterns kind.NoMemory = Unit {0}
+IsReadingRefused o patterns _ = ⊥

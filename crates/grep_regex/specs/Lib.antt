@@ -1,0 +1,6 @@
+pub mod Building
+pub mod Exact
+pub mod NonMatching
+pub mod Options
+pub mod Readings
+pub mod Stripping
