@@ -12,6 +12,7 @@ mod error;
 mod matcher;
 mod names;
 mod non_matching;
+mod non_matching_examples;
 mod options;
 mod reading;
 mod stripping;
@@ -21,4 +22,7 @@ pub use captures::RegexCaptures;
 pub use error::{Error, ErrorKind, RegexFault};
 pub use matcher::RegexMatcher;
 pub use non_matching::non_matching_bytes;
+pub use non_matching_examples::{
+    anchors_ask_for_bytes_as_in_the_examples, bytes_are_taken_as_in_the_examples,
+};
 pub use stripping::{check_ban, strip_from_match};

@@ -1,5 +1,5 @@
 -- The bytes of the UTF-8 of the characters of a range.
-use Rattle.std.proofs.Common.{◌≡◌, ◌↔◌, ◌⊎◌, ℕ, suc, ◌+◌, ◌-◌, ◌*◌, ◌/◌, ◌%◌, ◌<◌, ◌≤◌, min, max, List, [], ◌∷◌, All, Contains, Some, refl, sym, ap, subst, ◌∙◌, inl, inr, ⊎_elim, arith, lt-ltb, le-ltb}
+use Rattle.std.proofs.Common.{◌≡◌, ◌↔◌, ◌⊎◌, ℕ, suc, ◌+◌, ◌-◌, ◌*◌, ◌/◌, ◌%◌, ◌<◌, ◌≤◌, min, max, List, [], ◌∷◌, ◌++◌, All, Contains, Some, refl, sym, ap, subst, ◌∙◌, inl, inr, ⊎_elim, arith, lt-ltb, le-ltb}
 use Rattle.std.proofs.lemmas.Bool.{cond-true, cond-false, cases_lt}
 use Rattle.std.proofs.lemmas.Bool.Decides.{nat_tests}
 use Rattle.std.proofs.lemmas.List.Elements.{All-pop, Contains-append_left, Contains-push, Contains-push_cases}
@@ -11,27 +11,51 @@ use Rattle.grep_regex.proofs.non_matching.RemovedLemmas.{IsSameWithout, both_los
 use Rattle.hir_tree.specs.Ranges.{Holds, IsWithin}
 
 -- a byte of a form is its last one, or in the form of a sixty-fourth of the number
-pub form_after : (prefix continuations first last b : ℕ) → first ≤ last
-    → IsInFormOf prefix (suc continuations) (first, last) b ↔ (IsContinuationOf (first, last) b ⊎ IsInFormOf prefix continuations (first / 64, last / 64) b)
-form_after prefix continuations first last b order = (
-  (λ h.
-      let n = h.0 in
-      ⊎_elim (λ top. inr (n / 64, (omega arith, omega arith), top)) (λ e. inl (n, h.1, e)) (Contains-push_cases (utf8_form prefix continuations (n / 64)) (continuation_byte n) b h.2)),
+pub byte_of_form : (prefix continuations n b : ℕ)
+    → Contains (utf8_form prefix (suc continuations) n) b ↔ ((continuation_byte n ≡ b) ⊎ Contains (utf8_form prefix continuations (n / 64)) b)
+byte_of_form prefix continuations n b =
+    let top = utf8_form prefix continuations (n / 64) in let last = continuation_byte n in (
+      (λ h. ⊎_elim (λ above. inr above) (λ e. inl e) (Contains-push_cases top last b h)),
+      (λ h.
+          ⊎_elim
+          (λ (e : last ≡ b). subst (λ (y : ℕ). Contains (top ++ last ∷ []) y) e (Contains-push top last))
+          (λ above. Contains-append_left top (last ∷ []) b above)
+          h),
+    )
+
+-- without continuation bytes a form is one byte
+pub byte_of_short_form : (prefix n b : ℕ) → Contains (utf8_form prefix 0 n) b ↔ (prefix + n ≡ b)
+byte_of_short_form prefix n b = (
+  (λ h. ⊎_elim (λ (e : prefix + n ≡ b). e) (λ none. absurd (omega (arith, none.1))) ((contains_first_or_rest (prefix + n) [] b).0 h)),
+  (λ e. (contains_first_or_rest (prefix + n) [] b).1 (inl e)),
+)
+
+-- the bytes of the forms of a range are the continuation bytes of its numbers and the bytes of the forms of their sixty-fourths
+pub bytes_of_forms : (prefix continuations first last b : ℕ) → first ≤ last
+    → IsInFormOf prefix (suc continuations) (first, last) b
+    ↔ (IsContinuationOf (first, last) b ⊎ IsInFormOf prefix continuations (first / 64, last / 64) b)
+bytes_of_forms prefix continuations first last b order = (
   (λ h.
       ⊎_elim
-      (λ (one : IsContinuationOf (first, last) b). (one.0, one.1, subst (λ (y : ℕ). Contains (utf8_form prefix (suc continuations) one.0) y) one.2 (Contains-push (utf8_form prefix continuations (one.0 / 64)) (continuation_byte one.0))))
+      (λ e. inl (h.0, h.1, e))
+      (λ above. inr (h.0 / 64, (omega arith, omega arith), above))
+      ((byte_of_form prefix continuations h.0 b).0 h.2)),
+  (λ h.
+      ⊎_elim
+      (λ (one : IsContinuationOf (first, last) b). (one.0, one.1, (byte_of_form prefix continuations one.0 b).1 (inl one.2)))
       (λ (top : IsInFormOf prefix continuations (first / 64, last / 64) b).
-      let n = max first (top.0 * 64) in
-      let same : n / 64 ≡ top.0 = omega arith in
-      (n, (omega arith, omega arith), Contains-append_left (utf8_form prefix continuations (n / 64)) (continuation_byte n ∷ []) b (subst (λ (k : ℕ). Contains (utf8_form prefix continuations k) b) (sym same) top.2)))
+          let n = max first (top.0 * 64) in
+          let same : n / 64 ≡ top.0 = omega arith in
+          let above = subst (λ (k : ℕ). Contains (utf8_form prefix continuations k) b) (sym same) top.2 in
+          (n, (omega arith, omega arith), (byte_of_form prefix continuations n b).1 (inr above)))
       h),
 )
 
 -- without continuation bytes the forms of the numbers of a range are the bytes of a range
-pub form_alone : (prefix first last b : ℕ) → IsWithin (prefix + first, prefix + last) b ↔ IsInFormOf prefix 0 (first, last) b
-form_alone prefix first last b = (
-  (λ h. let n = b - prefix in let e : prefix + n ≡ b = omega arith in (n, (omega arith, omega arith), (contains_first_or_rest (prefix + n) [] b).1 (inl e))),
-  (λ h. ⊎_elim (λ (e : prefix + h.0 ≡ b). (omega arith, omega arith)) (λ none. absurd (omega (arith, none.1))) ((contains_first_or_rest (prefix + h.0) [] b).0 h.2)),
+pub bytes_of_short_forms : (prefix first last b : ℕ) → IsWithin (prefix + first, prefix + last) b ↔ IsInFormOf prefix 0 (first, last) b
+bytes_of_short_forms prefix first last b = (
+  (λ h. let e : prefix + (b - prefix) ≡ b = omega arith in (b - prefix, (omega arith, omega arith), (byte_of_short_form prefix (b - prefix) b).1 e)),
+  (λ h. let e : prefix + h.0 ≡ b = (byte_of_short_form prefix h.0 b).0 h.2 in (omega arith, omega arith)),
 )
 
 -- characters take one to four bytes
@@ -86,7 +110,7 @@ pub sixty_fourths_left : (old set new : ByteSet) (Kind : ℕ → Type 0) (prefix
 sixty_fourths_left old set new Kind prefix k continuations first last is order same lost =
     one_kind_less old set new Kind (IsInFormOf prefix (suc continuations) (first, last)) (IsContinuationOf (first, last)) (IsInFormOf prefix continuations (first / 64, last / 64))
     (subst (λ (j : ℕ). IsSameWithout old set Kind (IsInFormOf prefix j (first, last))) is same)
-    (λ b. form_after prefix continuations first last b order)
+    (λ b. bytes_of_forms prefix continuations first last b order)
     lost
 
 -- the UTF-8 of the characters of a range has one of five forms, which leave out U+D800 to U+DFFF
