@@ -1,3 +1,4 @@
+pub mod Anchors
 pub mod Building
 pub mod Exact
 pub mod Matching
@@ -5,4 +6,5 @@ pub mod MatchingLemmas
 pub mod NonMatching
 pub mod Options
 pub mod Readings
+pub mod Removed
 pub mod Stripping
