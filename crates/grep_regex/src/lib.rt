@@ -9,6 +9,8 @@ mod assembling;
 mod builder;
 mod captures;
 mod error;
+mod examples;
+mod laws;
 mod matcher;
 mod names;
 mod non_matching;
@@ -19,6 +21,15 @@ mod stripping;
 pub use builder::RegexMatcherBuilder;
 pub use captures::RegexCaptures;
 pub use error::{Error, ErrorKind, RegexFault};
+pub use examples::{
+    bytes_are_in_no_match_as_in_the_examples, classes_are_stripped_as_in_the_examples,
+    options_ask_for_edges_as_in_the_examples, patterns_are_joined_as_in_the_examples,
+    patterns_are_refused_as_in_the_examples, terminators_are_told_as_in_the_examples,
+};
+pub use laws::{
+    no_match_holds_a_terminator, stripping_is_refused_exactly, stripping_keeps_spots_and_groups,
+    stripping_leaves_the_clear_runs, what_is_not_taken_is_in_no_match,
+};
 pub use matcher::RegexMatcher;
 pub use non_matching::non_matching_bytes;
 pub use stripping::{check_ban, strip_from_match};

@@ -1,0 +1,8 @@
+pub mod ExactLemmas
+pub mod FilterLemmas
+pub mod NoMatchLemmas
+pub mod OptionsLemmas
+pub mod SetsLemmas
+pub mod StrippingLemmas
+pub mod TreeLemmas
+pub mod WithoutLemmas
