@@ -2,13 +2,14 @@
 
 ghost use Rattle.std.specs.Prelude.{◌≡◌, ◌<◌, ◌∷◌, [], Some, None, IfOk, IfErr, IfSome, option_map, if◌then◌else◌};
 ghost use Rattle.hir_tree.specs.Tree.{tree_of};
-ghost use Rattle.grep_regex.specs.Building.{FitTogether, IsBuilt, IsRefused};
-ghost use Rattle.grep_regex.specs.Options.{byte_terminator, crlf_terminator, default_options, terminator_told};
+ghost use Rattle.grep_regex.specs.Building.{FitTogether, HasTheClearRuns, IsBare, IsBuilt, IsRefused, MatchesAreClear};
+ghost use Rattle.grep_regex.specs.Options.{byte_terminator, crlf_terminator, default_options, line_options, terminator_told};
 
+use crate::building::matcher_of;
 use crate::options::Options;
 use crate::{Error, RegexMatcher};
 use grep_matcher::LineTerminator;
-use sd_base::{NoMemory, Patterns};
+use sd_base::Patterns;
 use std::alloc::Global;
 use std::marker::Model;
 
@@ -215,14 +216,78 @@ impl RegexMatcherBuilder {
         self
     }
 
+    /// A matcher of one pattern. No match holds a byte of the terminator: where nothing stands round the whole, the matches are
+    /// those of the pattern that don't.
+    ///
+    /// It is refused, and in this order, where the terminator isn't ASCII, where the pattern isn't read or nests too deep, where
+    /// it has a name twice, where it asks for the banned byte or for a byte of the terminator, and where it is too large. Want of
+    /// memory may come at any time.
+    pub fn build(&self, alloc: Global, pattern: &str) -> Result<RegexMatcher, Error>
+        requires fit { FitTogether (pattern.now ∷ []) }
+        ensures built { IfOk result (λ matcher. IsBuilt self.now (pattern.now ∷ []) (tree_of matcher.searcher)) }
+        ensures terminator { IfOk result (λ matcher. matcher.terminator ≡ terminator_told self.now (tree_of matcher.searcher)) }
+        ensures clear { IfOk result (λ matcher. MatchesAreClear self.now (tree_of matcher.searcher)) }
+        ensures runs { IfOk result (λ matcher. IsBare self.now → HasTheClearRuns self.now (pattern.now ∷ []) (tree_of matcher.searcher)) }
+        ensures refused { IfErr result (λ error. IsRefused self.now (pattern.now ∷ []) error.kind) }
+    {
+        let mut patterns = Patterns::new(alloc);
+        patterns.push(pattern)?;
+        self.build_many(alloc, &patterns)
+    }
+
     /// A matcher of several patterns: their alternation, in their order, with the groups of each numbered on from those before it.
-    /// No patterns match nothing.
+    /// No patterns match nothing. It is refused as [`build`](RegexMatcherBuilder::build) is, where one pattern isn't read before
+    /// the patterns together have a name twice.
     pub fn build_many(&self, alloc: Global, patterns: &Patterns) -> Result<RegexMatcher, Error>
         requires fit { FitTogether patterns.now }
         ensures built { IfOk result (λ matcher. IsBuilt self.now patterns.now (tree_of matcher.searcher)) }
         ensures terminator { IfOk result (λ matcher. matcher.terminator ≡ terminator_told self.now (tree_of matcher.searcher)) }
+        ensures clear { IfOk result (λ matcher. MatchesAreClear self.now (tree_of matcher.searcher)) }
+        ensures runs { IfOk result (λ matcher. IsBare self.now → HasTheClearRuns self.now patterns.now (tree_of matcher.searcher)) }
         ensures refused { IfErr result (λ error. IsRefused self.now patterns.now error.kind) }
     {
-        Err(NoMemory.into())
+        matcher_of(alloc, &self.options, patterns)
+    }
+
+    /// What [`build_many`](RegexMatcherBuilder::build_many) gives: literals are texts where the builder has
+    /// [`fixed_strings`](RegexMatcherBuilder::fixed_strings), and else patterns.
+    pub fn build_literals(&self, alloc: Global, literals: &Patterns) -> Result<RegexMatcher, Error>
+        requires fit { FitTogether literals.now }
+        ensures built { IfOk result (λ matcher. IsBuilt self.now literals.now (tree_of matcher.searcher)) }
+        ensures terminator { IfOk result (λ matcher. matcher.terminator ≡ terminator_told self.now (tree_of matcher.searcher)) }
+        ensures clear { IfOk result (λ matcher. MatchesAreClear self.now (tree_of matcher.searcher)) }
+        ensures runs { IfOk result (λ matcher. IsBare self.now → HasTheClearRuns self.now literals.now (tree_of matcher.searcher)) }
+        ensures refused { IfErr result (λ error. IsRefused self.now literals.now error.kind) }
+    {
+        self.build_many(alloc, literals)
+    }
+}
+
+impl RegexMatcher {
+    /// A matcher of a pattern under the options that a builder begins with. It is refused as
+    /// [`build`](RegexMatcherBuilder::build) is.
+    pub fn new(alloc: Global, pattern: &str) -> Result<RegexMatcher, Error>
+        requires fit { FitTogether (pattern.now ∷ []) }
+        ensures built { IfOk result (λ matcher. IsBuilt default_options (pattern.now ∷ []) (tree_of matcher.searcher)) }
+        ensures terminator { IfOk result (λ matcher. matcher.terminator ≡ terminator_told default_options (tree_of matcher.searcher)) }
+        ensures clear { IfOk result (λ matcher. MatchesAreClear default_options (tree_of matcher.searcher)) }
+        ensures runs { IfOk result (λ matcher. IsBare default_options → HasTheClearRuns default_options (pattern.now ∷ []) (tree_of matcher.searcher)) }
+        ensures refused { IfErr result (λ error. IsRefused default_options (pattern.now ∷ []) error.kind) }
+    {
+        RegexMatcherBuilder::new().build(alloc, pattern)
+    }
+
+    /// The same for lines that end with `\n`: no match holds one.
+    pub fn new_line_matcher(alloc: Global, pattern: &str) -> Result<RegexMatcher, Error>
+        requires fit { FitTogether (pattern.now ∷ []) }
+        ensures built { IfOk result (λ matcher. IsBuilt line_options (pattern.now ∷ []) (tree_of matcher.searcher)) }
+        ensures terminator { IfOk result (λ matcher. matcher.terminator ≡ terminator_told line_options (tree_of matcher.searcher)) }
+        ensures clear { IfOk result (λ matcher. MatchesAreClear line_options (tree_of matcher.searcher)) }
+        ensures runs { IfOk result (λ matcher. IsBare line_options → HasTheClearRuns line_options (pattern.now ∷ []) (tree_of matcher.searcher)) }
+        ensures refused { IfErr result (λ error. IsRefused line_options (pattern.now ∷ []) error.kind) }
+    {
+        RegexMatcherBuilder::new()
+            .line_terminator(Some(b'\n'))
+            .build(alloc, pattern)
     }
 }
