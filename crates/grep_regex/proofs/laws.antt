@@ -2,7 +2,6 @@ pub mod ExactLemmas
 pub mod FilterLemmas
 pub mod NoMatchLemmas
 pub mod OptionsLemmas
-pub mod SetsLemmas
 pub mod StrippingLemmas
 pub mod TreeLemmas
 pub mod WithoutLemmas

@@ -12,7 +12,7 @@ use Rattle.grep_regex.specs.Stripping.{without, is_alone, strip_byte, strip_each
 use Rattle.hir_tree.specs.Tree.{Tree, Trees, none, more}
 use Rattle.hir_tree.specs.Tree as tree
 use Rattle.grep_regex.proofs.laws.OptionsLemmas.{less-held}
-use Rattle.grep_regex.proofs.laws.SetsLemmas.{holds-from, holds-to}
+use Rattle.pattern_syntax.proofs.RangesLemmas.{held, holds}
 use Rattle.grep_regex.proofs.laws.StrippingLemmas.{in_without}
 use Rattle.grep_regex.proofs.laws.TreeLemmas.{allowed-parts}
 use Rattle.grep_regex.proofs.laws.WithoutLemmas.{bytes-without, chars-without}
@@ -20,7 +20,7 @@ use Rattle.grep_regex.proofs.laws.WithoutLemmas.{bytes-without, chars-without}
 -- another number stays
 still-held : (b : ℕ) (set : List (ℕ × ℕ)) (c : ℕ) → (c ≡ b → ⊥) → Holds set c → Holds (without b set) c
 still-held b set c ne h =
-    holds-from (without b set) c (in_without b c set ∙ ap₂ (λ x y. x && not y) (holds-to set c h) (ne_eqb c b ne))
+    holds (without b set) c (in_without b c set ∙ ap₂ (λ x y. x && not y) (held set c h) (ne_eqb c b ne))
 
 one-is : (b c : ℕ) → is_one_of (b ∷ []) c ≡ true → c ≡ b
 one-is b c e = grind (arith, nat_tests)
@@ -61,36 +61,36 @@ module _ (next : ℕ → ℕ) (grows : (x : ℕ) → x < next x) (b : ℕ) where
   only-split others ranges apart h = cases (without b ranges) refl
     where
       is_b : (c : ℕ) → without b ranges ≡ [] → Holds ranges c → is_one_of (b ∷ []) c ≡ true
-      is_b c e held = cases (c == b) refl
+      is_b c e inside = cases (c == b) refl
         where
           cases : (t : Bool) → (c == b) ≡ t → (t || false) ≡ true
           cases true k = refl
           cases false k =
-              absurd (subst (λ (xs : List (ℕ × ℕ)). Holds xs c) e (still-held b ranges c (λ same. true≢false (sym (eq-eqb c b same) ∙ k)) held))
+              absurd (subst (λ (xs : List (ℕ × ℕ)). Holds xs c) e (still-held b ranges c (λ same. true≢false (sym (eq-eqb c b same) ∙ k)) inside))
 
       other : (c : ℕ) → Holds (without b ranges) c → is_one_of others c ≡ true
-      other c held =
-          let in_both = sym (in_without b c ranges) ∙ holds-to (without b ranges) c held in
+      other c inside =
+          let in_both = sym (in_without b c ranges) ∙ held (without b ranges) c inside in
           let parts = and_parts (in_set ranges c) (not (c == b)) in_both in
-          flat (c == b) (h.1 c (holds-from ranges c parts.0)) parts.1
+          flat (c == b) (h.1 c (holds ranges c parts.0)) parts.1
         where
           flat : (t : Bool) → (t || is_one_of others c) ≡ true → not t ≡ true → is_one_of others c ≡ true
           flat true e k = absurd (true≢false (sym k))
           flat false e k = e
 
       cases : (xs : List (ℕ × ℕ)) → without b ranges ≡ xs → HoldsOnly (b ∷ []) ranges ⊎ HoldsOnly others (without b ranges)
-      cases [] e = inl (h.0, (λ c held. is_b c e held))
+      cases [] e = inl (h.0, (λ c inside. is_b c e inside))
       cases (r ∷ rest) e =
           let order : AreApart next (r ∷ rest) = subst (AreApart next) e apart in
-          let held : Holds (without b ranges) r.0 = subst (λ (xs : List (ℕ × ℕ)). Holds xs r.0) (sym e) (inl (omega arith, order.0)) in
-          inr ((r.0, held), other)
+          let inside : Holds (without b ranges) r.0 = subst (λ (xs : List (ℕ × ℕ)). Holds xs r.0) (sym e) (inl (omega arith, order.0)) in
+          inr ((r.0, inside), other)
 
   only-join : (others : List ℕ) (ranges : List (ℕ × ℕ)) → HoldsOnly others (without b ranges) → HoldsOnly (b ∷ others) ranges
-  only-join others ranges h = ((h.0.0, less-held b ranges h.0.0 h.0.1), (λ c held. cases c held (c == b) refl))
+  only-join others ranges h = ((h.0.0, less-held b ranges h.0.0 h.0.1), (λ c inside. cases c inside (c == b) refl))
     where
       cases : (c : ℕ) → Holds ranges c → (t : Bool) → (c == b) ≡ t → (t || is_one_of others c) ≡ true
-      cases c held true k = refl
-      cases c held false k = h.1 c (still-held b ranges c (λ same. true≢false (sym (eq-eqb c b same) ∙ k)) held)
+      cases c inside true k = refl
+      cases c inside false k = h.1 c (still-held b ranges c (λ same. true≢false (sym (eq-eqb c b same) ∙ k)) inside)
 
 byte-grows : (x : ℕ) → x < next_byte x
 byte-grows x = omega arith
@@ -108,7 +108,7 @@ stands b (c ∷ text) e = cases (stands b text) (c == b) refl e
     cases later false k e = let found = later e in (suc found.0, omega (arith, found.1), found.2)
 
 mutual
-  must-take : (b : ℕ) (t : Tree) → asks_for b t ≡ true → MustTake (b ∷ []) t
+  pub must-take : (b : ℕ) (t : Tree) → asks_for b t ≡ true → MustTake (b ∷ []) t
   must-take b tree.empty e = absurd (true≢false (sym e))
   must-take b (tree.literal text) e = (b, stands b text e, is-one b)
   must-take b (tree.class_chars ranges) e = alone-only next_char char-grows b ranges e
@@ -130,7 +130,7 @@ mutual
       cases first later false false f l e = absurd (true≢false (sym e))
 
 mutual
-  asks-must : (b : ℕ) (t : Tree) → IsTidy t → MustTake (b ∷ []) t → asks_for b t ≡ true
+  pub asks-must : (b : ℕ) (t : Tree) → IsTidy t → MustTake (b ∷ []) t → asks_for b t ≡ true
   asks-must b tree.empty tidy h = absurd h
   asks-must b (tree.literal text) tidy h =
       list_any_at (λ c. c == b) text h.1.0 h.0 h.1.1 (ap (λ c. c == b) h.1.2 ∙ eq-eqb h.0 b (one-is b h.0 h.2))
@@ -209,11 +209,11 @@ mutual
     | inr y ↦ (y.0, y.1, or_right _ _ y.2)
   ]
   must-join b others (tree.class_chars ranges) h = elim h [
-    | inl x ↦ (x.0, (λ c held. only-first b others c (x.1 c held)))
+    | inl x ↦ (x.0, (λ c inside. only-first b others c (x.1 c inside)))
     | inr y ↦ only-join next_char char-grows b others ranges y
   ]
   must-join b others (tree.class_bytes ranges) h = elim h [
-    | inl x ↦ (x.0, (λ c held. only-first b others c (x.1 c held)))
+    | inl x ↦ (x.0, (λ c inside. only-first b others c (x.1 c inside)))
     | inr y ↦ only-join next_byte byte-grows b others ranges y
   ]
   must-join b others (tree.look kind) h = elim h [ inl x ↦ x | inr y ↦ y ]

@@ -24,7 +24,7 @@ use Rattle.hir_tree.proofs.ListLemmas.{All-weaker}
 use Rattle.hir_tree.proofs.RunsLemmas.{GoesOn, runs-Forward}
 use Rattle.grep_regex.proofs.laws.FilterLemmas.{cut_core, SetsAre, clear_size, runs-filtered}
 use Rattle.grep_regex.proofs.laws.StrippingLemmas.{clear-here, clear-joined, slice_range-one}
-use Rattle.grep_regex.proofs.laws.SetsLemmas.{holds-from}
+use Rattle.pattern_syntax.proofs.RangesLemmas.{holds}
 
 -- the set of which a byte is not in what a member takes
 abbrev NoByte : ℕ → List (ℕ × ℕ) → Type 0
@@ -100,8 +100,8 @@ module _ (b : ℕ) where
     spares-tree tree.empty h = tt
     spares-tree (tree.literal bytes) h = spares-pairs (map one_byte bytes) (spares-bytes bytes h)
     spares-tree (tree.class_chars ranges) h =
-        λ c scalar e. not_true _ (λ k. h (c, scalar, holds-from ranges c e, any-contains (encode_utf8 c) k))
-    spares-tree (tree.class_bytes ranges) h = not_true _ (λ e. h (holds-from ranges b e))
+        λ c scalar e. not_true _ (λ k. h (c, scalar, holds ranges c e, any-contains (encode_utf8 c) k))
+    spares-tree (tree.class_bytes ranges) h = not_true _ (λ e. h (holds ranges b e))
     spares-tree (tree.look kind) h = tt
     spares-tree (tree.repetition least most greedy part) h = spares-repeat least most greedy (core_of_tree part) (spares-tree part h)
     spares-tree (tree.capture index name part) h = spares-tree part h

@@ -16,7 +16,7 @@ use Rattle.hir_tree.specs.Tree.{Tree, Trees, none, more}
 use Rattle.hir_tree.specs.Tree as tree
 use Rattle.hir_tree.specs.declared.look.Look.{Look}
 use Rattle.grep_regex.proofs.laws.NoMatchLemmas.{not-taken}
-use Rattle.grep_regex.proofs.laws.SetsLemmas.{holds-from, holds-to}
+use Rattle.pattern_syntax.proofs.RangesLemmas.{held, holds}
 use Rattle.grep_regex.proofs.laws.StrippingLemmas.{in_without}
 use Rattle.grep_regex.proofs.laws.TreeLemmas.{or-none, allowed-parts}
 
@@ -27,7 +27,7 @@ and-left false y e = absurd (true≢false (sym e))
 -- what is left of a set is in it
 pub less-held : (b : ℕ) (set : List (ℕ × ℕ)) (c : ℕ) → Holds (without b set) c → Holds set c
 less-held b set c h =
-    holds-from set c (and-left (in_set set c) (not (c == b)) (sym (in_without b c set) ∙ holds-to (without b set) c h))
+    holds set c (and-left (in_set set c) (not (c == b)) (sym (in_without b c set) ∙ held (without b set) c h))
 
 and-not : (x : Bool) → (x && not true) ≡ false
 and-not true = refl
@@ -35,7 +35,7 @@ and-not false = refl
 
 not-held : (b : ℕ) (set : List (ℕ × ℕ)) → Holds (without b set) b → ⊥
 not-held b set h =
-    true≢false (sym (holds-to (without b set) b h) ∙ in_without b b set ∙ ap (λ t. in_set set b && not t) (eq-eqb b b refl) ∙ and-not (in_set set b))
+    true≢false (sym (held (without b set) b h) ∙ in_without b b set ∙ ap (λ t. in_set set b && not t) (eq-eqb b b refl) ∙ and-not (in_set set b))
 
 -- the byte of an ASCII character is the character
 own-byte : (c b : ℕ) → b < 128 → Contains (encode_utf8 c) b → c ≡ b
