@@ -130,8 +130,8 @@ IsReadingRefused o patterns _ = ⊥
 -- ---- what a matcher then finds
 
 -- no match of a pattern holds a byte of the terminator
-abbrev pub MatchesAreClear : Options → Tree → Type 0
-MatchesAreClear o tree = (groups b : ℕ) → Contains (terminator o) b → IsInNoMatch (preferred_end (core_of_tree tree) groups) b
+pub record MatchesAreClear (o : Options) (tree : Tree) : Type 0 where
+  pub held_by_none : (groups b : ℕ) → Contains (terminator o) b → IsInNoMatch (preferred_end (core_of_tree tree) groups) b
 
 -- the options put nothing round the whole
 abbrev pub IsBare : Options → Type 0

@@ -80,7 +80,7 @@ refused_size o patterns trees tree whole kind.NoMemory passes is unbanned allowe
 -- no match of a pattern that is built holds a byte of the terminator
 pub clear_built : (o : Options) (patterns : List (List ℕ)) (tree : Tree) → IsBuilt o patterns tree → MatchesAreClear o tree
 clear_built o patterns tree built =
-    subst (MatchesAreClear o) (sym built.is) (no-terminator o built.trees built.passes.ascii built.allowed)
+    subst (MatchesAreClear o) (sym built.is) (record { held_by_none = no-terminator o built.trees built.passes.ascii built.allowed })
 
 -- where nothing stands round it, its runs are the clear ones of the patterns together
 pub runs_built : (o : Options) (patterns : List (List ℕ)) (tree : Tree) → IsBuilt o patterns tree → IsBare o → HasTheClearRuns o patterns tree
@@ -105,4 +105,4 @@ ends false (Some told) P each = λ k d within. each (get_or (terminator_bytes to
 pub ends_built : (o : Options) (patterns : List (List ℕ)) (tree : Tree) (groups : ℕ) → IsBuilt o patterns tree
     → IfSome (terminator_told o tree) (λ told. All (IsInNoMatch (preferred_end (core_of_tree tree) groups)) (terminator_bytes told))
 ends_built o patterns tree groups built =
-    ends (has_look is_text_anchor tree) o.line_terminator (IsInNoMatch (preferred_end (core_of_tree tree) groups)) (clear_built o patterns tree built groups)
+    ends (has_look is_text_anchor tree) o.line_terminator (IsInNoMatch (preferred_end (core_of_tree tree) groups)) ((clear_built o patterns tree built).held_by_none groups)
