@@ -15,6 +15,7 @@ mod laws;
 mod matcher;
 mod names;
 mod non_matching;
+mod non_matching_examples;
 mod options;
 mod reading;
 mod stripping;
@@ -33,4 +34,7 @@ pub use laws::{
 };
 pub use matcher::RegexMatcher;
 pub use non_matching::non_matching_bytes;
+pub use non_matching_examples::{
+    anchors_ask_for_bytes_as_in_the_examples, bytes_are_taken_as_in_the_examples,
+};
 pub use stripping::{check_ban, strip_from_match};
