@@ -1,6 +1,8 @@
 pub mod Anchors
 pub mod Building
 pub mod Exact
+pub mod Matching
+pub mod MatchingLemmas
 pub mod NonMatching
 pub mod Options
 pub mod Readings
