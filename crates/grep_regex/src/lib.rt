@@ -7,6 +7,7 @@
 
 mod assembling;
 mod builder;
+mod building;
 mod captures;
 mod error;
 mod fitting;
