@@ -21,4 +21,5 @@ pub use captures::RegexCaptures;
 pub use error::{Error, ErrorKind, RegexFault};
 pub use matcher::RegexMatcher;
 pub use non_matching::non_matching_bytes;
+pub use reading::folding_changes_the_tree_alone;
 pub use stripping::{check_ban, strip_from_match};

@@ -4,7 +4,7 @@ ghost use Rattle.std.specs.Prelude.{◌≡◌, ◌<◌, ◌^◌, IfOk, IfErr, On
 ghost use Rattle.hir_tree.specs.Spots.{groups_of};
 ghost use Rattle.hir_tree.specs.Tree.{tree_of};
 ghost use Rattle.grep_regex.specs.Building.{FitTogether, IsReadingRefused};
-ghost use Rattle.grep_regex.specs.Readings.{AreTrees, HasDoubleName};
+ghost use Rattle.grep_regex.specs.Readings.{AreTrees, FoldingChangesTheTreeAlone, HasDoubleName};
 
 use crate::Error;
 use crate::options::Options;
@@ -23,3 +23,8 @@ pub(crate) fn read_patterns(alloc: Global, options: &Options, patterns: &Pattern
 {
     Err(NoMemory.into())
 }
+
+/// Folding letters changes neither whether a text is read, nor how deep it nests, its groups, names and literal characters.
+pub fn folding_changes_the_tree_alone()
+    ensures { FoldingChangesTheTreeAlone }
+{}
