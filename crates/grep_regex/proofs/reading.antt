@@ -1,1 +1,3 @@
 pub mod FoldingLemmas
+pub mod GroupLemmas
+pub mod ParenLemmas
