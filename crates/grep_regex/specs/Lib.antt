@@ -3,4 +3,5 @@ pub mod Exact
 pub mod NonMatching
 pub mod Options
 pub mod Readings
+pub mod ReadSoFar
 pub mod Stripping
