@@ -7,4 +7,5 @@ pub mod NonMatching
 pub mod Options
 pub mod Readings
 pub mod Removed
+pub mod ReadSoFar
 pub mod Stripping

@@ -7,9 +7,10 @@ use Rattle.hir_tree.specs.Tree.{Tree}
 use Rattle.pattern_core.specs.Answers.{IsRead, IsGrammar, IsNest, HasOneTwice, most_depth}
 use Rattle.pattern_core.specs.Escape.{encoded, escaped_text}
 use Rattle.pattern_core.specs.declared.flags.PatternFlags.{PatternFlags}
+use Rattle.pattern_syntax.specs.declared.flags.Flags.{Flags}
 use Rattle.pattern_syntax.specs.Flags.{is_nil}
-use Rattle.pattern_syntax.specs.Reads.{Found}
-use Rattle.pattern_syntax.specs.SetTree.{with_sets}
+use Rattle.pattern_syntax.specs.Reads.{Found, Reads}
+use Rattle.pattern_syntax.specs.SetTree.{SetTree, with_sets}
 use Rattle.grep_regex.specs.Exact.{IsTidy}
 use Rattle.grep_regex.specs.declared.options.Options.{Options}
 
@@ -103,3 +104,15 @@ pub record HasDoubleName (o : Options) (patterns : List (List ℕ)) : Type 0 whe
   pub readings : List Found
   pub are_read : AreReadAs o false patterns readings
   pub double : HasOneTwice (all_names readings)
+
+-- the same depth, groups, names and literals
+pub record IsAlike (a b : Found) : Type 0 where
+  pub depth : a.part.depth ≡ b.part.depth
+  pub groups : a.groups ≡ b.groups
+  pub names : a.names ≡ b.names
+  pub literals : a.literals ≡ b.literals
+
+-- FOLDING LETTERS changes neither whether a text is read, nor its depth, groups, names and literals.
+abbrev pub FoldingChangesTheTreeAlone : Type 0
+FoldingChangesTheTreeAlone = (k : Flags) (folded : Bool) (text : List ℕ) (found : Found) → Reads k text found
+    → (other : Found) × (Reads (record k { folds = folded }) text other × IsAlike found other)

@@ -1,16 +1,187 @@
 //! Reading patterns under options.
 
-ghost use Rattle.std.specs.Prelude.{◌≡◌, ◌<◌, ◌^◌, IfOk, IfErr, OnOk, map, sum};
+ghost use Rattle.std.specs.Prelude.{◌≡◌, ◌≤◌, ◌<◌, ◌^◌, ◌↔◌, [], ◌∷◌, ◌++◌, List, ℕ, IfOk, IfErr, IsErrOf, IsTrue, OnOk, Bool, false, ◌||◌, length, map, sum};
 ghost use Rattle.hir_tree.specs.Spots.{groups_of};
 ghost use Rattle.hir_tree.specs.Tree.{tree_of};
+ghost use Rattle.pattern_core.specs.Answers.{HasOneTwice, IsPattern};
 ghost use Rattle.grep_regex.specs.Building.{FitTogether, IsReadingRefused};
-ghost use Rattle.grep_regex.specs.Readings.{AreTrees, HasDoubleName};
+ghost use Rattle.grep_regex.specs.Exact.{IsTidy};
+ghost use Rattle.grep_regex.specs.Readings.{AreTrees, FoldingChangesTheTreeAlone, HasDoubleName, pattern_flags, written};
+ghost use Rattle.grep_regex.specs.ReadSoFar.{AreAdded, AreKnown, AreRead, IsPatternRefused, names_in_all};
+ghost use Rattle.grep_regex.specs.declared.options.Options.{Options};
 
-use crate::Error;
+use crate::names::{Named, names_in};
 use crate::options::Options;
+use crate::stripping::show_sorted_classes;
+use crate::{Error, ErrorKind, RegexFault};
 use hir_core::Hir;
-use sd_base::{NoMemory, Patterns};
+use pattern_core::{
+    Parsed, PatternFault, PatternFlags, a_text_has_at_most_one_reading, escape, parse,
+};
+use sd_base::{NoMemory, Patterns, Text};
 use std::alloc::Global;
+use std::collections::BTreeSet;
+
+/// Why a pattern is not read.
+impl From<PatternFault> for Error {
+    ghost use Rattle.std.specs.Prelude.{◌≡◌};
+    ghost use Rattle.grep_regex.specs.ReadSoFar.{kind_of};
+
+    ghost from_gives = { λ fault error. error.kind ≡ kind_of fault };
+
+    fn from(fault: PatternFault) -> Error {
+        match fault {
+            PatternFault::Grammar => Error::new(ErrorKind::Regex(RegexFault::Grammar)),
+            PatternFault::Nest => Error::new(ErrorKind::Regex(RegexFault::Nest)),
+            PatternFault::DoubleName => Error::new(ErrorKind::Regex(RegexFault::DoubleName)),
+            PatternFault::NoMemory => Error::new(ErrorKind::NoMemory),
+        }
+    }
+}
+
+/// Patterns that are read.
+#[derive(Drop)]
+pub struct ReadPatterns {
+    /// Their trees.
+    hirs: Vec<Hir>,
+    /// Whether a literal character stands in one of them.
+    any_literal: bool,
+    /// Whether one of their literal characters is upper case.
+    any_uppercase: bool,
+    /// Whether a name stands twice in one of them, which has no tree then.
+    has_double_name: bool,
+}
+
+impl ReadPatterns {
+    /// No patterns.
+    fn new(alloc: Global) -> ReadPatterns
+        ensures { (o : Options) (folded : Bool) → AreRead o folded [] result }
+    {
+        ReadPatterns {
+            hirs: Vec::new(alloc),
+            any_literal: false,
+            any_uppercase: false,
+            has_double_name: false,
+        }
+    }
+
+    /// Reads one pattern more. It is refused where the pattern isn't read or nests too deep. Want of memory may come at any time.
+    fn read_next(&mut self, alloc: Global, options: &Options, folded: bool, text: &str) -> Result<(), Error>
+        ensures read { OnOk result ((texts : List (List ℕ)) → AreRead options.now folded texts self.old → AreRead options.now folded (texts ++ text.now ∷ []) self.new) }
+        ensures refused { IfErr result (λ error. (texts behind : List (List ℕ)) → AreRead options.now folded texts self.old
+            → IsReadingRefused options.now (texts ++ text.now ∷ behind) error.kind) }
+    {
+        match read_pattern(alloc, options, folded, text) {
+            Ok(parsed) => self.keep(parsed)?,
+            Err(PatternFault::DoubleName) => self.has_double_name = true,
+            Err(fault) => return Err(fault.into()),
+        }
+        Ok(())
+    }
+
+    /// Keeps the tree of a pattern, and what its literal characters are. Refuses for want of memory alone.
+    fn keep(&mut self, parsed: Parsed) -> Result<(), NoMemory>
+        ensures hirs { OnOk result (self.new.hirs.items ≡ self.old.hirs.items ++ parsed.hir ∷ []) }
+        ensures literal { OnOk result (self.new.any_literal ≡ (self.old.any_literal || parsed.any_literal)) }
+        ensures uppercase { OnOk result (self.new.any_uppercase ≡ (self.old.any_uppercase || parsed.any_uppercase)) }
+        ensures double_name { OnOk result (self.new.has_double_name ≡ self.old.has_double_name) }
+    {
+        self.hirs.push(parsed.hir)?;
+        self.any_literal = self.any_literal || parsed.any_literal;
+        self.any_uppercase = self.any_uppercase || parsed.any_uppercase;
+        Ok(())
+    }
+}
+
+/// The flags that a pattern is read under, with letters folded or as they are.
+fn pattern_flags(options: &Options, folded: bool) -> PatternFlags
+    ensures { result ≡ pattern_flags options.now folded }
+{
+    PatternFlags {
+        case_insensitive: folded,
+        multi_line: options.multi_line,
+        dot_matches_new_line: options.dot_matches_new_line,
+        swap_greed: options.swap_greed,
+        ignore_whitespace: options.ignore_whitespace && !options.fixed_strings,
+        unicode: options.unicode,
+        octal: options.octal,
+        crlf: options.crlf,
+        nest_limit: options.nest_limit,
+    }
+}
+
+/// Reads one pattern, as it is written, or as a plain text where the options ask for that.
+fn read_pattern(alloc: Global, options: &Options, folded: bool, text: &str) -> Result<Parsed, PatternFault>
+    ensures pattern { IfOk result (IsPattern (pattern_flags options.now folded) (written options.now text.now)) }
+    ensures tidy { IfOk result (λ parsed. IsTidy (tree_of parsed.hir)) }
+    ensures numbers { IfOk result (λ parsed. groups_of parsed.hir ≤ length text.now) }
+    ensures refused { IfErr result (IsPatternRefused (pattern_flags options.now folded) (written options.now text.now)) }
+{
+    let flags = pattern_flags(options, folded);
+    let parsed = if options.fixed_strings {
+        let escaped = escape(alloc, text)?;
+        parse(alloc, escaped.as_str(), &flags)?
+    } else {
+        parse(alloc, text, &flags)?
+    };
+    show_sorted_classes(&parsed.hir);
+    Ok(parsed)
+}
+
+/// Reads each of the patterns. It is refused where a pattern isn't read or nests too deep. Want of memory may come at any time.
+fn read_each(alloc: Global, options: &Options, folded: bool, patterns: &Patterns) -> Result<ReadPatterns, Error>
+    ensures read { IfOk result (AreRead options.now folded patterns.now) }
+    ensures refused { IfErr result (λ error. IsReadingRefused options.now patterns.now error.kind) }
+{
+    let mut read = ReadPatterns::new(alloc);
+    for i in 0..patterns.len() {
+        read.read_next(alloc, options, folded, patterns.get(i))?;
+    }
+    Ok(read)
+}
+
+/// Adds names to those that are known, and whether each is new; the first that is known already ends it.
+/// Refuses for want of memory alone.
+fn add_names(known: &mut BTreeSet<Text>, names: Vec<Named>) -> Result<bool, NoMemory>
+    ensures { IfOk result (λ added. (before : List (List ℕ)) → AreKnown known.old before
+        → AreAdded known.new (before ++ map (λ named. named.name) names.items) added) }
+{
+    for named in names {
+        if !known.insert(named.name)? {
+            return Ok(false);
+        }
+    }
+    Ok(true)
+}
+
+/// Whether a name stands twice in trees. Refuses for want of memory alone.
+fn has_double_name(alloc: Global, hirs: &[Hir]) -> Result<bool, NoMemory>
+    ensures { IfOk result (λ double. IsTrue double ↔ HasOneTwice (names_in_all (map tree_of hirs.now))) }
+{
+    let mut known = BTreeSet::new(alloc);
+    for hir in hirs {
+        if !add_names(&mut known, names_in(alloc, hir)?)? {
+            return Ok(true);
+        }
+    }
+    Ok(false)
+}
+
+/// Reads each of the patterns. It is refused, and in this order, where a pattern isn't read or nests too deep, and where a name
+/// stands twice over all patterns. Want of memory may come at any time.
+fn read_all(alloc: Global, options: &Options, folded: bool, patterns: &Patterns) -> Result<ReadPatterns, Error>
+    ensures read { IfOk result (AreRead options.now folded patterns.now) }
+    ensures kept { IfOk result (λ read. read.has_double_name ≡ false) }
+    ensures single { OnOk result (HasDoubleName options.now patterns.now → ⊥) }
+    ensures refused { IfErr result (λ error. IsReadingRefused options.now patterns.now error.kind) }
+{
+    a_text_has_at_most_one_reading();
+    let read = read_each(alloc, options, folded, patterns)?;
+    if read.has_double_name || (patterns.len() > 1 && has_double_name(alloc, &read.hirs)?) {
+        return Err(PatternFault::DoubleName.into());
+    }
+    Ok(read)
+}
 
 /// The trees of patterns, with letters folded where the options ask for it. It is refused, and in this order, where a pattern
 /// isn't read or nests too deep, and where a name stands twice over all patterns. Want of memory may come at any time.
@@ -25,5 +196,16 @@ pub(crate) fn read_patterns(
     ensures numbers { IfOk result (λ hirs. sum (map groups_of hirs.items) < 2 ^ 32) }
     ensures refused { IfErr result (λ error. IsReadingRefused options.now patterns.now error.kind) }
 {
-    Err(NoMemory.into())
+    let read = read_all(alloc, options, options.case_insensitive, patterns)?;
+    let is_smart = options.case_smart && !options.case_insensitive;
+    if !(is_smart && read.any_literal && !read.any_uppercase) {
+        return Ok(read.hirs);
+    }
+    let folded = read_each(alloc, options, true, patterns)?;
+    Ok(folded.hirs)
 }
+
+/// Folding letters changes neither whether a text is read, nor how deep it nests, its groups, names and literal characters.
+pub fn folding_changes_the_tree_alone()
+    ensures { FoldingChangesTheTreeAlone }
+{}

@@ -1,0 +1,4 @@
+pub mod FoldingLemmas
+pub mod GroupLemmas
+pub mod ParenLemmas
+pub mod ReadLemmas
