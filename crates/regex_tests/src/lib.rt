@@ -17,3 +17,5 @@ mod patterns;
 mod refusals;
 #[cfg(test)]
 mod terminators;
+#[cfg(test)]
+mod trees;

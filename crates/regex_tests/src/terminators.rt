@@ -13,7 +13,7 @@ fn one_byte_ends_lines(rt: HostRuntime) -> Result<(), Fail> {
     check(&rt, &builder, r"abc\sxyz", b"abc\nxyz", None)?;
     check(&rt, &builder, r"abc\sxyz", b"abc xyz", Some((0, 7)))?;
     check(&rt, &builder, "(?s).+", b"ab\ncd", Some((0, 2)))?;
-    check(&rt, &builder, r"a[\n]?b", b"a\nb ab", Some((4, 6)))?;
+    check(&rt, &builder, r"a[\n ]?b", b"a\nb ab", Some((4, 6)))?;
     builder.line_terminator(None);
     check(&rt, &builder, r"abc\sxyz", b"abc\nxyz", Some((0, 7)))
 }
@@ -47,7 +47,7 @@ fn lines_that_end_with_two_bytes(rt: HostRuntime) -> Result<(), Fail> {
     let mut builder = RegexMatcherBuilder::new();
     builder.multi_line(true).crlf(true);
     check(&rt, &builder, "abc$", b"abc\r\n", Some((0, 3)))?;
-    check(&rt, &builder, r"a\s+b", b"a\r\nb a b", Some((4, 7)))?;
+    check(&rt, &builder, r"a\s+b", b"a\r\nb a b", Some((5, 8)))?;
     check_refused(&rt, &builder, r"[\r]", ErrorKind::NotAllowed(13))?;
     check_refused(&rt, &builder, r"\n[\r]", ErrorKind::NotAllowed(13))?;
     check_refused(&rt, &builder, r"[\r\n]", ErrorKind::NotAllowed(10))?;
