@@ -2,6 +2,7 @@
 use Rattle.std.specs.Prelude.{◌≡◌, ℕ, ◌*◌, ◌^◌, ◌<◌, ◌≤◌, min, true, false, List, [], ◌∷◌, ◌++◌, All, Option, Some, None, IfSome, sum, map, length}
 use Rattle.hir_tree.specs.Spots.{spots_of_tree}
 use Rattle.hir_tree.specs.Tree.{Tree}
+use Rattle.grep_regex.specs.Exact.{MustTake}
 use Rattle.grep_regex.specs.Stripping.{asks_for, not_allowed}
 use Rattle.grep_regex.specs.Options.{optioned, terminator, terminator_told, together}
 use Rattle.grep_regex.specs.Readings.{AreTrees, HasDoubleName, IsFirst, IsUnread, NestsTooDeep}
@@ -87,7 +88,7 @@ pub record IsBeyondAscii (bytes : List ℕ) (byte : ℕ) : Type 0 where
 -- why bytes can't be taken out of the classes of a tree
 abbrev pub IsStripRefused : List ℕ → Tree → ErrorKind → Type 0
 IsStripRefused bytes tree (kind.InvalidLineTerminator byte) = IsBeyondAscii bytes byte
-IsStripRefused bytes tree (kind.NotAllowed byte) = IsAscii bytes × (not_allowed bytes tree ≡ Some byte)
+IsStripRefused bytes tree (kind.NotAllowed byte) = IsAscii bytes × (not_allowed bytes tree ≡ Some byte) × MustTake bytes tree
 IsStripRefused bytes tree kind.NoMemory = Unit {0}
 IsStripRefused bytes tree _ = ⊥
 

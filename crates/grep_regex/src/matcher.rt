@@ -38,11 +38,7 @@ impl Model for RegexMatcher {
 
 impl RegexMatcher {
     /// A matcher of a tree as it is, which tells of this terminator. Refuses for want of memory alone.
-    pub(crate) fn of_tree(
-        alloc: Global,
-        hir: &Hir,
-        terminator: Option<LineTerminator>,
-    ) -> Result<RegexMatcher, NoMemory>
+    pub(crate) fn of_tree(alloc: Global, hir: &Hir, terminator: Option<LineTerminator>) -> Result<RegexMatcher, NoMemory>
         ensures tree { IfOk result (λ matcher. tree_of matcher.searcher ≡ tree_of hir.now) }
         ensures terminator { IfOk result (λ matcher. matcher.terminator ≡ terminator) }
     {

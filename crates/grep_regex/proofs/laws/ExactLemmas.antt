@@ -5,6 +5,7 @@ use Rattle.std.specs.List.{list_any}
 use Rattle.std.proofs.lemmas.Bool.Decides.{nat_tests}
 use Rattle.std.proofs.lemmas.Bool.{ne_eqb, eqb-true, or_left, or_right, and_parts}
 use Rattle.std.proofs.lemmas.List.Folds.{list_any_at}
+use Rattle.std.proofs.lemmas.Option.{none-some}
 use Rattle.grep_regex.specs.Exact.{HoldsOnly, MustTake, OneMustTake, IsTidy, AreTidy}
 use Rattle.hir_tree.specs.Ranges.{Holds, AreApart, next_byte, next_char}
 use Rattle.hir_tree.specs.Runs.{in_set}
@@ -262,3 +263,13 @@ refused-exactly (b ∷ rest) t small tidy =
         → (if a then Some b else not_allowed rest (strip_byte b t)) ≡ None
     cases e h true k = absurd (h (must-join b rest t (inl (must-take b t k))))
     cases e h false k = e
+
+-- where it is refused for a byte, a part must take one of them
+pub must-refused : (bytes : List ℕ) (t : Tree) (byte : ℕ) → not_allowed bytes t ≡ Some byte → MustTake bytes t
+must-refused [] t byte e = absurd (none-some byte e)
+must-refused (b ∷ rest) t byte e = cases (must-refused rest (strip_byte b t) byte) (asks_for b t) refl e
+  where
+    cases : (not_allowed rest (strip_byte b t) ≡ Some byte → MustTake rest (strip_byte b t)) → (a : Bool) → asks_for b t ≡ a
+        → (if a then Some b else not_allowed rest (strip_byte b t)) ≡ Some byte → MustTake (b ∷ rest) t
+    cases later true k h = must-join b rest t (inl (must-take b t k))
+    cases later false k h = must-join b rest t (inr (later h))
