@@ -6,7 +6,6 @@ ghost use Rattle.std.specs.Char.{IsScalar};
 ghost use Rattle.std.specs.List.{list_any};
 ghost use Rattle.grep_matcher.specs.Terminators.{terminator_bytes};
 ghost use Rattle.hir_tree.specs.Cores.{core_of};
-ghost use Rattle.hir_tree.specs.Hirs.{parts_of};
 ghost use Rattle.hir_tree.specs.Ranges.{AreByteRanges, AreCharRanges, Holds};
 ghost use Rattle.hir_tree.specs.Runs.{Run, runs};
 ghost use Rattle.hir_tree.specs.Tree.{tree_of};
@@ -21,7 +20,7 @@ use hir_core::{
     ByteRanges, Bytes, CharRanges, Group, Hir, Hirs, Repeat, a_set_has_one_list_of_ranges,
     a_tree_is_made_of_the_trees_of_the_parts,
 };
-use sd_base::{NoMemory, Text};
+use sd_base::NoMemory;
 use std::alloc::Global;
 
 /// Refuses a pattern that must match a byte: where a literal holds it, or a class is that one byte.
@@ -79,7 +78,7 @@ fn strip(alloc: Global, mut hir: Hir, bytes: &[u8]) -> Result<Hir, Error>
         if asks_for(&hir, *byte) {
             return Err(Error::new(ErrorKind::NotAllowed(*byte)));
         }
-        hir = without_byte(alloc, &hir, *byte)?;
+        hir = without_byte(alloc, hir, *byte)?;
     }
     Ok(hir)
 }
@@ -188,19 +187,19 @@ fn show_sorted_classes_of_each(parts: &[Hir])
 
 /// A pattern with an ASCII byte taken out of its classes. Refuses for want of memory alone.
 #[cycle(without)]
-fn without_byte(alloc: Global, hir: &Hir, byte: u8) -> Result<Hir, NoMemory>
+fn without_byte(alloc: Global, hir: Hir, byte: u8) -> Result<Hir, NoMemory>
     requires ascii { byte < 128 }
-    ensures { IfOk result (λ rest. tree_of rest ≡ strip_byte byte (tree_of hir.now)) }
+    ensures { IfOk result (λ rest. tree_of rest ≡ strip_byte byte (tree_of hir)) }
 {
     a_tree_is_made_of_the_trees_of_the_parts();
     match hir {
         Hir::Empty => Ok(Hir::Empty),
-        Hir::Literal(bytes) => Ok(Hir::Literal(bytes.try_clone(alloc)?)),
-        Hir::ClassChars(set) => Ok(Hir::ClassChars(without_char(alloc, set, byte)?)),
-        Hir::ClassBytes(set) => Ok(Hir::ClassBytes(without_one_byte(alloc, set, byte)?)),
-        Hir::Look(look) => Ok(Hir::Look(*look)),
+        Hir::Literal(bytes) => Ok(Hir::Literal(bytes)),
+        Hir::ClassChars(set) => Ok(Hir::ClassChars(without_char(alloc, &set, byte)?)),
+        Hir::ClassBytes(set) => Ok(Hir::ClassBytes(without_one_byte(alloc, &set, byte)?)),
+        Hir::Look(look) => Ok(Hir::Look(look)),
         Hir::Repetition(repeat) => {
-            let sub = without_byte(alloc, &repeat.sub, byte)?;
+            let sub = without_byte(alloc, Box::into_inner(repeat.sub), byte)?;
             Ok(Hir::Repetition(Repeat {
                 min: repeat.min,
                 max: repeat.max,
@@ -209,44 +208,35 @@ fn without_byte(alloc: Global, hir: &Hir, byte: u8) -> Result<Hir, NoMemory>
             }))
         }
         Hir::Capture(group) => {
-            let name = copied_name(alloc, &group.name)?;
-            let sub = without_byte(alloc, &group.sub, byte)?;
+            let sub = without_byte(alloc, Box::into_inner(group.sub), byte)?;
             Ok(Hir::Capture(Group {
                 index: group.index,
-                name,
+                name: group.name,
                 sub: Box::new(alloc, sub)?,
             }))
         }
-        Hir::Concat(hirs) => Ok(Hir::Concat(each_without_byte(alloc, hirs.parts(), byte)?)),
-        Hir::Alternation(hirs) => Ok(Hir::Alternation(each_without_byte(
-            alloc,
-            hirs.parts(),
-            byte,
-        )?)),
+        Hir::Concat(hirs) => {
+            let parts = each_without_byte(alloc, hirs.into_parts(), byte)?;
+            Ok(Hir::Concat(Hirs::from(parts)))
+        }
+        Hir::Alternation(hirs) => {
+            let parts = each_without_byte(alloc, hirs.into_parts(), byte)?;
+            Ok(Hir::Alternation(Hirs::from(parts)))
+        }
     }
 }
 
 /// The parts with an ASCII byte taken out of their classes.
 #[cycle(without)]
-fn each_without_byte(alloc: Global, parts: &[Hir], byte: u8) -> Result<Hirs, NoMemory>
+fn each_without_byte(alloc: Global, parts: Vec<Hir>, byte: u8) -> Result<Vec<Hir>, NoMemory>
     requires ascii { byte < 128 }
-    ensures { IfOk result (λ rest. map tree_of (parts_of rest) ≡ map (λ part. strip_byte byte (tree_of part)) parts.now) }
+    ensures { IfOk result (λ rest. map tree_of rest.items ≡ map (λ part. strip_byte byte (tree_of part)) parts.items) }
 {
-    let mut rest = Hirs::new(alloc);
+    let mut rest = Vec::new(alloc);
     for part in parts {
         rest.push(without_byte(alloc, part, byte)?)?;
     }
     Ok(rest)
-}
-
-/// A copy of a group's name, if it has one.
-fn copied_name(alloc: Global, name: &Option<Text>) -> Result<Option<Text>, NoMemory>
-    ensures { IfOk result (λ copy. copy ≡ name.now) }
-{
-    match name {
-        None => Ok(None),
-        Some(text) => Ok(Some(Text::new(alloc, text.as_str())?)),
-    }
 }
 
 /// A set without an ASCII character. Refuses for want of memory alone.
