@@ -25,10 +25,14 @@ use std::marker::Model;
 pub struct Pattern {
     pub(crate) searcher: Searcher,
     pub(crate) terminator: Option<LineTerminator>,
+    // Each match begins at its place, and its groups lie in the text.
     ghost whole: { MatchesAreWhole (tree_of searcher) } by { Prim.hlevel props },
 }
 
 /// A matcher of a pattern. Contracts see its pattern, and the terminator that it tells of.
+///
+/// It keeps the lists of a search for the next one, so a search takes memory only where the text asks for more of it. Threads
+/// can't share it.
 #[derive(Drop)]
 pub struct RegexMatcher {
     /// Where slots are made.
