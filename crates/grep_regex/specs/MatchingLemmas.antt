@@ -1,12 +1,12 @@
 -- From what a pattern prefers to what a matcher says of it.
-use Rattle.std.proofs.Common.{◌≡◌, ℕ, zero, suc, ◌+◌, ◌<◌, ◌≤◌, List, [], ◌∷◌, length, map, Option, Some, None, refl, sym, ap, ◌∙◌, subst, arith}
+use Rattle.std.proofs.Common.{◌≡◌, ℕ, zero, suc, ◌≤◌, List, [], ◌∷◌, length, map, Option, Some, None, refl, sym, ap, ◌∙◌, subst}
 use Rattle.std.specs.Prelude.{option_and_then, option_map, IfSome}
 use Rattle.std.proofs.lemmas.Option.{none-some, same_Some}
 use Rattle.grep_matcher.specs.Cover.{IsLawful}
 use Rattle.grep_matcher.specs.Groups.{AreGroups, group_at}
 use Rattle.grep_matcher.specs.Replaced.{LiesWithin}
 use Rattle.grep_matcher.specs.Span.{Span}
-use Rattle.hir_tree.specs.Groups.{EachLiesWithin, ends_of, start_of}
+use Rattle.hir_tree.specs.Groups.{EachLiesWithin, ends_of}
 use Rattle.hir_tree.specs.Tree.{Tree}
 use Rattle.hir_core.specs.Found.{span_of}
 use Rattle.grep_regex.specs.Matching.{IsWhole, MatchesAreWhole, end_at, match_at, spans_of, spans_at}

@@ -1,5 +1,5 @@
 -- From what a searcher finds to what a matcher says of it.
-use Rattle.std.proofs.Common.{◌≡◌, ℕ, zero, suc, ◌+◌, ◌<◌, ◌≤◌, Bool, true, false, List, length, map, replicate, Option, Some, None, IfSome, refl, sym, ap, ◌∙◌, subst, arith}
+use Rattle.std.proofs.Common.{◌≡◌, ℕ, zero, suc, ◌+◌, ◌<◌, ◌≤◌, Bool, true, false, List, length, replicate, Option, Some, None, IfSome, refl, sym, ap, ◌∙◌, subst, arith}
 use Rattle.std.specs.Prelude.{option_and_then, option_map}
 use Rattle.std.proofs.lemmas.Option.{none-some, same_Some}
 use Rattle.grep_matcher.specs.Cover.{IsFirst, NoneBetween, prefers}
@@ -7,7 +7,7 @@ use Rattle.grep_matcher.specs.Groups.{HasFirst, captured, group_at}
 use Rattle.grep_matcher.specs.Span.{Span}
 use Rattle.hir_tree.specs.Groups.{ends_of}
 use Rattle.hir_tree.specs.Tree.{Tree}
-use Rattle.hir_core.specs.Found.{IsFound, IsOfLeast, span_of}
+use Rattle.hir_core.specs.Found.{IsFound, span_of}
 use Rattle.grep_regex.specs.Matching.{IsWhole, MatchesAreWhole, end_at, match_at, spans_of, spans_at}
 use Rattle.grep_regex.specs.MatchingLemmas.{group-span, span}
 use Rattle.grep_regex.specs.NonMatching.{whole_end}
