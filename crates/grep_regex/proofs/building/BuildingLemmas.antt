@@ -10,9 +10,11 @@ use Rattle.grep_matcher.specs.declared.line_terminator.Ending.TheVariants.{Byte,
 use Rattle.grep_matcher.specs.declared.line_terminator.LineTerminator.{LineTerminator}
 use Rattle.hir_tree.specs.Cores.{core_of_tree}
 use Rattle.hir_tree.specs.Runs.{runs}
+use Rattle.hir_tree.specs.Spots.{groups_of_tree}
 use Rattle.hir_tree.specs.Tree.{Tree}
 use Rattle.grep_regex.specs.Building.{HasTheClearRuns, IsBanRefused, IsBare, IsBeyondAscii, IsBuilt, IsRefused, IsSizeRefused, IsStripRefused, IsUnbanned, MatchesAreClear, Passes, size_of}
-use Rattle.grep_regex.specs.NonMatching.{has_look, is_text_anchor, preferred_end}
+use Rattle.grep_regex.specs.Matching.{EndsNoMatch, end_at}
+use Rattle.grep_regex.specs.NonMatching.{has_look, is_text_anchor}
 use Rattle.grep_regex.specs.Options.{optioned, terminator, terminator_told, together}
 use Rattle.grep_regex.specs.Stripping.{asks_for, not_allowed, stripped}
 use Rattle.grep_regex.specs.declared.error.ErrorKind.{ErrorKind}
@@ -102,7 +104,7 @@ ends true set P each = tt
 ends false None P each = tt
 ends false (Some told) P each = λ k d within. each (get_or (terminator_bytes told) k d) (All-contains_itself (terminator_bytes told) k d within)
 
-pub ends_built : (o : Options) (patterns : List (List ℕ)) (tree : Tree) (groups : ℕ) → IsBuilt o patterns tree
-    → IfSome (terminator_told o tree) (λ told. All (IsInNoMatch (preferred_end (core_of_tree tree) groups)) (terminator_bytes told))
-ends_built o patterns tree groups built =
-    ends (has_look is_text_anchor tree) o.line_terminator (IsInNoMatch (preferred_end (core_of_tree tree) groups)) ((clear_built o patterns tree built).held_by_none groups)
+pub ends_built : (o : Options) (patterns : List (List ℕ)) (tree : Tree) → IsBuilt o patterns tree → EndsNoMatch tree (terminator_told o tree)
+ends_built o patterns tree built =
+    ends (has_look is_text_anchor tree) o.line_terminator (IsInNoMatch (end_at tree))
+    ((clear_built o patterns tree built).held_by_none (groups_of_tree tree))

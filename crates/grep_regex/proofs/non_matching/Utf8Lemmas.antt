@@ -44,10 +44,10 @@ bytes_of_forms prefix continuations first last b order = (
       ⊎_elim
       (λ (one : IsContinuationOf (first, last) b). (one.0, one.1, (byte_of_form prefix continuations one.0 b).1 (inl one.2)))
       (λ (top : IsInFormOf prefix continuations (first / 64, last / 64) b).
-          let n = max first (top.0 * 64) in
-          let same : n / 64 ≡ top.0 = omega arith in
-          let above = subst (λ (k : ℕ). Contains (utf8_form prefix continuations k) b) (sym same) top.2 in
-          (n, (omega arith, omega arith), (byte_of_form prefix continuations n b).1 (inr above)))
+      let n = max first (top.0 * 64) in
+      let same : n / 64 ≡ top.0 = omega arith in
+      let above = subst (λ (k : ℕ). Contains (utf8_form prefix continuations k) b) (sym same) top.2 in
+      (n, (omega arith, omega arith), (byte_of_form prefix continuations n b).1 (inr above)))
       h),
 )
 
