@@ -111,6 +111,19 @@ fn pattern_flags(options: &Options, folded: bool) -> PatternFlags
 }
 
 /// Reads one pattern, as it is written, or as a plain text where the options ask for that.
+fn parse_written(alloc: Global, options: &Options, flags: &PatternFlags, text: &str) -> Result<Parsed, PatternFault>
+    ensures pattern { IfOk result (IsPattern flags.now (written options.now text.now)) }
+    ensures numbers { IfOk result (λ parsed. groups_of parsed.hir ≤ length text.now) }
+    ensures refused { IfErr result (IsPatternRefused flags.now (written options.now text.now)) }
+{
+    if options.fixed_strings {
+        let escaped = escape(alloc, text)?;
+        return parse(alloc, escaped.as_str(), flags);
+    }
+    parse(alloc, text, flags)
+}
+
+/// Reads one pattern, with letters folded or as they are.
 fn read_pattern(alloc: Global, options: &Options, folded: bool, text: &str) -> Result<Parsed, PatternFault>
     ensures pattern { IfOk result (IsPattern (pattern_flags options.now folded) (written options.now text.now)) }
     ensures tidy { IfOk result (λ parsed. IsTidy (tree_of parsed.hir)) }
@@ -118,12 +131,7 @@ fn read_pattern(alloc: Global, options: &Options, folded: bool, text: &str) -> R
     ensures refused { IfErr result (IsPatternRefused (pattern_flags options.now folded) (written options.now text.now)) }
 {
     let flags = pattern_flags(options, folded);
-    let parsed = if options.fixed_strings {
-        let escaped = escape(alloc, text)?;
-        parse(alloc, escaped.as_str(), &flags)?
-    } else {
-        parse(alloc, text, &flags)?
-    };
+    let parsed = parse_written(alloc, options, &flags, text)?;
     show_sorted_classes(&parsed.hir);
     Ok(parsed)
 }
