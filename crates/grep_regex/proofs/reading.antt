@@ -3,4 +3,5 @@ pub mod FoldingLemmas
 pub mod GroupLemmas
 pub mod KnownLemmas
 pub mod ParenLemmas
+pub mod PatternLemmas
 pub mod ReadLemmas

@@ -6,8 +6,9 @@ ghost use Rattle.hir_tree.specs.Tree.{tree_of};
 ghost use Rattle.pattern_core.specs.Answers.{HasOneTwice, IsPattern};
 ghost use Rattle.grep_regex.specs.Building.{FitTogether, IsReadingRefused};
 ghost use Rattle.grep_regex.specs.Exact.{IsTidy};
-ghost use Rattle.grep_regex.specs.Readings.{AreTrees, FoldingChangesTheTreeAlone, HasDoubleName, pattern_flags, written};
-ghost use Rattle.grep_regex.specs.ReadSoFar.{AreAdded, AreKnown, AreRead, IsPatternRefused, names_in_all};
+ghost use Rattle.grep_regex.specs.Readings.{AreTrees, FoldingChangesTheTreeAlone, HasDoubleName, all_names, pattern_flags, written};
+ghost use Rattle.grep_regex.specs.ReadSoFar.{AreAdded, AreKnown, AreRead, IsPatternRefused, asks_to_fold, names_in_all};
+ghost use Rattle.grep_regex.specs.declared.error.ErrorKind.TheVariants as kind;
 ghost use Rattle.grep_regex.specs.declared.options.Options.{Options};
 
 use crate::names::{Named, names_in};
@@ -21,23 +22,6 @@ use pattern_core::{
 use sd_base::{NoMemory, Patterns, Text};
 use std::alloc::Global;
 use std::collections::BTreeSet;
-
-/// Why a pattern is not read.
-impl From<PatternFault> for Error {
-    ghost use Rattle.std.specs.Prelude.{◌≡◌};
-    ghost use Rattle.grep_regex.specs.ReadSoFar.{kind_of};
-
-    ghost from_gives = { λ fault error. error.kind ≡ kind_of fault };
-
-    fn from(fault: PatternFault) -> Error {
-        match fault {
-            PatternFault::Grammar => Error::new(ErrorKind::Regex(RegexFault::Grammar)),
-            PatternFault::Nest => Error::new(ErrorKind::Regex(RegexFault::Nest)),
-            PatternFault::DoubleName => Error::new(ErrorKind::Regex(RegexFault::DoubleName)),
-            PatternFault::NoMemory => Error::new(ErrorKind::NoMemory),
-        }
-    }
-}
 
 /// Patterns that are read.
 #[derive(Drop)]
@@ -74,7 +58,9 @@ impl ReadPatterns {
         match read_pattern(alloc, options, folded, text) {
             Ok(parsed) => self.keep(parsed)?,
             Err(PatternFault::DoubleName) => self.has_double_name = true,
-            Err(fault) => return Err(fault.into()),
+            Err(PatternFault::Grammar) => return Err(unread(RegexFault::Grammar)),
+            Err(PatternFault::Nest) => return Err(unread(RegexFault::Nest)),
+            Err(PatternFault::NoMemory) => return Err(NoMemory.into()),
         }
         Ok(())
     }
@@ -91,6 +77,35 @@ impl ReadPatterns {
         self.any_uppercase = self.any_uppercase || parsed.any_uppercase;
         Ok(())
     }
+
+    /// Whether a name stands twice over all patterns. Refuses for want of memory alone.
+    fn repeats_name(&self, alloc: Global) -> Result<bool, NoMemory>
+        ensures repeats { IfOk result (λ repeats. (o : Options) (folded : Bool) (texts : List (List ℕ)) (are : AreRead o folded texts self.now)
+            → IsTrue repeats ↔ HasOneTwice (all_names are.readings)) }
+        ensures kept { IfOk result (λ repeats. repeats ≡ false → self.now.has_double_name ≡ false) }
+    {
+        if self.has_double_name {
+            return Ok(true);
+        }
+        if self.hirs.len() < 2 {
+            return Ok(false);
+        }
+        has_double_name(alloc, &self.hirs)
+    }
+
+    /// Whether letters are to be folded yet: where the options ask for it if there is a literal, and none of upper case.
+    fn asks_to_fold(&self, options: &Options) -> bool
+        ensures { result ≡ asks_to_fold options.now self.now }
+    {
+        options.case_smart && !options.case_insensitive && self.any_literal && !self.any_uppercase
+    }
+}
+
+/// The error of a pattern that is not read.
+fn unread(fault: RegexFault) -> Error
+    ensures { result.kind ≡ kind.Regex fault }
+{
+    Error::new(ErrorKind::Regex(fault))
 }
 
 /// The flags that a pattern is read under, with letters folded or as they are.
@@ -185,8 +200,8 @@ fn read_all(alloc: Global, options: &Options, folded: bool, patterns: &Patterns)
 {
     a_text_has_at_most_one_reading();
     let read = read_each(alloc, options, folded, patterns)?;
-    if read.has_double_name || (patterns.len() > 1 && has_double_name(alloc, &read.hirs)?) {
-        return Err(PatternFault::DoubleName.into());
+    if read.repeats_name(alloc)? {
+        return Err(unread(RegexFault::DoubleName));
     }
     Ok(read)
 }
@@ -201,12 +216,11 @@ pub(crate) fn read_patterns(alloc: Global, options: &Options, patterns: &Pattern
     ensures refused { IfErr result (λ error. IsReadingRefused options.now patterns.now error.kind) }
 {
     let read = read_all(alloc, options, options.case_insensitive, patterns)?;
-    let is_smart = options.case_smart && !options.case_insensitive;
-    if !(is_smart && read.any_literal && !read.any_uppercase) {
-        return Ok(read.hirs);
+    if read.asks_to_fold(options) {
+        let folded = read_each(alloc, options, true, patterns)?;
+        return Ok(folded.hirs);
     }
-    let folded = read_each(alloc, options, true, patterns)?;
-    Ok(folded.hirs)
+    Ok(read.hirs)
 }
 
 /// Folding letters changes neither whether a text is read, nor how deep it nests, its groups, names and literal characters.

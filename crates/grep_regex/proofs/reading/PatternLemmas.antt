@@ -1,5 +1,5 @@
 -- All patterns: names that stand twice over them, and when letters are folded.
-use Rattle.std.proofs.Common.{◌≡◌, ◌≤◌, ◌<◌, ◌^◌, ◌↔◌, ℕ, ◌+◌, ◌&&◌, ◌||◌, Bool, true, false, not, IsTrue, MatchBool, List, [], ◌∷◌, ◌++◌, length, map, sum, refl, sym, ap, ap₂, ◌∙◌, subst, true≢false, arith}
+use Rattle.std.proofs.Common.{◌≡◌, ◌≤◌, ◌<◌, ◌^◌, ◌↔◌, ℕ, ◌+◌, ◌&&◌, ◌||◌, Bool, true, false, not, IsTrue, MatchBool, Result, Ok, Err, IfOk, List, [], ◌∷◌, ◌++◌, length, map, sum, refl, sym, ap, ap₂, ◌∙◌, subst, true≢false, arith}
 use Rattle.std.specs.List.{list_any}
 use Rattle.std.specs.Str.{chars}
 use Rattle.std.proofs.lemmas.List.{append-nil}
@@ -11,9 +11,10 @@ use Rattle.pattern_syntax.specs.declared.flags.Flags.{Flags}
 use Rattle.pattern_syntax.specs.Flags.{is_nil}
 use Rattle.pattern_syntax.specs.Reads.{Found, Reads}
 use Rattle.pattern_core.specs.Answers.{HasOneTwice, flags_of}
+use Rattle.sd_base.specs.declared.no_memory.NoMemory.{NoMemory}
 use Rattle.grep_regex.specs.Building.{FitTogether}
 use Rattle.grep_regex.specs.Readings.{AreReadAs, AreTrees, AreTreesOf, HasDoubleName, all_literals, all_names, folds, pattern_flags, written}
-use Rattle.grep_regex.specs.ReadSoFar.{AreKept, AreRead, HaveSingleNames, names_in_all}
+use Rattle.grep_regex.specs.ReadSoFar.{AreKept, AreRead, HaveSingleNames, asks_to_fold, names_in_all}
 use Rattle.grep_regex.specs.declared.options.Options.{Options}
 use Rattle.grep_regex.specs.declared.reading.ReadPatterns.{ReadPatterns}
 use Rattle.grep_regex.proofs.reading.GroupLemmas.{read_names}
@@ -102,10 +103,6 @@ folded_case true smart literal uppercase e = refl
 folded_case false true literal uppercase e = sym e
 folded_case false false literal uppercase e = sym e
 
--- whether letters are to be folded yet
-abbrev pub asks_to_fold : Options → ReadPatterns → Bool
-asks_to_fold o read = o.case_smart && not o.case_insensitive && read.any_literal && not read.any_uppercase
-
 module _ (o : Options) (patterns : List (List ℕ)) (read : ReadPatterns) (are : AreRead o o.case_insensitive patterns read) (kept : read.has_double_name ≡ false) where
   abbrev of_literals : List ℕ → Bool
   of_literals cs = o.case_insensitive || (o.case_smart && not (is_nil cs) && not (list_any is_uppercase cs))
@@ -146,10 +143,19 @@ module _ (o : Options) (patterns : List (List ℕ)) (read : ReadPatterns) (are :
       }
 
 true_or_not : (b : Bool) → (b ≡ true → ⊥) → b ≡ false
-true_or_not true no = absurd (no refl)
-true_or_not false no = refl
+true_or_not true other = absurd (other refl)
+true_or_not false other = refl
 
 -- where no name stands twice, what is read again is kept
 pub kept_again : (o : Options) (folded : Bool) (patterns : List (List ℕ)) (read : ReadPatterns) → AreRead o folded patterns read → (HasDoubleName o patterns → ⊥) → read.has_double_name ≡ false
 kept_again o folded patterns read are single =
     true_or_not read.has_double_name (λ e. single (double_of o folded patterns read are (twice_of o folded patterns read are e)))
+
+-- whether a name stands twice over all patterns, from whether one does in their trees
+pub repeats_if : (read : ReadPatterns) (result : Result Bool NoMemory) → read.has_double_name ≡ false
+    → IfOk result (λ double. IsTrue double ↔ HasOneTwice (names_in_all (map tree_of read.hirs.items)))
+    → IfOk result (λ repeats. (o : Options) (folded : Bool) (texts : List (List ℕ)) (are : AreRead o folded texts read) → IsTrue repeats ↔ HasOneTwice (all_names are.readings))
+repeats_if read (Ok double) kept is = λ o folded texts are.
+    let same = names_kept o folded texts read are kept in
+    (λ t. subst HasOneTwice same (is.0 t), λ twice. is.1 (subst HasOneTwice (sym same) twice))
+repeats_if read (Err e) kept is = tt
