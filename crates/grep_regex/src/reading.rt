@@ -1,6 +1,6 @@
 //! Reading patterns under options.
 
-ghost use Rattle.std.specs.Prelude.{◌≡◌, ◌≤◌, ◌<◌, ◌^◌, ◌↔◌, [], ◌∷◌, ◌++◌, List, ℕ, IfOk, IfErr, IsErrOf, IsTrue, OnOk, Bool, false, ◌||◌, length, map, sum};
+ghost use Rattle.std.specs.Prelude.{◌≡◌, ◌≤◌, ◌<◌, ◌^◌, ◌↔◌, [], ◌∷◌, ◌++◌, List, ℕ, IfOk, IfErr, IsTrue, OnOk, Bool, false, ◌||◌, length, map, sum};
 ghost use Rattle.hir_tree.specs.Spots.{groups_of};
 ghost use Rattle.hir_tree.specs.Tree.{tree_of};
 ghost use Rattle.pattern_core.specs.Answers.{HasOneTwice, IsPattern};
@@ -50,8 +50,15 @@ impl ReadPatterns {
     }
 
     /// Reads one pattern more. It is refused where the pattern isn't read or nests too deep. Want of memory may come at any time.
-    fn read_next(&mut self, alloc: Global, options: &Options, folded: bool, text: &str) -> Result<(), Error>
-        ensures read { OnOk result ((texts : List (List ℕ)) → AreRead options.now folded texts self.old → AreRead options.now folded (texts ++ text.now ∷ []) self.new) }
+    fn read_next(
+        &mut self,
+        alloc: Global,
+        options: &Options,
+        folded: bool,
+        text: &str,
+    ) -> Result<(), Error>
+        ensures read { OnOk result ((texts : List (List ℕ)) → AreRead options.now folded texts self.old
+            → AreRead options.now folded (texts ++ text.now ∷ []) self.new) }
         ensures refused { IfErr result (λ error. (texts behind : List (List ℕ)) → AreRead options.now folded texts self.old
             → IsReadingRefused options.now (texts ++ text.now ∷ behind) error.kind) }
     {
@@ -126,7 +133,12 @@ fn pattern_flags(options: &Options, folded: bool) -> PatternFlags
 }
 
 /// Reads one pattern, as it is written, or as a plain text where the options ask for that.
-fn parse_written(alloc: Global, options: &Options, flags: &PatternFlags, text: &str) -> Result<Parsed, PatternFault>
+fn parse_written(
+    alloc: Global,
+    options: &Options,
+    flags: &PatternFlags,
+    text: &str,
+) -> Result<Parsed, PatternFault>
     ensures pattern { IfOk result (IsPattern flags.now (written options.now text.now)) }
     ensures numbers { IfOk result (λ parsed. groups_of parsed.hir ≤ length text.now) }
     ensures refused { IfErr result (IsPatternRefused flags.now (written options.now text.now)) }
@@ -139,7 +151,12 @@ fn parse_written(alloc: Global, options: &Options, flags: &PatternFlags, text: &
 }
 
 /// Reads one pattern, with letters folded or as they are.
-fn read_pattern(alloc: Global, options: &Options, folded: bool, text: &str) -> Result<Parsed, PatternFault>
+fn read_pattern(
+    alloc: Global,
+    options: &Options,
+    folded: bool,
+    text: &str,
+) -> Result<Parsed, PatternFault>
     ensures pattern { IfOk result (IsPattern (pattern_flags options.now folded) (written options.now text.now)) }
     ensures tidy { IfOk result (λ parsed. IsTidy (tree_of parsed.hir)) }
     ensures numbers { IfOk result (λ parsed. groups_of parsed.hir ≤ length text.now) }
@@ -152,7 +169,12 @@ fn read_pattern(alloc: Global, options: &Options, folded: bool, text: &str) -> R
 }
 
 /// Reads each of the patterns. It is refused where a pattern isn't read or nests too deep. Want of memory may come at any time.
-fn read_each(alloc: Global, options: &Options, folded: bool, patterns: &Patterns) -> Result<ReadPatterns, Error>
+fn read_each(
+    alloc: Global,
+    options: &Options,
+    folded: bool,
+    patterns: &Patterns,
+) -> Result<ReadPatterns, Error>
     ensures read { IfOk result (AreRead options.now folded patterns.now) }
     ensures refused { IfErr result (λ error. IsReadingRefused options.now patterns.now error.kind) }
 {
@@ -192,7 +214,12 @@ fn has_double_name(alloc: Global, hirs: &[Hir]) -> Result<bool, NoMemory>
 
 /// Reads each of the patterns. It is refused, and in this order, where a pattern isn't read or nests too deep, and where a name
 /// stands twice over all patterns. Want of memory may come at any time.
-fn read_all(alloc: Global, options: &Options, folded: bool, patterns: &Patterns) -> Result<ReadPatterns, Error>
+fn read_all(
+    alloc: Global,
+    options: &Options,
+    folded: bool,
+    patterns: &Patterns,
+) -> Result<ReadPatterns, Error>
     ensures read { IfOk result (AreRead options.now folded patterns.now) }
     ensures kept { IfOk result (λ read. read.has_double_name ≡ false) }
     ensures single { OnOk result (HasDoubleName options.now patterns.now → ⊥) }
@@ -208,7 +235,11 @@ fn read_all(alloc: Global, options: &Options, folded: bool, patterns: &Patterns)
 
 /// The trees of patterns, with letters folded where the options ask for it. It is refused, and in this order, where a pattern
 /// isn't read or nests too deep, and where a name stands twice over all patterns. Want of memory may come at any time.
-pub(crate) fn read_patterns(alloc: Global, options: &Options, patterns: &Patterns) -> Result<Vec<Hir>, Error>
+pub(crate) fn read_patterns(
+    alloc: Global,
+    options: &Options,
+    patterns: &Patterns,
+) -> Result<Vec<Hir>, Error>
     requires fit { FitTogether patterns.now }
     ensures trees { IfOk result (λ hirs. AreTrees options.now patterns.now (map tree_of hirs.items)) }
     ensures single { OnOk result (HasDoubleName options.now patterns.now → ⊥) }

@@ -30,8 +30,8 @@ loop-named-preserved c before are =
     let xs = c.loop-named.yielded in
     subst (AreKnown c.insert.new.self) (names_pushed name_of before xs c.in-Some.named)
     (
-      key_added c.loop-named.known (before ++ map name_of xs) (c.loop-named.invariant before are) c.in-Some.named.name c.insert.new.self
-      (sym c.if-not-branch.false ∙ c.in_ok-insert.ensures.added) c.in_ok-insert.ensures.updates.0
+    key_added c.loop-named.known (before ++ map name_of xs) (c.loop-named.invariant before are) c.in-Some.named.name c.insert.new.self
+    (sym c.if-not-branch.false ∙ c.in_ok-insert.ensures.added) c.in_ok-insert.ensures.updates.0
     )
 
 pub returns : goal.returns

@@ -47,8 +47,7 @@ loop-hir-preserved c =
 
 pub returns : goal.returns
 returns c =
-    let all : take c.loop-hir.hir-index c.args.hirs.now ≡ c.args.hirs.now = take_all c.loop-hir.hir-index c.args.hirs.now (omega arith) in
-    (
+    let all : take c.loop-hir.hir-index c.args.hirs.now ≡ c.args.hirs.now = take_all c.loop-hir.hir-index c.args.hirs.now (omega arith) in (
       λ t. absurd (true≢false (sym t)),
       λ twice. absurd (c.loop-hir.invariant.single (subst (λ hirs. HasOneTwice (names_in_all (map tree_of hirs))) (sym all) twice)),
     )

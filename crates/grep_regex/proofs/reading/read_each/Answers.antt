@@ -17,8 +17,8 @@ returns-in_err-read_next-clause-refused c =
     let e = c.in_err-read_next.field-0.0 in
     error_if c.from_residual.result e (IsReadingRefused o patterns) c.from_residual.ensures.1
     (
-      subst (λ texts. IsReadingRefused o texts e.kind) (taken_apart patterns i c.get.result.now c.get.ensures.same)
-      (c.in_err-read_next.ensures.refused (take i patterns) (drop (i + 1) patterns) c.loop-i.invariant)
+    subst (λ texts. IsReadingRefused o texts e.kind) (taken_apart patterns i c.get.result.now c.get.ensures.same)
+    (c.in_err-read_next.ensures.refused (take i patterns) (drop (i + 1) patterns) c.loop-i.invariant)
     )
 
 pub loop-i-preserved : goal.loop-i-preserved

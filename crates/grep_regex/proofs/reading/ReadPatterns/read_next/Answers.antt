@@ -24,20 +24,20 @@ pub returns-in-Err-Grammar : goal.returns-in-Err-Grammar
 returns-in-Err-Grammar c = record {
   read = tt;
   refused = λ texts behind are.
-  let o = c.args.options.now in
-  let text = c.args.text.now in
-  let is : IsPatternRefused (pattern_flags o c.args.folded) (written o text) pattern.Grammar =
-  subst (IsPatternRefused (pattern_flags o c.args.folded) (written o text)) c.in-Err-Grammar.field-0-is c.in-Err-Grammar.ensures.refused in
-  subst (IsReadingRefused o (texts ++ text ∷ behind)) (sym c.unread.ensures) (first_unread o c.args.folded texts text behind c.args.self.now are is);
+      let o = c.args.options.now in
+      let text = c.args.text.now in
+      let is : IsPatternRefused (pattern_flags o c.args.folded) (written o text) pattern.Grammar =
+      subst (IsPatternRefused (pattern_flags o c.args.folded) (written o text)) c.in-Err-Grammar.field-0-is c.in-Err-Grammar.ensures.refused in
+      subst (IsReadingRefused o (texts ++ text ∷ behind)) (sym c.unread.ensures) (first_unread o c.args.folded texts text behind c.args.self.now are is);
 }
 
 pub returns-in-Err-Nest : goal.returns-in-Err-Nest
 returns-in-Err-Nest c = record {
   read = tt;
   refused = λ texts behind are.
-  let o = c.args.options.now in
-  let text = c.args.text.now in
-  let is : IsPatternRefused (pattern_flags o c.args.folded) (written o text) pattern.Nest =
-  subst (IsPatternRefused (pattern_flags o c.args.folded) (written o text)) c.in-Err-Nest.field-0-is c.in-Err-Nest.ensures.refused in
-  subst (IsReadingRefused o (texts ++ text ∷ behind)) (sym c.unread-in-Err-Nest.ensures) (first_deep o c.args.folded texts text behind c.args.self.now are is);
+      let o = c.args.options.now in
+      let text = c.args.text.now in
+      let is : IsPatternRefused (pattern_flags o c.args.folded) (written o text) pattern.Nest =
+      subst (IsPatternRefused (pattern_flags o c.args.folded) (written o text)) c.in-Err-Nest.field-0-is c.in-Err-Nest.ensures.refused in
+      subst (IsReadingRefused o (texts ++ text ∷ behind)) (sym c.unread-in-Err-Nest.ensures) (first_deep o c.args.folded texts text behind c.args.self.now are is);
 }
