@@ -1,9 +1,13 @@
 -- When a matcher is built, and when it is refused.
-use Rattle.std.specs.Prelude.{◌≡◌, ℕ, ◌*◌, ◌^◌, ◌<◌, ◌≤◌, min, true, false, List, [], ◌∷◌, ◌++◌, All, Option, Some, None, IfSome, sum, map, length}
+use Rattle.std.specs.Prelude.{◌≡◌, ℕ, ◌*◌, ◌^◌, ◌<◌, ◌≤◌, min, true, false, List, [], ◌∷◌, ◌++◌, All, Contains, Option, Some, None, IfSome, sum, map, filter, length}
+use Rattle.grep_matcher.specs.NoMatch.{IsInNoMatch}
+use Rattle.hir_tree.specs.Cores.{core_of_tree}
+use Rattle.hir_tree.specs.Runs.{Run, runs}
 use Rattle.hir_tree.specs.Spots.{spots_of_tree}
 use Rattle.hir_tree.specs.Tree.{Tree}
-use Rattle.grep_regex.specs.Stripping.{asks_for, not_allowed}
-use Rattle.grep_regex.specs.Options.{optioned, terminator, terminator_told, together}
+use Rattle.grep_regex.specs.Stripping.{asks_for, is_clear, not_allowed}
+use Rattle.grep_regex.specs.NonMatching.{preferred_end}
+use Rattle.grep_regex.specs.Options.{edged, optioned, terminator, terminator_told, together}
 use Rattle.grep_regex.specs.Readings.{AreTrees, HasDoubleName, IsFirst, IsUnread, NestsTooDeep}
 use Rattle.grep_regex.specs.declared.options.Options.{Options}
 use Rattle.grep_regex.specs.declared.error.ErrorKind.{ErrorKind}
@@ -100,8 +104,42 @@ IsRefused o patterns (kind.Regex (fault.Size limit)) = IsTooLarge o patterns lim
 IsRefused o patterns (kind.Regex fault) = IsAscii (terminator o) × IsUnreadable o patterns fault
 IsRefused o patterns kind.NoMemory = Unit {0}
 
--- the same of reading alone
+-- ---- what each test refuses
+
+-- a terminator with a byte that isn't ASCII
+abbrev pub IsTerminatorRefused : List ℕ → ErrorKind → Type 0
+IsTerminatorRefused bytes (kind.InvalidLineTerminator byte) = IsBeyondAscii bytes byte
+IsTerminatorRefused bytes _ = ⊥
+
+-- a tree that asks for the banned byte
+abbrev pub IsBanRefused : Options → Tree → ErrorKind → Type 0
+IsBanRefused o tree (kind.Banned byte) = (o.ban_byte ≡ Some byte) × (asks_for byte tree ≡ true)
+IsBanRefused o tree _ = ⊥
+
+-- a tree that is larger than the limit
+abbrev pub IsSizeRefused : Options → Tree → ErrorKind → Type 0
+IsSizeRefused o tree (kind.Regex (fault.Size limit)) = (limit ≡ size_cap o) × (limit < size_of tree)
+IsSizeRefused o tree _ = ⊥
+
+-- patterns that aren't read
 abbrev pub IsReadingRefused : Options → List (List ℕ) → ErrorKind → Type 0
 IsReadingRefused o patterns (kind.Regex fault) = IsUnreadable o patterns fault
 IsReadingRefused o patterns kind.NoMemory = Unit {0}
 IsReadingRefused o patterns _ = ⊥
+
+-- ---- what a matcher then finds
+
+-- no match of a pattern holds a byte of the terminator
+pub record MatchesAreClear (o : Options) (tree : Tree) : Type 0 where
+  pub held_by_none : (groups b : ℕ) → Contains (terminator o) b → IsInNoMatch (preferred_end (core_of_tree tree) groups) b
+
+-- the options put nothing round the whole
+abbrev pub IsBare : Options → Type 0
+IsBare o = (tree : Tree) → edged o tree ≡ tree
+
+-- the runs of a pattern are the runs of the patterns together whose text holds no byte of the terminator
+pub record HasTheClearRuns (o : Options) (patterns : List (List ℕ)) (tree : Tree) : Type 0 where
+  pub trees : List Tree
+  pub are : AreTrees o patterns trees
+  pub runs_are : (text : List ℕ) (n : ℕ) (r : Run) → r.at ≤ length text
+      → runs text (core_of_tree tree) n r ≡ filter (λ s. is_clear (terminator o) text r.at s.at) (runs text (core_of_tree (together trees)) n r)

@@ -1,10 +1,11 @@
 -- The pattern that the options of a matcher ask for.
-use Rattle.std.specs.Prelude.{◌≡◌, ℕ, ◌+◌, ◌<◌, ◌∷◌, ◌++◌, Bool, List, [], All, Contains, Option, Some, None, if◌then◌else◌}
+use Rattle.std.specs.Prelude.{◌≡◌, ℕ, ◌+◌, ◌<◌, ◌∷◌, ◌++◌, Bool, true, false, List, [], All, Contains, Option, Some, None, if◌then◌else◌}
 use Rattle.std.specs.Option.{option_map_or}
 use Rattle.std.specs.Str.{bytes_eq}
 use Rattle.grep_matcher.specs.NoMatch.{IsInNoMatch}
 use Rattle.grep_matcher.specs.Terminators.{terminator_bytes}
 use Rattle.grep_matcher.specs.declared.line_terminator.LineTerminator.{LineTerminator}
+use Rattle.grep_matcher.specs.declared.line_terminator.Ending.TheVariants.{Byte, Crlf}
 use Rattle.hir_tree.specs.Cores.{core_of_tree}
 use Rattle.hir_tree.specs.Spots.{groups_of_tree, spots_of_tree}
 use Rattle.hir_tree.specs.Tree.{Tree, Trees, empty, literal, class_chars, class_bytes, look, repetition, capture, concat, alternation, none, more, trees}
@@ -13,6 +14,42 @@ use Rattle.hir_tree.specs.declared.look.Look.TheVariants.{StartLF, EndLF, StartC
 use Rattle.grep_regex.specs.NonMatching.{has_look, is_text_anchor, preferred_end}
 use Rattle.grep_regex.specs.Stripping.{not_allowed, stripped}
 use Rattle.grep_regex.specs.declared.options.Options.{Options}
+
+-- ---- the options that matchers begin with
+
+-- the terminator of one byte, and `\r\n`
+abbrev pub byte_terminator : ℕ → LineTerminator
+byte_terminator byte = record { 0 = Byte byte }
+
+abbrev pub crlf_terminator : LineTerminator
+crlf_terminator = record { 0 = Crlf }
+
+-- Unicode is on, the limits are those of the field, and all else is off.
+abbrev pub default_options : Options
+default_options = record {
+  case_insensitive = false;
+  case_smart = false;
+  multi_line = false;
+  dot_matches_new_line = false;
+  swap_greed = false;
+  ignore_whitespace = false;
+  unicode = true;
+  octal = false;
+  size_limit = 104857600;
+  dfa_size_limit = 1048576000;
+  nest_limit = 250;
+  line_terminator = None;
+  ban_byte = None;
+  crlf = false;
+  word = false;
+  word_edges = false;
+  fixed_strings = false;
+  whole_line = false;
+}
+
+-- the same for lines that end with `\n`
+abbrev pub line_options : Options
+line_options = record default_options { line_terminator = Some (byte_terminator 10) }
 
 -- ---- patterns together
 

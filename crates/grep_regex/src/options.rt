@@ -42,3 +42,33 @@ pub struct Options {
     /// Line anchors stand round the whole.
     pub(crate) whole_line: bool,
 }
+
+impl Default for Options {
+    ghost use Rattle.std.specs.Prelude.{◌≡◌};
+    ghost use Rattle.grep_regex.specs.Options.{default_options};
+
+    ghost is_default = { λ options. options ≡ default_options };
+
+    fn default() -> Options {
+        Options {
+            case_insensitive: false,
+            case_smart: false,
+            multi_line: false,
+            dot_matches_new_line: false,
+            swap_greed: false,
+            ignore_whitespace: false,
+            unicode: true,
+            octal: false,
+            size_limit: 104_857_600,
+            dfa_size_limit: 1_048_576_000,
+            nest_limit: 250,
+            line_terminator: None,
+            ban_byte: None,
+            crlf: false,
+            word: false,
+            word_edges: false,
+            fixed_strings: false,
+            whole_line: false,
+        }
+    }
+}
