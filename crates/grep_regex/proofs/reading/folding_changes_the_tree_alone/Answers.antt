@@ -1,5 +1,4 @@
 use Rattle.grep_regex.proofs.reading.FoldingLemmas.{refolded}
-use Rattle.grep_regex.proofs.reading.PatternLemmas.{single_of, trees_first, trees_folded}
 use Rattle.grep_regex.proofs.reading.folding_changes_the_tree_alone.Goals as goal
 
 pub returns : goal.returns
