@@ -1,5 +1,5 @@
 -- What the code has of patterns that are read.
-use Rattle.std.specs.Prelude.{◌≡◌, ◌≤◌, ◌↔◌, ℕ, Bool, not, IsTrue, MatchBool, List, [], ◌∷◌, ◌++◌, flat_map, length, map, sum}
+use Rattle.std.specs.Prelude.{◌≡◌, ◌≤◌, ◌↔◌, ℕ, Bool, not, ◌&&◌, IsTrue, MatchBool, List, [], ◌∷◌, ◌++◌, flat_map, length, map, sum}
 use Rattle.std.specs.List.{list_any}
 use Rattle.std.specs.Ordering.{nat_cmp}
 use Rattle.std.specs.Cmp.Lexicographic.{slice_cmp}
@@ -15,20 +15,10 @@ use Rattle.pattern_syntax.specs.Flags.{is_nil}
 use Rattle.pattern_syntax.specs.Reads.{Found}
 use Rattle.grep_regex.specs.Options.{names_in}
 use Rattle.grep_regex.specs.Readings.{AreReadAs, AreTreesOf, all_literals, all_names}
-use Rattle.grep_regex.specs.declared.error.ErrorKind.{ErrorKind}
-use Rattle.grep_regex.specs.declared.error.ErrorKind.TheVariants as kind
-use Rattle.grep_regex.specs.declared.error.RegexFault.TheVariants as regex
 use Rattle.grep_regex.specs.declared.options.Options.{Options}
 use Rattle.grep_regex.specs.declared.reading.ReadPatterns.{ReadPatterns}
 
 -- why a pattern is refused
-abbrev pub kind_of : PatternFault → ErrorKind
-kind_of pattern.Grammar = kind.Regex regex.Grammar
-kind_of pattern.Nest = kind.Regex regex.Nest
-kind_of pattern.DoubleName = kind.Regex regex.DoubleName
-kind_of pattern.NoMemory = kind.NoMemory
-
--- where it is
 abbrev pub IsPatternRefused : PatternFlags → List ℕ → PatternFault → Type 0
 IsPatternRefused flags bytes pattern.Grammar = IsGrammar flags bytes
 IsPatternRefused flags bytes pattern.Nest = IsNest flags bytes
@@ -53,6 +43,10 @@ pub record AreRead (o : Options) (folded : Bool) (texts : List (List ℕ)) (read
   pub readings : List Found
   pub are_read : AreReadAs o folded texts readings
   pub kept : MatchBool read.has_double_name (HasOneTwice (all_names readings)) (AreKept texts readings read)
+
+-- letters are to be folded yet
+abbrev pub asks_to_fold : Options → ReadPatterns → Bool
+asks_to_fold o read = o.case_smart && not o.case_insensitive && read.any_literal && not read.any_uppercase
 
 -- ---- names
 

@@ -1,13 +1,14 @@
 //! Reading patterns under options.
 
-ghost use Rattle.std.specs.Prelude.{◌≡◌, ◌≤◌, ◌<◌, ◌^◌, ◌↔◌, [], ◌∷◌, ◌++◌, List, ℕ, IfOk, IfErr, IsErrOf, IsTrue, OnOk, Bool, false, ◌||◌, length, map, sum};
+ghost use Rattle.std.specs.Prelude.{◌≡◌, ◌≤◌, ◌<◌, ◌^◌, ◌↔◌, [], ◌∷◌, ◌++◌, List, ℕ, IfOk, IfErr, IsTrue, OnOk, Bool, false, ◌||◌, length, map, sum};
 ghost use Rattle.hir_tree.specs.Spots.{groups_of};
 ghost use Rattle.hir_tree.specs.Tree.{tree_of};
 ghost use Rattle.pattern_core.specs.Answers.{HasOneTwice, IsPattern};
 ghost use Rattle.grep_regex.specs.Building.{FitTogether, IsReadingRefused};
 ghost use Rattle.grep_regex.specs.Exact.{IsTidy};
-ghost use Rattle.grep_regex.specs.Readings.{AreTrees, FoldingChangesTheTreeAlone, HasDoubleName, pattern_flags, written};
-ghost use Rattle.grep_regex.specs.ReadSoFar.{AreAdded, AreKnown, AreRead, IsPatternRefused, names_in_all};
+ghost use Rattle.grep_regex.specs.Readings.{AreTrees, FoldingChangesTheTreeAlone, HasDoubleName, all_names, pattern_flags, written};
+ghost use Rattle.grep_regex.specs.ReadSoFar.{AreAdded, AreKnown, AreRead, IsPatternRefused, asks_to_fold, names_in_all};
+ghost use Rattle.grep_regex.specs.declared.error.ErrorKind.TheVariants as kind;
 ghost use Rattle.grep_regex.specs.declared.options.Options.{Options};
 
 use crate::names::{Named, names_in};
@@ -21,23 +22,6 @@ use pattern_core::{
 use sd_base::{NoMemory, Patterns, Text};
 use std::alloc::Global;
 use std::collections::BTreeSet;
-
-/// Why a pattern is not read.
-impl From<PatternFault> for Error {
-    ghost use Rattle.std.specs.Prelude.{◌≡◌};
-    ghost use Rattle.grep_regex.specs.ReadSoFar.{kind_of};
-
-    ghost from_gives = { λ fault error. error.kind ≡ kind_of fault };
-
-    fn from(fault: PatternFault) -> Error {
-        match fault {
-            PatternFault::Grammar => Error::new(ErrorKind::Regex(RegexFault::Grammar)),
-            PatternFault::Nest => Error::new(ErrorKind::Regex(RegexFault::Nest)),
-            PatternFault::DoubleName => Error::new(ErrorKind::Regex(RegexFault::DoubleName)),
-            PatternFault::NoMemory => Error::new(ErrorKind::NoMemory),
-        }
-    }
-}
 
 /// Patterns that are read.
 #[derive(Drop)]
@@ -66,15 +50,24 @@ impl ReadPatterns {
     }
 
     /// Reads one pattern more. It is refused where the pattern isn't read or nests too deep. Want of memory may come at any time.
-    fn read_next(&mut self, alloc: Global, options: &Options, folded: bool, text: &str) -> Result<(), Error>
-        ensures read { OnOk result ((texts : List (List ℕ)) → AreRead options.now folded texts self.old → AreRead options.now folded (texts ++ text.now ∷ []) self.new) }
+    fn read_next(
+        &mut self,
+        alloc: Global,
+        options: &Options,
+        folded: bool,
+        text: &str,
+    ) -> Result<(), Error>
+        ensures read { OnOk result ((texts : List (List ℕ)) → AreRead options.now folded texts self.old
+            → AreRead options.now folded (texts ++ text.now ∷ []) self.new) }
         ensures refused { IfErr result (λ error. (texts behind : List (List ℕ)) → AreRead options.now folded texts self.old
             → IsReadingRefused options.now (texts ++ text.now ∷ behind) error.kind) }
     {
         match read_pattern(alloc, options, folded, text) {
             Ok(parsed) => self.keep(parsed)?,
             Err(PatternFault::DoubleName) => self.has_double_name = true,
-            Err(fault) => return Err(fault.into()),
+            Err(PatternFault::Grammar) => return Err(unread(RegexFault::Grammar)),
+            Err(PatternFault::Nest) => return Err(unread(RegexFault::Nest)),
+            Err(PatternFault::NoMemory) => return Err(NoMemory.into()),
         }
         Ok(())
     }
@@ -91,6 +84,35 @@ impl ReadPatterns {
         self.any_uppercase = self.any_uppercase || parsed.any_uppercase;
         Ok(())
     }
+
+    /// Whether a name stands twice over all patterns. Refuses for want of memory alone.
+    fn repeats_name(&self, alloc: Global) -> Result<bool, NoMemory>
+        ensures repeats { IfOk result (λ repeats. (o : Options) (folded : Bool) (texts : List (List ℕ)) (are : AreRead o folded texts self.now)
+            → IsTrue repeats ↔ HasOneTwice (all_names are.readings)) }
+        ensures kept { IfOk result (λ repeats. repeats ≡ false → self.now.has_double_name ≡ false) }
+    {
+        if self.has_double_name {
+            return Ok(true);
+        }
+        if self.hirs.len() < 2 {
+            return Ok(false);
+        }
+        has_double_name(alloc, &self.hirs)
+    }
+
+    /// Whether letters are to be folded yet: where the options ask for it if there is a literal, and none of upper case.
+    fn asks_to_fold(&self, options: &Options) -> bool
+        ensures { result ≡ asks_to_fold options.now self.now }
+    {
+        options.case_smart && !options.case_insensitive && self.any_literal && !self.any_uppercase
+    }
+}
+
+/// The error of a pattern that is not read.
+fn unread(fault: RegexFault) -> Error
+    ensures { result.kind ≡ kind.Regex fault }
+{
+    Error::new(ErrorKind::Regex(fault))
 }
 
 /// The flags that a pattern is read under, with letters folded or as they are.
@@ -111,25 +133,48 @@ fn pattern_flags(options: &Options, folded: bool) -> PatternFlags
 }
 
 /// Reads one pattern, as it is written, or as a plain text where the options ask for that.
-fn read_pattern(alloc: Global, options: &Options, folded: bool, text: &str) -> Result<Parsed, PatternFault>
+fn parse_written(
+    alloc: Global,
+    options: &Options,
+    flags: &PatternFlags,
+    text: &str,
+) -> Result<Parsed, PatternFault>
+    ensures pattern { IfOk result (IsPattern flags.now (written options.now text.now)) }
+    ensures numbers { IfOk result (λ parsed. groups_of parsed.hir ≤ length text.now) }
+    ensures refused { IfErr result (IsPatternRefused flags.now (written options.now text.now)) }
+{
+    if options.fixed_strings {
+        let escaped = escape(alloc, text)?;
+        return parse(alloc, escaped.as_str(), flags);
+    }
+    parse(alloc, text, flags)
+}
+
+/// Reads one pattern, with letters folded or as they are.
+fn read_pattern(
+    alloc: Global,
+    options: &Options,
+    folded: bool,
+    text: &str,
+) -> Result<Parsed, PatternFault>
     ensures pattern { IfOk result (IsPattern (pattern_flags options.now folded) (written options.now text.now)) }
     ensures tidy { IfOk result (λ parsed. IsTidy (tree_of parsed.hir)) }
     ensures numbers { IfOk result (λ parsed. groups_of parsed.hir ≤ length text.now) }
     ensures refused { IfErr result (IsPatternRefused (pattern_flags options.now folded) (written options.now text.now)) }
 {
     let flags = pattern_flags(options, folded);
-    let parsed = if options.fixed_strings {
-        let escaped = escape(alloc, text)?;
-        parse(alloc, escaped.as_str(), &flags)?
-    } else {
-        parse(alloc, text, &flags)?
-    };
+    let parsed = parse_written(alloc, options, &flags, text)?;
     show_sorted_classes(&parsed.hir);
     Ok(parsed)
 }
 
 /// Reads each of the patterns. It is refused where a pattern isn't read or nests too deep. Want of memory may come at any time.
-fn read_each(alloc: Global, options: &Options, folded: bool, patterns: &Patterns) -> Result<ReadPatterns, Error>
+fn read_each(
+    alloc: Global,
+    options: &Options,
+    folded: bool,
+    patterns: &Patterns,
+) -> Result<ReadPatterns, Error>
     ensures read { IfOk result (AreRead options.now folded patterns.now) }
     ensures refused { IfErr result (λ error. IsReadingRefused options.now patterns.now error.kind) }
 {
@@ -169,7 +214,12 @@ fn has_double_name(alloc: Global, hirs: &[Hir]) -> Result<bool, NoMemory>
 
 /// Reads each of the patterns. It is refused, and in this order, where a pattern isn't read or nests too deep, and where a name
 /// stands twice over all patterns. Want of memory may come at any time.
-fn read_all(alloc: Global, options: &Options, folded: bool, patterns: &Patterns) -> Result<ReadPatterns, Error>
+fn read_all(
+    alloc: Global,
+    options: &Options,
+    folded: bool,
+    patterns: &Patterns,
+) -> Result<ReadPatterns, Error>
     ensures read { IfOk result (AreRead options.now folded patterns.now) }
     ensures kept { IfOk result (λ read. read.has_double_name ≡ false) }
     ensures single { OnOk result (HasDoubleName options.now patterns.now → ⊥) }
@@ -177,8 +227,8 @@ fn read_all(alloc: Global, options: &Options, folded: bool, patterns: &Patterns)
 {
     a_text_has_at_most_one_reading();
     let read = read_each(alloc, options, folded, patterns)?;
-    if read.has_double_name || (patterns.len() > 1 && has_double_name(alloc, &read.hirs)?) {
-        return Err(PatternFault::DoubleName.into());
+    if read.repeats_name(alloc)? {
+        return Err(unread(RegexFault::DoubleName));
     }
     Ok(read)
 }
@@ -193,12 +243,11 @@ pub(crate) fn read_patterns(alloc: Global, options: &Options, patterns: &Pattern
     ensures refused { IfErr result (λ error. IsReadingRefused options.now patterns.now error.kind) }
 {
     let read = read_all(alloc, options, options.case_insensitive, patterns)?;
-    let is_smart = options.case_smart && !options.case_insensitive;
-    if !(is_smart && read.any_literal && !read.any_uppercase) {
-        return Ok(read.hirs);
+    if read.asks_to_fold(options) {
+        let folded = read_each(alloc, options, true, patterns)?;
+        return Ok(folded.hirs);
     }
-    let folded = read_each(alloc, options, true, patterns)?;
-    Ok(folded.hirs)
+    Ok(read.hirs)
 }
 
 /// Folding letters changes neither whether a text is read, nor how deep it nests, its groups, names and literal characters.

@@ -115,8 +115,7 @@ inside_fine v k (pass_in b p) t f = (blanks_fine v k (b ∷ []) (write_inside p 
 inside_fine v k (one a p) t f = (member_fine v k a (write_inside p t) f.0, f.1, f.2, inside_fine v k p t f.3)
 inside_fine v k (range a bs cs b p) t f =
     let w = write_inside p t in
-    let u = write_blanks cs (write_atom b w) in
-    (
+    let u = write_blanks cs (write_atom b w) in (
       member_fine v k a (write_blanks bs (codes "-" ++ u)) f.0,
       blanks_fine v k bs (codes "-" ++ u) f.1,
       blanks_fine v k cs (write_atom b w) f.2,
@@ -162,8 +161,7 @@ fine v k (single s rs p) t f =
 fine v k (group m q rs p) t f =
     let w = write p t in
     let kept = inside_kept m v k in
-    let u = codes ")" ++ write_repeats rs w in
-    (
+    let u = codes ")" ++ write_repeats rs w in (
       kind_fine v k m f.0,
       subst (λ (k : Flags). Fine k q u) (sym kept.1) (fine kept.0 (inside_flags m k) q u f.1),
       repeats_fine v k rs w f.2,
@@ -254,8 +252,7 @@ pub refolded : FoldingChangesTheTreeAlone
 refolded k folded text found read =
     let p = read.syntax in
     let other = found_of (folding folded k) p in
-    let alike : IsAlike (found_of k p) other = record { depth = joined_depth _ _ (branches_same k (folding folded k) 0 p); groups = refl; names = refl; literals = refl } in
-    (
+    let alike : IsAlike (found_of k p) other = record { depth = joined_depth _ _ (branches_same k (folding folded k) 0 p); groups = refl; names = refl; literals = refl } in (
       other,
       (
         record { syntax = p; fine = fine folded k p [] read.fine; written = read.written; read = refl },

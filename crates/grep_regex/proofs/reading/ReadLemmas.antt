@@ -1,5 +1,5 @@
 -- Patterns that are read, and one pattern more.
-use Rattle.std.proofs.Common.{◌≡◌, ◌≤◌, ◌<◌, ℕ, ◌+◌, ◌||◌, Bool, true, false, not, MatchBool, List, [], ◌∷◌, ◌++◌, length, map, sum, refl, sym, ap, ap₂, ◌∙◌, inl, inr, subst, arith}
+use Rattle.std.proofs.Common.{◌≡◌, ◌≤◌, ◌<◌, ℕ, ◌+◌, ◌||◌, Bool, true, false, not, MatchBool, Result, Ok, Err, IfErr, IsErrAnd, List, [], ◌∷◌, ◌++◌, length, map, sum, refl, sym, ap, ap₂, ◌∙◌, inl, inr, subst, arith}
 use Rattle.std.specs.List.{flat_map, list_any, sum_by}
 use Rattle.std.specs.Str.{chars}
 use Rattle.std.proofs.lemmas.Grind.{flat_map-append}
@@ -20,7 +20,11 @@ use Rattle.pattern_core.specs.declared.parsed.Parsed.{Parsed}
 use Rattle.grep_regex.specs.Building.{IsReadingRefused}
 use Rattle.grep_regex.specs.Exact.{IsTidy}
 use Rattle.grep_regex.specs.Readings.{AreReadAs, AreTreesOf, IsAlike, IsReadAs, IsTreeOf, all_literals, all_names, pattern_flags, written}
-use Rattle.grep_regex.specs.ReadSoFar.{AreKept, AreRead, HaveSingleNames, IsPatternRefused, kind_of}
+use Rattle.grep_regex.specs.ReadSoFar.{AreKept, AreRead, HaveSingleNames, IsPatternRefused}
+use Rattle.grep_regex.specs.declared.error.Error.{Error}
+use Rattle.grep_regex.specs.declared.error.ErrorKind.{ErrorKind}
+use Rattle.grep_regex.specs.declared.error.ErrorKind.TheVariants as kind
+use Rattle.grep_regex.specs.declared.error.RegexFault.TheVariants as regex
 use Rattle.grep_regex.specs.declared.options.Options.{Options}
 use Rattle.grep_regex.specs.declared.reading.ReadPatterns.{ReadPatterns}
 use Rattle.grep_regex.proofs.reading.FoldingLemmas.{refolded}
@@ -167,31 +171,37 @@ module _ (o : Options) (folded : Bool) (texts : List (List ℕ)) (text : List �
 
 -- ---- a pattern that is refused
 
-pub refused_first : (o : Options) (folded : Bool) (texts : List (List ℕ)) (text : List ℕ) (behind : List (List ℕ)) (read : ReadPatterns) (fault : PatternFault)
-    → AreRead o folded texts read → (fault ≡ pattern.DoubleName → ⊥) → IsPatternRefused (pattern_flags o folded) (written o text) fault
-    → IsReadingRefused o (texts ++ text ∷ behind) (kind_of fault)
-refused_first o folded texts text behind read pattern.Grammar are other none =
-    let plain = all_otherwise o folded false texts are.readings are.are_read in
-    record {
-      before = texts;
-      text = text;
-      behind = behind;
-      all = refl;
-      readings = plain.others;
-      read = plain.are_read;
-      kind = λ found is. let folds = read_otherwise o false folded text found is in none folds.0 folds.1.0;
-    }
-refused_first o folded texts text behind read pattern.Nest are other is =
-    let plain = all_otherwise o folded false texts are.readings are.are_read in
-    let deep = read_otherwise o folded false text is.0 is.1.0 in
-    record {
-      before = texts;
-      text = text;
-      behind = behind;
-      all = refl;
-      readings = plain.others;
-      read = plain.are_read;
-      kind = (deep.0, (deep.1.0, subst (λ d. most_depth (pattern_flags o false) < d) deep.1.1.depth is.1.1));
-    }
-refused_first o folded texts text behind read pattern.DoubleName are other is = absurd (other refl)
-refused_first o folded texts text behind read pattern.NoMemory are other is = tt
+module _ (o : Options) (folded : Bool) (texts : List (List ℕ)) (text : List ℕ) (behind : List (List ℕ)) (read : ReadPatterns) (are : AreRead o folded texts read) where
+  -- nothing is read in it
+  pub first_unread : IsPatternRefused (pattern_flags o folded) (written o text) pattern.Grammar → IsReadingRefused o (texts ++ text ∷ behind) (kind.Regex regex.Grammar)
+  first_unread none =
+      let plain = all_otherwise o folded false texts are.readings are.are_read in
+      record {
+        before = texts;
+        text = text;
+        behind = behind;
+        all = refl;
+        readings = plain.others;
+        read = plain.are_read;
+        kind = λ found is. let folds = read_otherwise o false folded text found is in none folds.0 folds.1.0;
+      }
+
+  -- it nests too deep
+  pub first_deep : IsPatternRefused (pattern_flags o folded) (written o text) pattern.Nest → IsReadingRefused o (texts ++ text ∷ behind) (kind.Regex regex.Nest)
+  first_deep is =
+      let plain = all_otherwise o folded false texts are.readings are.are_read in
+      let deep = read_otherwise o folded false text is.0 is.1.0 in
+      record {
+        before = texts;
+        text = text;
+        behind = behind;
+        all = refl;
+        readings = plain.others;
+        read = plain.are_read;
+        kind = (deep.0, (deep.1.0, subst (λ d. most_depth (pattern_flags o false) < d) deep.1.1.depth is.1.1));
+      }
+
+-- what an error is that goes on
+pub error_if : {X : Type 0} (result : Result X Error) (e : Error) (P : ErrorKind → Type 0) → IsErrAnd result (λ f. f ≡ e) → P e.kind → IfErr result (λ f. P f.kind)
+error_if (Ok x) e P is p = tt
+error_if (Err f) e P is p = subst (λ (f : Error). P f.kind) (sym is) p
