@@ -21,7 +21,8 @@ pub fn classes_are_stripped_as_in_the_examples()
 pub fn patterns_are_refused_as_in_the_examples()
     ensures in_a_literal { not_allowed (10 ∷ []) (literal (codes "a\nz")) ≡ Some 10 }
     ensures both_bytes { not_allowed (13 ∷ 10 ∷ []) (class_bytes ((10, 10) ∷ (13, 13) ∷ [])) ≡ Some 10 }
-    ensures return_first { not_allowed (13 ∷ 10 ∷ []) (concat (trees (literal (codes "\n") ∷ class_bytes ((13, 13) ∷ []) ∷ []))) ≡ Some 13 }
+    ensures return_first { not_allowed (13 ∷ 10 ∷ [])
+        (concat (trees (literal (codes "\n") ∷ class_bytes ((13, 13) ∷ []) ∷ []))) ≡ Some 13 }
     ensures empty_class { not_allowed (13 ∷ 10 ∷ []) (class_chars []) ≡ None }
     ensures space { not_allowed (10 ∷ []) (class_bytes ((9, 13) ∷ [])) ≡ None }
     ensures banned { asks_for 0 (class_chars ((0, 0) ∷ [])) ≡ true }
@@ -34,7 +35,9 @@ pub fn patterns_are_joined_as_in_the_examples()
         ≡ alternation (trees (capture 1 None (literal (codes "a")) ∷ capture 2 (Some (codes "n")) (literal (codes "b")) ∷ [])) }
     ensures one { together (literal (codes "a") ∷ []) ≡ literal (codes "a") }
     ensures no_pattern { together [] ≡ alternation none }
-    ensures named { number_of (names_in (together (capture 1 None (literal (codes "a")) ∷ capture 1 (Some (codes "n")) (literal (codes "b")) ∷ []))) (codes "n") ≡ Some 2 }
+    ensures named { number_of
+        (names_in (together (capture 1 None (literal (codes "a")) ∷ capture 1 (Some (codes "n")) (literal (codes "b")) ∷ [])))
+        (codes "n") ≡ Some 2 }
     ensures not_named { number_of (names_in (capture 1 None (literal (codes "n")))) (codes "n") ≡ None }
 {}
 
@@ -46,9 +49,11 @@ pub fn options_ask_for_edges_as_in_the_examples()
         ≡ concat (trees (look look.StartCRLF ∷ tree ∷ look look.EndCRLF ∷ [])) }
     ensures word { (o : Options) (tree : Tree) → edged (record o { whole_line = false; word = true; unicode = true }) tree
         ≡ concat (trees (look look.WordStartHalfUnicode ∷ tree ∷ look look.WordEndHalfUnicode ∷ [])) }
-    ensures word_edges { (o : Options) (tree : Tree) → edged (record o { whole_line = false; word = false; word_edges = true; unicode = false }) tree
+    ensures word_edges { (o : Options) (tree : Tree)
+        → edged (record o { whole_line = false; word = false; word_edges = true; unicode = false }) tree
         ≡ concat (trees (look look.WordAscii ∷ tree ∷ look look.WordAscii ∷ [])) }
-    ensures nothing { (o : Options) (tree : Tree) → edged (record o { whole_line = false; word = false; word_edges = false }) tree ≡ tree }
+    ensures nothing { (o : Options) (tree : Tree)
+        → edged (record o { whole_line = false; word = false; word_edges = false }) tree ≡ tree }
 {}
 
 /// A matcher tells of no terminator where its pattern asks for the start or the end of the text; that of a line is no reason.

@@ -226,7 +226,7 @@ fn without_byte(alloc: Global, hir: Hir, byte: u8) -> Result<Hir, NoMemory>
     }
 }
 
-/// The parts with an ASCII byte taken out of their classes.
+/// The parts with an ASCII byte taken out of their classes. Refuses for want of memory alone.
 #[cycle(without)]
 fn each_without_byte(alloc: Global, parts: Vec<Hir>, byte: u8) -> Result<Vec<Hir>, NoMemory>
     requires ascii { byte < 128 }

@@ -25,8 +25,9 @@ abbrev pub AreWithout : (ℕ → Type 0) → ℕ → List (ℕ × ℕ) → List 
 AreWithout Counts b ranges done = (c : ℕ) → Counts c → Holds done c ↔ Holds (without b ranges) c
 
 -- one range more
-pub without-next : (Counts : ℕ → Type 0) (b i : ℕ) (ranges old new : List (ℕ × ℕ)) (r : ℕ × ℕ) → i < length ranges → get_or ranges i r ≡ r
-    → ((c : ℕ) → Counts c → Holds new c ↔ (Holds old c ⊎ Holds (beside b r) c)) → AreWithout Counts b (take i ranges) old → AreWithout Counts b (take (i + 1) ranges) new
+pub without-next : (Counts : ℕ → Type 0) (b i : ℕ) (ranges old new : List (ℕ × ℕ)) (r : ℕ × ℕ) → i < length ranges
+    → get_or ranges i r ≡ r → ((c : ℕ) → Counts c → Holds new c ↔ (Holds old c ⊎ Holds (beside b r) c))
+    → AreWithout Counts b (take i ranges) old → AreWithout Counts b (take (i + 1) ranges) new
 without-next Counts b i ranges old new r within here added before c counts =
     let more : without b (take (i + 1) ranges) ≡ without b (take i ranges) ++ beside b r =
     ap (without b) (take_more ranges i r within ∙ ap (λ d. take i ranges ++ d ∷ []) here) ∙ flat_map-append (beside b) (take i ranges) (r ∷ [])
@@ -40,11 +41,13 @@ without-next Counts b i ranges old new r within here added before c counts =
     )
 
 -- all ranges
-pub without-all : (Counts : ℕ → Type 0) (b i : ℕ) (ranges done : List (ℕ × ℕ)) → length ranges ≤ i → AreWithout Counts b (take i ranges) done → AreWithout Counts b ranges done
+pub without-all : (Counts : ℕ → Type 0) (b i : ℕ) (ranges done : List (ℕ × ℕ)) → length ranges ≤ i
+    → AreWithout Counts b (take i ranges) done → AreWithout Counts b ranges done
 without-all Counts b i ranges done past all = subst (λ (xs : List (ℕ × ℕ)). AreWithout Counts b xs done) (take_all i ranges past) all
 
 -- a range ends where it begins or later
-pub range-ordered : (next : ℕ → ℕ) (ranges : List (ℕ × ℕ)) (i : ℕ) (r : ℕ × ℕ) → AreApart next ranges → i < length ranges → get_or ranges i r ≡ r → r.0 ≤ r.1
+pub range-ordered : (next : ℕ → ℕ) (ranges : List (ℕ × ℕ)) (i : ℕ) (r : ℕ × ℕ) → AreApart next ranges → i < length ranges
+    → get_or ranges i r ≡ r → r.0 ≤ r.1
 range-ordered next [] i r apart within here = absurd (omega arith)
 range-ordered next (s ∷ ranges) zero r apart within here = rw (← here) apart.0
 range-ordered next (s ∷ ranges) (suc i) r apart within here = range-ordered next ranges i r apart.2 (omega arith) here

@@ -15,12 +15,13 @@ use Rattle.grep_regex.specs.Exact.{IsTidy, AreTidy}
 use Rattle.grep_regex.specs.Stripping.{asks_for, one_asks_for, strip_byte, strip_each}
 
 -- one element more
-pub all-next : {X : Type 0} (P : X → Type 0) (xs : List X) (i : ℕ) (x : X) → i < length xs → x ≡ get_or xs i x → All P (take i xs) → P x → All P (take (i + 1) xs)
+pub all-next : {X : Type 0} (P : X → Type 0) (xs : List X) (i : ℕ) (x : X) → i < length xs → x ≡ get_or xs i x
+    → All P (take i xs) → P x → All P (take (i + 1) xs)
 all-next P xs i x within here all p =
     rw (take_more xs i x within) (All-append P (take i xs) (get_or xs i x ∷ []) all (All-from_recursion P (get_or xs i x ∷ []) (subst P here p, tt)))
 
-pub any-next : {X : Type 0} (p : X → Bool) (xs : List X) (i : ℕ) (x : X) → i < length xs → x ≡ get_or xs i x → list_any p (take i xs) ≡ false → p x ≡ false
-    → list_any p (take (i + 1) xs) ≡ false
+pub any-next : {X : Type 0} (p : X → Bool) (xs : List X) (i : ℕ) (x : X) → i < length xs → x ≡ get_or xs i x
+    → list_any p (take i xs) ≡ false → p x ≡ false → list_any p (take (i + 1) xs) ≡ false
 any-next p xs i x within here before not = list_any_more p xs i x within ∙ ap₂ (λ a b. a || b) before (ap p (sym here) ∙ not)
 
 pub on-false : {P Q : Type 0} (b : Bool) → (P → Q) → OnFalse b P → OnFalse b Q
