@@ -143,4 +143,5 @@ pub record HasTheClearRuns (o : Options) (patterns : List (List ℕ)) (tree : Tr
   pub trees : List Tree
   pub are : AreTrees o patterns trees
   pub runs_are : (text : List ℕ) (n : ℕ) (r : Run) → r.at ≤ length text
-      → runs text (core_of_tree tree) n r ≡ filter (λ s. is_clear (terminator o) text r.at s.at) (runs text (core_of_tree (together trees)) n r)
+      → runs text (core_of_tree tree) n r
+      ≡ filter (λ s. is_clear (terminator o) text r.at s.at) (runs text (core_of_tree (together trees)) n r)

@@ -227,7 +227,8 @@ impl RegexMatcherBuilder {
         ensures built { IfOk result (λ matcher. IsBuilt self.now (pattern.now ∷ []) (tree_of matcher.searcher)) }
         ensures terminator { IfOk result (λ matcher. matcher.terminator ≡ terminator_told self.now (tree_of matcher.searcher)) }
         ensures clear { IfOk result (λ matcher. MatchesAreClear self.now (tree_of matcher.searcher)) }
-        ensures runs { IfOk result (λ matcher. IsBare self.now → HasTheClearRuns self.now (pattern.now ∷ []) (tree_of matcher.searcher)) }
+        ensures runs { IfOk result (λ matcher. IsBare self.now
+            → HasTheClearRuns self.now (pattern.now ∷ []) (tree_of matcher.searcher)) }
         ensures refused { IfErr result (λ error. IsRefused self.now (pattern.now ∷ []) error.kind) }
     {
         let mut patterns = Patterns::new(alloc);
@@ -271,7 +272,7 @@ impl RegexMatcher {
         ensures built { IfOk result (λ matcher. IsBuilt default_options (pattern.now ∷ []) (tree_of matcher.searcher)) }
         ensures terminator { IfOk result (λ matcher. matcher.terminator ≡ terminator_told default_options (tree_of matcher.searcher)) }
         ensures clear { IfOk result (λ matcher. MatchesAreClear default_options (tree_of matcher.searcher)) }
-        ensures runs { IfOk result (λ matcher. IsBare default_options → HasTheClearRuns default_options (pattern.now ∷ []) (tree_of matcher.searcher)) }
+        ensures runs { IfOk result (λ matcher. HasTheClearRuns default_options (pattern.now ∷ []) (tree_of matcher.searcher)) }
         ensures refused { IfErr result (λ error. IsRefused default_options (pattern.now ∷ []) error.kind) }
     {
         RegexMatcherBuilder::new().build(alloc, pattern)
@@ -283,7 +284,7 @@ impl RegexMatcher {
         ensures built { IfOk result (λ matcher. IsBuilt line_options (pattern.now ∷ []) (tree_of matcher.searcher)) }
         ensures terminator { IfOk result (λ matcher. matcher.terminator ≡ terminator_told line_options (tree_of matcher.searcher)) }
         ensures clear { IfOk result (λ matcher. MatchesAreClear line_options (tree_of matcher.searcher)) }
-        ensures runs { IfOk result (λ matcher. IsBare line_options → HasTheClearRuns line_options (pattern.now ∷ []) (tree_of matcher.searcher)) }
+        ensures runs { IfOk result (λ matcher. HasTheClearRuns line_options (pattern.now ∷ []) (tree_of matcher.searcher)) }
         ensures refused { IfErr result (λ error. IsRefused line_options (pattern.now ∷ []) error.kind) }
     {
         RegexMatcherBuilder::new()

@@ -1,5 +1,5 @@
 -- Trees with the numbers of their groups moved on.
-use Rattle.std.proofs.Common.{◌≡◌, ◌≢◌, ℕ, zero, suc, ◌+◌, ◌<◌, ◌≤◌, List, [], ◌∷◌, ◌++◌, length, map, max, sum, slice_index_or, refl, sym, ap, ◌∙◌, arith, add_assoc, add-zero, zero-add}
+use Rattle.std.proofs.Common.{◌≡◌, ◌≢◌, ℕ, zero, suc, ◌+◌, ◌<◌, ◌≤◌, List, [], ◌∷◌, ◌++◌, length, map, sum, slice_index_or, refl, sym, ap, ◌∙◌, arith, add_assoc, add-zero, zero-add}
 use Rattle.std.proofs.lemmas.List.{map-append}
 use Rattle.std.proofs.lemmas.List.Sums.{sum_by-cons, sum_by_push, sum-map}
 use Rattle.hir_tree.specs.Spots.{greatest, groups_of, groups_of_tree}
@@ -47,8 +47,9 @@ groups_each [] = refl
 groups_each (hir ∷ rest) = ap (λ groups. groups_of hir ∷ groups) (groups_each rest)
 
 -- one pattern more in memory
-pub numbered_pushed : (done patterns : List Hir) (hir moved : Hir) (groups : ℕ) → map tree_of patterns ≡ numbered_on 0 (map tree_of done)
-    → groups ≡ sum (map groups_of done) → tree_of moved ≡ numbered_from groups (tree_of hir)
+pub numbered_pushed : (done patterns : List Hir) (hir moved : Hir) (groups : ℕ)
+    → map tree_of patterns ≡ numbered_on 0 (map tree_of done) → groups ≡ sum (map groups_of done)
+    → tree_of moved ≡ numbered_from groups (tree_of hir)
     → map tree_of (patterns ++ moved ∷ []) ≡ numbered_on 0 (map tree_of (done ++ hir ∷ []))
 numbered_pushed done patterns hir moved groups numbered counted is =
     let before : groups ≡ 0 + sum (map groups_of_tree (map tree_of done)) =
@@ -61,16 +62,21 @@ numbered_pushed done patterns hir moved groups numbered counted is =
 
 pub counted_pushed : (done : List Hir) (hir : Hir) → sum (map groups_of done) + groups_of hir ≡ sum (map groups_of (done ++ hir ∷ []))
 counted_pushed done hir =
-    sym (sum-map groups_of (done ++ hir ∷ []) ∙ sum_by_push groups_of done hir ∙ ap (λ n. n + groups_of hir) (sym (sum-map groups_of done)))
+    sym
+    (sum-map groups_of (done ++ hir ∷ [])
+    ∙ sum_by_push groups_of done hir
+    ∙ ap (λ n. n + groups_of hir) (sym (sum-map groups_of done)))
 
 -- one pattern stands by itself
-pub one_alone : (patterns : List Hir) (only : Hir) → length patterns ≡ 1 → only ≡ slice_index_or patterns 0 only → tree_of only ≡ one_of (map tree_of patterns)
+pub one_alone : (patterns : List Hir) (only : Hir) → length patterns ≡ 1 → only ≡ slice_index_or patterns 0 only
+    → tree_of only ≡ one_of (map tree_of patterns)
 one_alone [] only one is = absurd (omega arith)
 one_alone (first ∷ []) only one is = ap tree_of is
 one_alone (first ∷ second ∷ rest) only one is = absurd (omega arith)
 
 -- others are an alternation
-pub others_alternate : (patterns : List Hir) → length patterns ≢ 1 → alternation (trees (map tree_of patterns)) ≡ one_of (map tree_of patterns)
+pub others_alternate : (patterns : List Hir) → length patterns ≢ 1
+    → alternation (trees (map tree_of patterns)) ≡ one_of (map tree_of patterns)
 others_alternate [] others = refl
 others_alternate (first ∷ []) others = absurd (others refl)
 others_alternate (first ∷ second ∷ rest) others = refl

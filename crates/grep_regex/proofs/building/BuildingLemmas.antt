@@ -1,5 +1,5 @@
 -- When a matcher is refused, by what each test refuses, and what a built one finds.
-use Rattle.std.proofs.Common.{◌≡◌, ℕ, ◌<◌, ◌≤◌, Bool, true, false, List, [], ◌∷◌, All, Option, None, Some, get_or, sym, ap, subst, refl, ◌∙◌, arith, rules}
+use Rattle.std.proofs.Common.{◌≡◌, ℕ, ◌<◌, ◌≤◌, Bool, true, false, List, [], ◌∷◌, All, Option, None, Some, get_or, sym, ap, subst, ◌∙◌, arith, rules}
 use Rattle.std.proofs.lemmas.List.Elements.{All-contains_itself}
 use Rattle.std.specs.Prelude.{Contains, IfSome, if◌then◌else◌}
 use Rattle.std.specs.Option.{option_map_or}
@@ -25,7 +25,8 @@ use Rattle.grep_regex.proofs.laws.OptionsLemmas.{no-terminator}
 use Rattle.grep_regex.proofs.laws.TreeLemmas.{stripping-filters}
 
 -- the last byte of a terminator tells whether it is ASCII
-beyond_ending : (ending : Ending) (byte : ℕ) → byte ≡ terminator_byte (record { 0 = ending }) → 128 ≤ byte → IsBeyondAscii (bytes_of_ending ending) byte
+beyond_ending : (ending : Ending) (byte : ℕ) → byte ≡ terminator_byte (record { 0 = ending }) → 128 ≤ byte
+    → IsBeyondAscii (bytes_of_ending ending) byte
 beyond_ending (Byte b) byte is beyond =
     record { before = []; behind = []; all = ap (λ n. n ∷ []) (sym is); ascii = search rules; beyond = beyond }
 beyond_ending Crlf byte is beyond = absurd (omega arith)
@@ -60,8 +61,9 @@ refused_strip o patterns trees tree (kind.Regex f) passes is unbanned refused = 
 refused_strip o patterns trees tree (kind.Banned byte) passes is unbanned refused = absurd refused
 
 -- a pattern that is too large
-pub refused_size : (o : Options) (patterns : List (List ℕ)) (trees : List Tree) (tree whole : Tree) (k : ErrorKind) → Passes o patterns trees
-    → tree ≡ together trees → IsUnbanned o tree → not_allowed (terminator o) tree ≡ None → whole ≡ optioned o trees → IsSizeRefused o whole k → IsRefused o patterns k
+pub refused_size : (o : Options) (patterns : List (List ℕ)) (trees : List Tree) (tree whole : Tree) (k : ErrorKind)
+    → Passes o patterns trees → tree ≡ together trees → IsUnbanned o tree → not_allowed (terminator o) tree ≡ None → whole ≡ optioned o trees
+    → IsSizeRefused o whole k → IsRefused o patterns k
 refused_size o patterns trees tree whole (kind.Regex (fault.Size limit)) passes is unbanned allowed asked refused =
     record {
       trees = trees;
@@ -85,7 +87,8 @@ clear_built o patterns tree built =
     subst (MatchesAreClear o) (sym built.is) (record { held_by_none = no-terminator o built.trees built.passes.ascii built.allowed })
 
 -- where nothing stands round it, its runs are the clear ones of the patterns together
-pub runs_built : (o : Options) (patterns : List (List ℕ)) (tree : Tree) → IsBuilt o patterns tree → IsBare o → HasTheClearRuns o patterns tree
+pub runs_built : (o : Options) (patterns : List (List ℕ)) (tree : Tree) → IsBuilt o patterns tree → IsBare o
+    → HasTheClearRuns o patterns tree
 runs_built o patterns tree built bare =
     let together = together built.trees in
     let is : tree ≡ stripped (terminator o) together = built.is ∙ bare (stripped (terminator o) together) in
@@ -98,13 +101,16 @@ runs_built o patterns tree built bare =
     }
 
 -- nor does one hold a byte of the terminator that is told
-ends : (text_anchor : Bool) (set : Option LineTerminator) (P : ℕ → Type 0) → ((b : ℕ) → Contains (option_map_or terminator_bytes set []) b → P b)
+ends : (text_anchor : Bool) (set : Option LineTerminator) (P : ℕ → Type 0)
+    → ((b : ℕ) → Contains (option_map_or terminator_bytes set []) b → P b)
     → IfSome (if text_anchor then None else set) (λ told. All P (terminator_bytes told))
 ends true set P each = tt
 ends false None P each = tt
-ends false (Some told) P each = λ k d within. each (get_or (terminator_bytes told) k d) (All-contains_itself (terminator_bytes told) k d within)
+ends false (Some told) P each =
+    λ k d within. each (get_or (terminator_bytes told) k d) (All-contains_itself (terminator_bytes told) k d within)
 
-pub ends_built : (o : Options) (patterns : List (List ℕ)) (tree : Tree) → IsBuilt o patterns tree → EndsNoMatch tree (terminator_told o tree)
+pub ends_built : (o : Options) (patterns : List (List ℕ)) (tree : Tree) → IsBuilt o patterns tree
+    → EndsNoMatch tree (terminator_told o tree)
 ends_built o patterns tree built =
     ends (has_look is_text_anchor tree) o.line_terminator (IsInNoMatch (end_at tree))
     ((clear_built o patterns tree built).held_by_none (groups_of_tree tree))

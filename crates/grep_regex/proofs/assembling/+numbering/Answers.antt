@@ -1,6 +1,5 @@
-use Rattle.std.proofs.Common.{◌+◌, ◌<◌, ◌≤◌, map, sym, ap, ◌∙◌, arith, rules}
+use Rattle.std.proofs.Common.{map, sym, ap, ◌∙◌, arith, rules}
 use Rattle.hir_tree.specs.declared.hir.Hir.{the_lemmas}
-use Rattle.hir_tree.specs.Spots.{greatest, groups_of, groups_of_tree}
 use Rattle.hir_tree.specs.Tree.{alternation, concat, tree_of, trees}
 use Rattle.grep_regex.specs.Options.{numbered_from}
 use Rattle.grep_regex.proofs.assembling.NumberingLemmas.{at_most_greatest, each_numbered_from-trees}
@@ -15,7 +14,8 @@ pub numbered_from-returns-in_ok-each_numbered_from-in-Concat : goal.numbered_fro
 numbered_from-returns-in_ok-each_numbered_from-in-Concat t c =
     let made = c.a_tree_is_made_of_the_trees_of_the_parts.ensures.concat in
     made c.in_ok-each_numbered_from-in-Concat.field-0
-    ∙ ap (λ parts. concat (trees parts)) (c.in_ok-each_numbered_from-in-Concat.ensures ∙ ap (λ parts. map (numbered_from c.args.by) (map tree_of parts)) c.parts.ensures)
+    ∙ ap (λ parts. concat (trees parts)) (c.in_ok-each_numbered_from-in-Concat.ensures
+    ∙ ap (λ parts. map (numbered_from c.args.by) (map tree_of parts)) c.parts.ensures)
     ∙ sym (ap (λ hir. numbered_from c.args.by (tree_of hir)) c.in-Concat.is
     ∙ ap (numbered_from c.args.by) (made c.in-Concat.hirs)
     ∙ ap concat (each_numbered_from-trees c.args.by (map tree_of c.in-Concat.hirs.parts.items)))
@@ -24,7 +24,8 @@ pub numbered_from-returns-in_ok-each_numbered_from-in-Alternation : goal.numbere
 numbered_from-returns-in_ok-each_numbered_from-in-Alternation t c =
     let made = c.a_tree_is_made_of_the_trees_of_the_parts.ensures.alternation in
     made c.in_ok-each_numbered_from-in-Alternation.field-0
-    ∙ ap (λ parts. alternation (trees parts)) (c.in_ok-each_numbered_from-in-Alternation.ensures ∙ ap (λ parts. map (numbered_from c.args.by) (map tree_of parts)) c.parts-in-Alternation.ensures)
+    ∙ ap (λ parts. alternation (trees parts)) (c.in_ok-each_numbered_from-in-Alternation.ensures
+    ∙ ap (λ parts. map (numbered_from c.args.by) (map tree_of parts)) c.parts-in-Alternation.ensures)
     ∙ sym (ap (λ hir. numbered_from c.args.by (tree_of hir)) c.in-Alternation.is
     ∙ ap (numbered_from c.args.by) (made c.in-Alternation.hirs)
     ∙ ap alternation (each_numbered_from-trees c.args.by (map tree_of c.in-Alternation.hirs.parts.items)))

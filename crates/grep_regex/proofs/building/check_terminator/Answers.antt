@@ -1,7 +1,7 @@
 use Rattle.std.proofs.Common.{◌≤◌, [], sym, subst, arith}
 use Rattle.std.proofs.lemmas.Grind.{common_steps}
 use Rattle.std.specs.Option.{option_map_or}
-use Rattle.grep_matcher.specs.Terminators.{terminator_byte, terminator_bytes}
+use Rattle.grep_matcher.specs.Terminators.{terminator_bytes}
 use Rattle.grep_regex.specs.Building.{IsBeyondAscii}
 use Rattle.grep_regex.proofs.building.BuildingLemmas.{beyond_terminator}
 use Rattle.grep_regex.proofs.building.check_terminator.Goals as goal

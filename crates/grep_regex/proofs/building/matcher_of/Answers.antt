@@ -15,10 +15,12 @@ of_tree-requires c = record {
 pub returns-clause-clear : goal.returns-clause-clear
 returns-clause-clear c =
     let o = c.args.options.now in
-    subst (MatchesAreClear o) (sym c.in_ok-of_tree.ensures.tree) (clear_built o c.args.patterns.now (tree_of c.in_ok-hir.hir) c.in_ok-hir.ensures.built)
+    subst (MatchesAreClear o) (sym c.in_ok-of_tree.ensures.tree)
+    (clear_built o c.args.patterns.now (tree_of c.in_ok-hir.hir) c.in_ok-hir.ensures.built)
 
 pub returns-clause-runs : goal.returns-clause-runs
 returns-clause-runs c =
     let o = c.args.options.now in
     let texts = c.args.patterns.now in
-    subst (λ (tree : Tree). IsBare o → HasTheClearRuns o texts tree) (sym c.in_ok-of_tree.ensures.tree) (runs_built o texts (tree_of c.in_ok-hir.hir) c.in_ok-hir.ensures.built)
+    subst (λ (tree : Tree). IsBare o → HasTheClearRuns o texts tree) (sym c.in_ok-of_tree.ensures.tree)
+    (runs_built o texts (tree_of c.in_ok-hir.hir) c.in_ok-hir.ensures.built)
