@@ -1,5 +1,5 @@
 -- How patterns are read under the options of a matcher.
-use Rattle.std.specs.Prelude.{◌≡◌, ℕ, ◌≤◌, ◌&&◌, ◌||◌, not, Bool, false, List, [], ◌∷◌, ◌++◌, All, flat_map, map, if◌then◌else◌}
+use Rattle.std.specs.Prelude.{◌≡◌, ℕ, ◌≤◌, ◌&&◌, ◌||◌, not, Bool, false, List, [], ◌∷◌, ◌++◌, flat_map, if◌then◌else◌}
 use Rattle.std.specs.List.{list_any}
 use Rattle.std.specs.Str.{chars}
 use Rattle.unicode.specs.Binary.{is_uppercase}
@@ -10,7 +10,7 @@ use Rattle.pattern_core.specs.declared.flags.PatternFlags.{PatternFlags}
 use Rattle.pattern_syntax.specs.declared.flags.Flags.{Flags}
 use Rattle.pattern_syntax.specs.Flags.{is_nil}
 use Rattle.pattern_syntax.specs.Reads.{Found, Reads}
-use Rattle.pattern_syntax.specs.SetTree.{SetTree, with_sets}
+use Rattle.pattern_syntax.specs.SetTree.{with_sets}
 use Rattle.grep_regex.specs.Exact.{IsTidy}
 use Rattle.grep_regex.specs.declared.options.Options.{Options}
 
