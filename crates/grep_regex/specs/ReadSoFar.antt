@@ -1,5 +1,5 @@
 -- What the code has of patterns that are read.
-use Rattle.std.specs.Prelude.{◌≡◌, ◌≤◌, ◌↔◌, ℕ, Bool, not, ◌&&◌, IsTrue, MatchBool, List, [], ◌∷◌, ◌++◌, flat_map, length, map, sum}
+use Rattle.std.specs.Prelude.{◌≡◌, ◌≤◌, ◌↔◌, ℕ, Bool, not, ◌&&◌, IsTrue, MatchBool, List, [], ◌∷◌, flat_map, length, map, sum}
 use Rattle.std.specs.List.{list_any}
 use Rattle.std.specs.Ordering.{nat_cmp}
 use Rattle.std.specs.Cmp.Lexicographic.{slice_cmp}

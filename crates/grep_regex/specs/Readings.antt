@@ -10,7 +10,7 @@ use Rattle.pattern_core.specs.declared.flags.PatternFlags.{PatternFlags}
 use Rattle.pattern_syntax.specs.declared.flags.Flags.{Flags}
 use Rattle.pattern_syntax.specs.Flags.{is_nil}
 use Rattle.pattern_syntax.specs.Reads.{Found, Reads}
-use Rattle.pattern_syntax.specs.SetTree.{SetTree, with_sets}
+use Rattle.pattern_syntax.specs.SetTree.{with_sets}
 use Rattle.grep_regex.specs.Exact.{IsTidy}
 use Rattle.grep_regex.specs.declared.options.Options.{Options}
 

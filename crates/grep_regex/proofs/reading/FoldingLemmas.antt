@@ -3,11 +3,11 @@ use Rattle.std.proofs.Common.{◌≡◌, ℕ, ◌+◌, ◌==◌, max, map, Bool,
 use Rattle.pattern_syntax.specs.declared.flags.Flags.{Flags}
 use Rattle.pattern_syntax.specs.Flags.{FlagList, apply, set_flag, set_flags, letters_of, Blank, white, comment, write_blanks, FineBlanks}
 use Rattle.pattern_syntax.specs.Atom.{Atom, character, escaped, control, coded, braced, octal, perl, category, category_braced, Digit, write_digits, write_atom, FineSpaced, FineBraced, FineAtom}
-use Rattle.pattern_syntax.specs.Class.{Head, Inside, close, pass as pass_in, one, range, named as named_class, nested, operation, write_after, write_dashes, write_head, write_inside, FineMember, FineSecond, FineCaret, FineDashes, FineBracket, FineHead, FineInside}
+use Rattle.pattern_syntax.specs.Class.{Head, Inside, close, pass as pass_in, one, range, named as named_class, nested, operation, write_after, write_dashes, write_inside, FineMember, FineSecond, FineCaret, FineDashes, FineBracket, FineHead, FineInside}
 use Rattle.pattern_syntax.specs.Flags.{is_nil}
 use Rattle.pattern_syntax.specs.Syntax.{Syntax, end, bar, pass, set, single, group, Single, atom, dot, caret, dollar, look, class, Kind, numbered, named, flagged, Repeated, inside_flags, write, write_count, write_swap, write_repeats, Fine, FineAlone, FineSingle, FineRepeats, FineKind}
 use Rattle.pattern_syntax.specs.SetTree.{SetTree, SetTrees, concat, alternation}
-use Rattle.pattern_syntax.specs.Reads.{Part, Row, Found, Reads, at_depth, no_parts, in_front, row_of, united, sequence, joined, repeat, count_tree, xor, grouped, own, captures, put, single_part, branches, found_of}
+use Rattle.pattern_syntax.specs.Reads.{Part, Row, Found, at_depth, in_front, row_of, united, sequence, joined, repeat, count_tree, xor, grouped, own, captures, put, single_part, branches, found_of}
 use Rattle.grep_regex.specs.Readings.{IsAlike, FoldingChangesTheTreeAlone}
 
 -- flags with letters folded or as they are

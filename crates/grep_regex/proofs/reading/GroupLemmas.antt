@@ -1,5 +1,5 @@
 -- The groups of a tree that was read are those of its text: their names in their order, and their numbers.
-use Rattle.std.proofs.Common.{◌≡◌, ◌≤◌, ℕ, ◌+◌, ◌==◌, max, map, Bool, true, false, ◌&&◌, not, if◌then◌else◌, Option, Some, None, List, [], ◌∷◌, ◌++◌, refl, sym, ap, ap₂, ◌∙◌, subst, arith}
+use Rattle.std.proofs.Common.{◌≡◌, ◌≤◌, ℕ, ◌+◌, ◌==◌, map, Bool, true, false, ◌&&◌, not, if◌then◌else◌, Option, Some, None, List, [], ◌∷◌, ◌++◌, refl, sym, ap, ap₂, ◌∙◌, subst, arith}
 use Rattle.std.proofs.Math.Nat.{max-le}
 use Rattle.std.proofs.lemmas.List.{append-nil, append_assoc, map-append}
 use Rattle.hir_tree.specs.Spots.{groups_of_tree, groups_of_trees, greatest}
@@ -11,7 +11,7 @@ use Rattle.pattern_syntax.specs.Atom.{Atom, single_of}
 use Rattle.pattern_syntax.specs.Sets.{Set, closed, folds_with_another}
 use Rattle.pattern_syntax.specs.Syntax.{Syntax, end, bar, pass, set, single, group, Single, atom, dot, caret, dollar, look as look_at, class, Count, optional, star, plus, exactly, at_least, between, Kind, numbered, named, flagged, Repeated, inside_flags}
 use Rattle.pattern_syntax.specs.SetTree.{SetTree, SetTrees, empty, literal, chars, bytes, looks, repetition, capture, concat, alternation, none, more, trees, with_sets, all_with_sets}
-use Rattle.pattern_syntax.specs.Reads.{Part, Row, Found, Reads, at_depth, no_parts, row_of, united, sequence, joined, literal_bytes, class_tree, repeat, count_tree, xor, own, captures, grouped, put, one_tree, single_part, branches, own_name, names_of}
+use Rattle.pattern_syntax.specs.Reads.{Part, Row, Found, Reads, at_depth, row_of, united, sequence, joined, literal_bytes, class_tree, repeat, count_tree, xor, own, captures, grouped, put, one_tree, single_part, branches, own_name, names_of}
 use Rattle.grep_regex.specs.Options.{names_in, names_in_each}
 
 -- the number of a group, and its name if it has one

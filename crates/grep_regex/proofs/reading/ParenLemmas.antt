@@ -1,5 +1,5 @@
 -- A text has at least as many opening parentheses as groups are read in it.
-use Rattle.std.proofs.Common.{◌≡◌, ◌≤◌, ℕ, ◌+◌, ◌==◌, Bool, true, false, if◌then◌else◌, Option, Some, None, List, [], ◌∷◌, ◌++◌, codes, length, refl, sym, ap, ap₂, ◌∙◌, subst, arith}
+use Rattle.std.proofs.Common.{◌≡◌, ◌≤◌, ℕ, ◌+◌, ◌==◌, Bool, true, false, if◌then◌else◌, Option, Some, None, List, [], ◌∷◌, ◌++◌, codes, length, refl, ap, arith}
 use Rattle.std.proofs.Math.Utf8.{encodes}
 use Rattle.std.proofs.lemmas.Str.{encodes-chars, length-le-encodes}
 use Rattle.std.specs.Str.{chars, IsUtf8}
@@ -9,7 +9,7 @@ use Rattle.pattern_syntax.specs.Atom.{Atom, character, escaped, control, coded, 
 use Rattle.pattern_syntax.specs.Class.{Head, Inside, close, pass as pass_in, one, range, named as named_class, nested, operation, Operation, both, minus, either, write_after, write_dashes, write_head, write_operation, write_name, write_inside}
 use Rattle.pattern_syntax.specs.Syntax.{Syntax, end, bar, pass, set, single, group, Single, atom, dot, caret, dollar, look, class, Edge, text_start, text_end, edge, no_edge, word_start, word_end, half_start, half_end, left, right, Number, Count, optional, star, plus, exactly, at_least, between, Kind, numbered, named, flagged, Repeated, write, write_edge, write_single, write_number, write_count, write_swap, write_repeats, write_p, write_kind}
 use Rattle.pattern_syntax.specs.Reads.{Found, Reads, own, captures}
-use Rattle.pattern_core.specs.Escape.{is_meta, escaped_char, escaped_text}
+use Rattle.pattern_core.specs.Escape.{is_meta, escaped_text}
 
 abbrev one_if : Bool → ℕ
 one_if true = 1

@@ -1,5 +1,5 @@
 -- All patterns: names that stand twice over them, and when letters are folded.
-use Rattle.std.proofs.Common.{◌≡◌, ◌≤◌, ◌<◌, ◌^◌, ◌↔◌, ℕ, ◌+◌, ◌&&◌, ◌||◌, Bool, true, false, not, IsTrue, MatchBool, Result, Ok, Err, IfOk, List, [], ◌∷◌, ◌++◌, length, map, sum, refl, sym, ap, ap₂, ◌∙◌, subst, true≢false, arith}
+use Rattle.std.proofs.Common.{◌≡◌, ◌<◌, ◌^◌, ◌↔◌, ℕ, ◌&&◌, ◌||◌, Bool, true, false, not, IsTrue, MatchBool, Result, Ok, Err, IfOk, List, [], ◌∷◌, ◌++◌, length, map, sum, refl, sym, ap, ap₂, ◌∙◌, subst, arith}
 use Rattle.std.specs.List.{list_any}
 use Rattle.std.specs.Str.{chars}
 use Rattle.std.proofs.lemmas.List.{append-nil}
@@ -13,7 +13,7 @@ use Rattle.pattern_syntax.specs.Reads.{Found, Reads}
 use Rattle.pattern_core.specs.Answers.{HasOneTwice, flags_of}
 use Rattle.sd_base.specs.declared.no_memory.NoMemory.{NoMemory}
 use Rattle.grep_regex.specs.Building.{FitTogether}
-use Rattle.grep_regex.specs.Readings.{AreReadAs, AreTrees, AreTreesOf, HasDoubleName, all_literals, all_names, folds, pattern_flags, written}
+use Rattle.grep_regex.specs.Readings.{AreReadAs, AreTrees, AreTreesOf, HasDoubleName, all_names, folds, pattern_flags, written}
 use Rattle.grep_regex.specs.ReadSoFar.{AreKept, AreRead, HaveSingleNames, asks_to_fold, names_in_all}
 use Rattle.grep_regex.specs.declared.options.Options.{Options}
 use Rattle.grep_regex.specs.declared.reading.ReadPatterns.{ReadPatterns}

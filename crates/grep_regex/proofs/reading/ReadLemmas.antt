@@ -1,20 +1,17 @@
 -- Patterns that are read, and one pattern more.
 use Rattle.std.proofs.Common.{◌≡◌, ◌≤◌, ◌<◌, ℕ, ◌+◌, ◌||◌, Bool, true, false, not, MatchBool, Result, Ok, Err, IfErr, IsErrAnd, List, [], ◌∷◌, ◌++◌, length, map, sum, refl, sym, ap, ap₂, ◌∙◌, inl, inr, subst, arith}
-use Rattle.std.specs.List.{flat_map, list_any, sum_by}
+use Rattle.std.specs.List.{list_any}
 use Rattle.std.specs.Str.{chars}
 use Rattle.std.proofs.lemmas.Grind.{flat_map-append}
-use Rattle.std.proofs.lemmas.List.{append-nil, append_assoc, map-append}
+use Rattle.std.proofs.lemmas.List.{append-nil, map-append}
 use Rattle.std.proofs.lemmas.List.Folds.{list_any-append}
 use Rattle.std.proofs.lemmas.List.Sums.{sum_by-append}
 use Rattle.unicode.specs.Binary.{is_uppercase}
 use Rattle.hir_tree.specs.Spots.{groups_of}
 use Rattle.hir_tree.specs.Tree.{Tree, tree_of}
-use Rattle.hir_tree.specs.declared.hir.Hir.{Hir}
-use Rattle.pattern_syntax.specs.declared.flags.Flags.{Flags}
 use Rattle.pattern_syntax.specs.Flags.{is_nil}
-use Rattle.pattern_syntax.specs.Reads.{Found, Reads}
+use Rattle.pattern_syntax.specs.Reads.{Found}
 use Rattle.pattern_core.specs.Answers.{IsAmong, HasOneTwice, IsDoubleName, IsPattern, IsRead, flags_of, most_depth}
-use Rattle.pattern_core.specs.declared.fault.PatternFault.{PatternFault}
 use Rattle.pattern_core.specs.declared.fault.PatternFault.TheVariants as pattern
 use Rattle.pattern_core.specs.declared.parsed.Parsed.{Parsed}
 use Rattle.grep_regex.specs.Building.{IsReadingRefused}

@@ -1,4 +1,4 @@
-use Rattle.std.proofs.Common.{◌≡◌, true, sym, ◌∙◌, subst, true≢false}
+use Rattle.std.proofs.Common.{sym, ◌∙◌, subst, true≢false}
 use Rattle.grep_regex.specs.Building.{IsReadingRefused}
 use Rattle.grep_regex.proofs.reading.PatternLemmas.{double_of, single_of}
 use Rattle.grep_regex.proofs.reading.read_all.Goals as goal

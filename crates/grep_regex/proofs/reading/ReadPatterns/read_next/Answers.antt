@@ -1,4 +1,4 @@
-use Rattle.std.proofs.Common.{◌≡◌, ◌∷◌, ◌++◌, true, refl, sym, subst}
+use Rattle.std.proofs.Common.{◌∷◌, ◌++◌, true, refl, sym, subst}
 use Rattle.pattern_core.specs.declared.fault.PatternFault.TheVariants as pattern
 use Rattle.grep_regex.specs.Building.{IsReadingRefused}
 use Rattle.grep_regex.specs.Readings.{pattern_flags, written}

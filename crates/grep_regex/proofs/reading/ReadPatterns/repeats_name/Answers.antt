@@ -1,4 +1,4 @@
-use Rattle.std.proofs.Common.{◌≡◌, IfOk, IsTrue, ◌↔◌, map, sym, subst, true≢false, arith}
+use Rattle.std.proofs.Common.{IfOk, IsTrue, ◌↔◌, map, sym, subst, true≢false, arith}
 use Rattle.hir_tree.specs.Tree.{tree_of}
 use Rattle.pattern_core.specs.Answers.{HasOneTwice}
 use Rattle.grep_regex.specs.ReadSoFar.{names_in_all}
