@@ -10,8 +10,8 @@ mod builder;
 mod building;
 mod captures;
 mod error;
-mod fitting;
 mod examples;
+mod fitting;
 mod laws;
 mod matcher;
 mod names;
@@ -24,12 +24,12 @@ mod stripping;
 pub use builder::RegexMatcherBuilder;
 pub use captures::RegexCaptures;
 pub use error::{Error, ErrorKind, RegexFault};
-pub use fitting::fit_together;
 pub use examples::{
     bytes_are_in_no_match_as_in_the_examples, classes_are_stripped_as_in_the_examples,
     options_ask_for_edges_as_in_the_examples, patterns_are_joined_as_in_the_examples,
     patterns_are_refused_as_in_the_examples, terminators_are_told_as_in_the_examples,
 };
+pub use fitting::fit_together;
 pub use laws::{
     no_match_holds_a_terminator, stripping_is_refused_exactly, stripping_keeps_spots_and_groups,
     stripping_leaves_the_clear_runs, what_is_not_taken_is_in_no_match,

@@ -235,7 +235,11 @@ fn read_all(
 
 /// The trees of patterns, with letters folded where the options ask for it. It is refused, and in this order, where a pattern
 /// isn't read or nests too deep, and where a name stands twice over all patterns. Want of memory may come at any time.
-pub(crate) fn read_patterns(alloc: Global, options: &Options, patterns: &Patterns) -> Result<Vec<Hir>, Error>
+pub(crate) fn read_patterns(
+    alloc: Global,
+    options: &Options,
+    patterns: &Patterns,
+) -> Result<Vec<Hir>, Error>
     requires fit { FitTogether patterns.now }
     ensures trees { IfOk result (λ hirs. AreTrees options.now patterns.now (map tree_of hirs.items)) }
     ensures single { OnOk result (HasDoubleName options.now patterns.now → ⊥) }

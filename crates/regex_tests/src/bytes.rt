@@ -16,7 +16,11 @@ fn check_skipped(
     let matcher = build(rt.alloc(), builder, pattern)??;
     let set = matcher.non_matching_bytes().ok_or("no set")?;
     for byte in 0..=u8::MAX {
-        assert_eq!(rt; set.contains(byte), skipped.contains(&byte), "{pattern}: {byte}");
+        assert_eq!(rt;
+            set.contains(byte),
+            skipped.contains(&byte),
+            "{pattern}: {byte}"
+        );
     }
     Ok(())
 }
@@ -59,7 +63,14 @@ fn anchors_keep_the_ends_of_lines(rt: HostRuntime) -> Result<(), Fail> {
 fn a_banned_byte(rt: HostRuntime) -> Result<(), Fail> {
     let mut builder = RegexMatcherBuilder::new();
     builder.ban_byte(Some(0));
-    for pattern in [r"[^[^\x00]]", r"\x00", r"a\x00b", r"[\x00]", r"(?-u)\x00", r"(a|(b\x00)*)"] {
+    for pattern in [
+        r"[^[^\x00]]",
+        r"\x00",
+        r"a\x00b",
+        r"[\x00]",
+        r"(?-u)\x00",
+        r"(a|(b\x00)*)",
+    ] {
         check_refused(&rt, &builder, pattern, ErrorKind::Banned(0))?;
     }
     for pattern in [r"[\x00a]", "a", ".", r"[^\x00]", "", r"\x01"] {

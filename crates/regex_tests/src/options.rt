@@ -79,7 +79,13 @@ const FLAGS: &[Row] = &[
     (Flag::Word, "b", "abc b", Some((4, 5)), Some((1, 2))),
     (Flag::WordEdges, "-2", "abc -2 foo", None, Some((4, 6))),
     (Flag::WordEdges, "b", "abc b", Some((4, 5)), Some((1, 2))),
-    (Flag::FixedStrings, "a.b", "axb a.b", Some((4, 7)), Some((0, 3))),
+    (
+        Flag::FixedStrings,
+        "a.b",
+        "axb a.b",
+        Some((4, 7)),
+        Some((0, 3)),
+    ),
     (Flag::FixedStrings, "(", "a(", Some((1, 2)), None),
     (Flag::WholeLine, "b", "a\nb\nbc", Some((2, 3)), Some((2, 3))),
     (Flag::WholeLine, "c", "a\nb\nbc", None, Some((5, 6))),
@@ -88,7 +94,13 @@ const FLAGS: &[Row] = &[
 #[test]
 fn options_on(rt: HostRuntime) -> Result<(), Fail> {
     for (flag, pattern, text, on, _) in FLAGS {
-        check(&rt, &builder_with(*flag, true), pattern, text.as_bytes(), *on)?;
+        check(
+            &rt,
+            &builder_with(*flag, true),
+            pattern,
+            text.as_bytes(),
+            *on,
+        )?;
     }
     Ok(())
 }

@@ -32,7 +32,10 @@ fn every_match_of_a_pattern_with_groups(rt: HostRuntime) -> Result<(), Fail> {
     let matcher = build(alloc, &RegexMatcherBuilder::new(), r"(\w+)@(\w+)")??;
     let mut spans = Vec::new(alloc);
     matcher.find_iter(text, |span| spans.push(span).is_ok())?;
-    assert_eq!(rt; spans.as_slice(), [Match::new(0, 3), Match::new(4, 7)].as_slice());
+    assert_eq!(rt;
+        spans.as_slice(),
+        [Match::new(0, 3), Match::new(4, 7)].as_slice()
+    );
     assert_eq!(rt; matcher.capture_count(), 3);
     assert!(rt;
         matches!(

@@ -7,15 +7,41 @@ use std::process::Abort;
 use std::test::Fail;
 
 const UNREAD: &[&str] = &[
-    "(", ")", "[", "[a", "a{", "a{2", "a{3,2}", "*", "+", "?", "a**b(", r"\", r"\q", "(?", "(?P<n", "(?P<1>a)", r"\p{No}(", r"\x{110000}",
-    "[z-a]", "(?i", "(?ii)", "a|*", "[[:^alpha",
+    "(",
+    ")",
+    "[",
+    "[a",
+    "a{",
+    "a{2",
+    "a{3,2}",
+    "*",
+    "+",
+    "?",
+    "a**b(",
+    r"\",
+    r"\q",
+    "(?",
+    "(?P<n",
+    "(?P<1>a)",
+    r"\p{No}(",
+    r"\x{110000}",
+    "[z-a]",
+    "(?i",
+    "(?ii)",
+    "a|*",
+    "[[:^alpha",
 ];
 
 #[test]
 fn patterns_that_are_not_read(rt: HostRuntime) -> Result<(), Fail> {
     let builder = RegexMatcherBuilder::new();
     for pattern in UNREAD {
-        check_refused(&rt, &builder, pattern, ErrorKind::Regex(RegexFault::Grammar))?;
+        check_refused(
+            &rt,
+            &builder,
+            pattern,
+            ErrorKind::Regex(RegexFault::Grammar),
+        )?;
     }
     Ok(())
 }
@@ -50,11 +76,7 @@ fn the_ban_comes_before_the_terminator(rt: HostRuntime) -> Result<(), Fail> {
 }
 
 /// What is said of a pattern that is refused.
-fn text_of(
-    alloc: Global,
-    builder: &RegexMatcherBuilder,
-    pattern: &str,
-) -> Result<String, Fail> {
+fn text_of(alloc: Global, builder: &RegexMatcherBuilder, pattern: &str) -> Result<String, Fail> {
     match build(alloc, builder, pattern)? {
         Ok(_) => Err("it is built".into()),
         Err(error) => written(alloc, &error),
@@ -72,17 +94,38 @@ fn written(alloc: Global, error: &Error) -> Result<String, Fail> {
 fn what_refusals_say(rt: HostRuntime) -> Result<(), Fail> {
     let alloc = rt.alloc();
     let mut builder = RegexMatcherBuilder::new();
-    assert_eq!(rt; text_of(alloc, &builder, "(")?.as_str(), "regex parse error");
-    assert_eq!(rt; text_of(alloc, &builder, "(?P<n>a)(?P<n>b)")?.as_str(), "duplicate group name");
+    assert_eq!(rt;
+        text_of(alloc, &builder, "(")?.as_str(),
+        "regex parse error"
+    );
+    assert_eq!(rt;
+        text_of(alloc, &builder, "(?P<n>a)(?P<n>b)")?.as_str(),
+        "duplicate group name"
+    );
     builder.nest_limit(0);
-    assert_eq!(rt; text_of(alloc, &builder, "(a)")?.as_str(), "regex nests too deep");
+    assert_eq!(rt;
+        text_of(alloc, &builder, "(a)")?.as_str(),
+        "regex nests too deep"
+    );
     builder.nest_limit(250).size_limit(31);
-    assert_eq!(rt; text_of(alloc, &builder, "a")?.as_str(), "compiled regex exceeds size limit of 31");
+    assert_eq!(rt;
+        text_of(alloc, &builder, "a")?.as_str(),
+        "compiled regex exceeds size limit of 31"
+    );
     builder.size_limit(1000).ban_byte(Some(0));
-    assert_eq!(rt; text_of(alloc, &builder, r"\x00")?.as_str(), "pattern contains byte 0 but it is impossible to match");
+    assert_eq!(rt;
+        text_of(alloc, &builder, r"\x00")?.as_str(),
+        "pattern contains byte 0 but it is impossible to match"
+    );
     builder.line_terminator(Some(b'\n'));
-    assert_eq!(rt; text_of(alloc, &builder, r"\n")?.as_str(), "the literal \"\\n\" is not allowed in a regex");
+    assert_eq!(rt;
+        text_of(alloc, &builder, r"\n")?.as_str(),
+        "the literal \"\\n\" is not allowed in a regex"
+    );
     builder.line_terminator(Some(200));
-    assert_eq!(rt; text_of(alloc, &builder, "a")?.as_str(), "line terminators must be ASCII, but byte 200 is not");
+    assert_eq!(rt;
+        text_of(alloc, &builder, "a")?.as_str(),
+        "line terminators must be ASCII, but byte 200 is not"
+    );
     Ok(())
 }

@@ -73,7 +73,10 @@ fn what_a_matcher_tells_of_its_terminator(rt: HostRuntime) -> Result<(), Fail> {
     assert!(rt; none.line_terminator().is_none());
     builder.line_terminator(Some(b'\n'));
     let one = build(alloc, &builder, "(?m)^a$")??;
-    assert!(rt; one.line_terminator().is_some_and(|end| end.as_byte() == b'\n'));
+    assert!(rt;
+        one.line_terminator()
+            .is_some_and(|end| end.as_byte() == b'\n')
+    );
     let whole = build(alloc, &builder, r"\Aa")??;
     assert!(rt; whole.line_terminator().is_none());
     let end = build(alloc, &builder, "a$")??;

@@ -55,10 +55,26 @@ fn a_line_feed_is_taken_out_of_white_space(rt: HostRuntime) -> Result<(), Fail> 
 fn refusals_on_trees(rt: HostRuntime) -> Result<(), Fail> {
     let alloc = rt.alloc();
     for (pattern, end, kind) in [
-        (r"a\n", LineTerminator::byte(b'\n'), ErrorKind::NotAllowed(b'\n')),
-        ("a", LineTerminator::byte(200), ErrorKind::InvalidLineTerminator(200)),
-        (r"\n\r", LineTerminator::crlf(), ErrorKind::NotAllowed(b'\r')),
-        (r"[\r\n]", LineTerminator::crlf(), ErrorKind::NotAllowed(b'\n')),
+        (
+            r"a\n",
+            LineTerminator::byte(b'\n'),
+            ErrorKind::NotAllowed(b'\n'),
+        ),
+        (
+            "a",
+            LineTerminator::byte(200),
+            ErrorKind::InvalidLineTerminator(200),
+        ),
+        (
+            r"\n\r",
+            LineTerminator::crlf(),
+            ErrorKind::NotAllowed(b'\r'),
+        ),
+        (
+            r"[\r\n]",
+            LineTerminator::crlf(),
+            ErrorKind::NotAllowed(b'\n'),
+        ),
     ] {
         match strip_from_match(alloc, tree(alloc, pattern)?, end) {
             Ok(_) => assert!(rt; false, "{pattern} is taken"),
