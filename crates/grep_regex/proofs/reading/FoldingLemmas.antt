@@ -8,7 +8,7 @@ use Rattle.pattern_syntax.specs.Flags.{is_nil}
 use Rattle.pattern_syntax.specs.Syntax.{Syntax, end, bar, pass, set, single, group, Single, atom, dot, caret, dollar, look, class, Count, optional, star, plus, exactly, at_least, between, value, Kind, numbered, named, flagged, Repeated, inside_flags, write, write_count, write_swap, write_repeats, Fine, FineAlone, FineSingle, FineRepeats, FineKind}
 use Rattle.pattern_syntax.specs.Sets.{Set, closed, folds_with_another}
 use Rattle.pattern_syntax.specs.SetTree.{SetTree, SetTrees, empty, literal, repetition, capture, concat, alternation, more, trees}
-use Rattle.pattern_syntax.specs.Reads.{Part, Row, Found, Reads, at_depth, in_front, row_of, united, sequence, joined, literal_bytes, class_tree, repeat, count_tree, xor, grouped, own, captures, put, one_tree, single_part, branches, found_of}
+use Rattle.pattern_syntax.specs.Reads.{Part, Row, Found, at_depth, in_front, row_of, united, sequence, joined, literal_bytes, class_tree, repeat, count_tree, xor, grouped, own, captures, put, one_tree, single_part, branches, found_of}
 use Rattle.grep_regex.specs.Readings.{IsAlike, FoldingChangesClassesAlone, outline, outlines}
 
 -- flags with letters folded or as they are
