@@ -10,7 +10,7 @@ use Rattle.pattern_core.specs.declared.flags.PatternFlags.{PatternFlags}
 use Rattle.pattern_syntax.specs.declared.flags.Flags.{Flags}
 use Rattle.pattern_syntax.specs.Flags.{is_nil}
 use Rattle.pattern_syntax.specs.Reads.{Found, Reads}
-use Rattle.pattern_syntax.specs.SetTree.{with_sets}
+use Rattle.pattern_syntax.specs.SetTree.{SetTree, SetTrees, empty, literal, chars as chars_in, bytes, looks, repetition, capture, concat, alternation, none, more, with_sets}
 use Rattle.grep_regex.specs.Exact.{IsTidy}
 use Rattle.grep_regex.specs.declared.options.Options.{Options}
 
@@ -105,14 +105,33 @@ pub record HasDoubleName (o : Options) (patterns : List (List ℕ)) : Type 0 whe
   pub are_read : AreReadAs o false patterns readings
   pub double : HasOneTwice (all_names readings)
 
--- the same depth, groups, names and literals
+abbrev mutual
+  -- a tree without the text of its literals and the members of its classes
+  pub outline : SetTree → SetTree
+  outline empty = empty
+  outline (literal text) = literal []
+  outline (chars_in members) = literal []
+  outline (bytes members) = literal []
+  outline (looks kind) = looks kind
+  outline (repetition least most greedy part) = repetition least most greedy (outline part)
+  outline (capture index name part) = capture index name (outline part)
+  outline (concat parts) = concat (outlines parts)
+  outline (alternation parts) = alternation (outlines parts)
+
+  -- each of the trees, so
+  pub outlines : SetTrees → SetTrees
+  outlines none = none
+  outlines (more part rest) = more (outline part) (outlines rest)
+
+-- the same but for literals and classes of the tree
 pub record IsAlike (a b : Found) : Type 0 where
   pub depth : a.part.depth ≡ b.part.depth
   pub groups : a.groups ≡ b.groups
   pub names : a.names ≡ b.names
   pub literals : a.literals ≡ b.literals
+  pub tree : outline a.part.tree ≡ outline b.part.tree
 
--- FOLDING LETTERS changes neither whether a text is read, nor its depth, groups, names and literals.
-abbrev pub FoldingChangesTheTreeAlone : Type 0
-FoldingChangesTheTreeAlone = (k : Flags) (folded : Bool) (text : List ℕ) (found : Found) → Reads k text found
+-- FOLDING LETTERS changes neither whether a text is read, nor what is read but for literals and classes of its tree.
+abbrev pub FoldingChangesClassesAlone : Type 0
+FoldingChangesClassesAlone = (k : Flags) (folded : Bool) (text : List ℕ) (found : Found) → Reads k text found
     → (other : Found) × (Reads (record k { folds = folded }) text other × IsAlike found other)

@@ -39,5 +39,5 @@ pub use non_matching::non_matching_bytes;
 pub use non_matching_examples::{
     anchors_ask_for_bytes_as_in_the_examples, bytes_are_taken_as_in_the_examples,
 };
-pub use reading::folding_changes_the_tree_alone;
+pub use reading::folding_changes_classes_alone;
 pub use stripping::{check_ban, strip_from_match};

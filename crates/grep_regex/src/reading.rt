@@ -6,7 +6,7 @@ ghost use Rattle.hir_tree.specs.Tree.{tree_of};
 ghost use Rattle.pattern_core.specs.Answers.{HasOneTwice, IsPattern};
 ghost use Rattle.grep_regex.specs.Building.{FitTogether, IsReadingRefused};
 ghost use Rattle.grep_regex.specs.Exact.{IsTidy};
-ghost use Rattle.grep_regex.specs.Readings.{AreTrees, FoldingChangesTheTreeAlone, HasDoubleName, all_names, pattern_flags, written};
+ghost use Rattle.grep_regex.specs.Readings.{AreTrees, FoldingChangesClassesAlone, HasDoubleName, all_names, pattern_flags, written};
 ghost use Rattle.grep_regex.specs.ReadSoFar.{AreAdded, AreKnown, AreRead, IsPatternRefused, asks_to_fold, names_in_all};
 ghost use Rattle.grep_regex.specs.declared.error.ErrorKind.TheVariants as kind;
 ghost use Rattle.grep_regex.specs.declared.options.Options.{Options};
@@ -254,7 +254,7 @@ pub(crate) fn read_patterns(
     Ok(read.hirs)
 }
 
-/// Folding letters changes neither whether a text is read, nor how deep it nests, its groups, names and literal characters.
-pub fn folding_changes_the_tree_alone()
-    ensures { FoldingChangesTheTreeAlone }
+/// Folding letters changes neither whether a text is read, nor what is read but for literals and classes of its tree.
+pub fn folding_changes_classes_alone()
+    ensures { FoldingChangesClassesAlone }
 {}

@@ -1,14 +1,15 @@
 -- A text that is read is read with letters folded or not, with the same depth, groups, names and literals.
-use Rattle.std.proofs.Common.{◌≡◌, ℕ, ◌+◌, ◌==◌, max, map, Bool, true, false, if◌then◌else◌, Option, Some, None, List, [], ◌∷◌, ◌++◌, codes, not, refl, sym, ap, ap₂, ◌∙◌, subst}
+use Rattle.std.proofs.Common.{◌≡◌, ℕ, ◌+◌, ◌==◌, ◌&&◌, max, map, Bool, true, false, if◌then◌else◌, Option, Some, None, List, [], ◌∷◌, ◌++◌, codes, not, refl, sym, ap, ap₂, ◌∙◌, subst}
 use Rattle.pattern_syntax.specs.declared.flags.Flags.{Flags}
 use Rattle.pattern_syntax.specs.Flags.{FlagList, apply, set_flag, set_flags, letters_of, Blank, white, comment, write_blanks, FineBlanks}
-use Rattle.pattern_syntax.specs.Atom.{Atom, character, escaped, control, coded, braced, octal, perl, category, category_braced, Digit, write_digits, write_atom, FineSpaced, FineBraced, FineAtom}
-use Rattle.pattern_syntax.specs.Class.{Head, Inside, close, pass as pass_in, one, range, named as named_class, nested, operation, write_after, write_dashes, write_inside, FineMember, FineSecond, FineCaret, FineDashes, FineBracket, FineHead, FineInside}
+use Rattle.pattern_syntax.specs.Atom.{Atom, character, escaped, control, coded, braced, octal, perl, category, category_braced, single_of, Digit, write_digits, write_atom, FineSpaced, FineBraced, FineAtom}
+use Rattle.pattern_syntax.specs.Class.{Head, Inside, atom_set, close, pass as pass_in, one, range, named as named_class, nested, operation, write_after, write_dashes, write_inside, FineMember, FineSecond, FineCaret, FineDashes, FineBracket, FineHead, FineInside}
 use Rattle.pattern_syntax.specs.Flags.{is_nil}
-use Rattle.pattern_syntax.specs.Syntax.{Syntax, end, bar, pass, set, single, group, Single, atom, dot, caret, dollar, look, class, Kind, numbered, named, flagged, Repeated, inside_flags, write, write_count, write_swap, write_repeats, Fine, FineAlone, FineSingle, FineRepeats, FineKind}
-use Rattle.pattern_syntax.specs.SetTree.{SetTree, SetTrees, concat, alternation}
-use Rattle.pattern_syntax.specs.Reads.{Part, Row, Found, at_depth, in_front, row_of, united, sequence, joined, repeat, count_tree, xor, grouped, own, captures, put, single_part, branches, found_of}
-use Rattle.grep_regex.specs.Readings.{IsAlike, FoldingChangesTheTreeAlone}
+use Rattle.pattern_syntax.specs.Syntax.{Syntax, end, bar, pass, set, single, group, Single, atom, dot, caret, dollar, look, class, Count, optional, star, plus, exactly, at_least, between, value, Kind, numbered, named, flagged, Repeated, inside_flags, write, write_count, write_swap, write_repeats, Fine, FineAlone, FineSingle, FineRepeats, FineKind}
+use Rattle.pattern_syntax.specs.Sets.{Set, closed, folds_with_another}
+use Rattle.pattern_syntax.specs.SetTree.{SetTree, SetTrees, empty, literal, repetition, capture, concat, alternation, more, trees}
+use Rattle.pattern_syntax.specs.Reads.{Part, Row, Found, at_depth, in_front, row_of, united, sequence, joined, literal_bytes, class_tree, repeat, count_tree, xor, grouped, own, captures, put, one_tree, single_part, branches, found_of}
+use Rattle.grep_regex.specs.Readings.{IsAlike, FoldingChangesClassesAlone, outline, outlines}
 
 -- flags with letters folded or as they are
 abbrev folding : Bool → Flags → Flags
@@ -38,8 +39,8 @@ flags_kept : (v : Bool) (letters : List ℕ) → Keeps (set_flags v letters)
 flags_kept v [] w k = (w, refl)
 flags_kept v (letter ∷ letters) w k =
     let first = flag_kept v letter w k in
-    let more = flags_kept v letters first.0 (set_flag v letter k) in
-    (more.0, ap (set_flags v letters) first.1 ∙ more.1)
+    let others = flags_kept v letters first.0 (set_flag v letter k) in
+    (others.0, ap (set_flags v letters) first.1 ∙ others.1)
 
 apply_kept : (l : FlagList) → Keeps (apply l)
 apply_kept l w k =
@@ -96,7 +97,7 @@ caret_fine v k (Some bs) t f = blanks_fine v k bs (codes "^" ++ t) f
 
 dashes_fine : (v : Bool) (k : Flags) (dashes : List (List Blank)) (t : List ℕ) → FineDashes k dashes t → FineDashes (folding v k) dashes t
 dashes_fine v k [] t f = f
-dashes_fine v k (bs ∷ more) t f = (blanks_fine v k bs (codes "-" ++ write_dashes more t) f.0, dashes_fine v k more t f.1)
+dashes_fine v k (bs ∷ dashes) t f = (blanks_fine v k bs (codes "-" ++ write_dashes dashes t) f.0, dashes_fine v k dashes t f.1)
 
 bracket_fine : (v : Bool) (k : Flags) (none : Bool) (bracket : Option (List Blank)) (t : List ℕ) → FineBracket k none bracket t → FineBracket (folding v k) none bracket t
 bracket_fine v k true None t f = f
@@ -168,18 +169,20 @@ fine v k (group m q rs p) t f =
       fine v k p t f.3,
     )
 
--- ---- flags don't matter for how deep a pattern nests
+-- ---- what is read is the same but for literals and classes
 
--- as many trees
-abbrev AsMany : List SetTree → List SetTree → Type 0
-AsMany [] [] = Unit {0}
-AsMany [] (b ∷ bs) = ⊥
-AsMany (a ∷ ps) [] = ⊥
-AsMany (a ∷ ps) (b ∷ bs) = AsMany ps bs
+record IsSamePart (a b : Part) : Type 0 where
+  deep : a.depth ≡ b.depth
+  tree : outline a.tree ≡ outline b.tree
 
--- as many trees, and as deep
+abbrev AreSame : List SetTree → List SetTree → Type 0
+AreSame [] [] = Unit {0}
+AreSame [] (b ∷ bs) = ⊥
+AreSame (a ∷ ps) [] = ⊥
+AreSame (a ∷ ps) (b ∷ bs) = (outline a ≡ outline b) × AreSame ps bs
+
 record IsSameRow (a b : Row) : Type 0 where
-  many : AsMany a.trees b.trees
+  trees : AreSame a.trees b.trees
   deep : a.depth ≡ b.depth
 
 abbrev AreSameRows : List Row → List Row → Type 0
@@ -188,71 +191,118 @@ AreSameRows [] (b ∷ bs) = ⊥
 AreSameRows (a ∷ ps) [] = ⊥
 AreSameRows (a ∷ ps) (b ∷ bs) = IsSameRow a b × AreSameRows ps bs
 
-united_depth : (make : SetTrees → SetTree) (xs ys : List SetTree) (d e : ℕ) → AsMany xs ys → d ≡ e → (united make xs d).depth ≡ (united make ys e).depth
-united_depth make [] [] d e many same = refl
-united_depth make [] (y ∷ ys) d e many same = absurd many
-united_depth make (x ∷ xs) [] d e many same = absurd many
-united_depth make (x ∷ []) (y ∷ []) d e many same = same
-united_depth make (x ∷ []) (y ∷ z ∷ ys) d e many same = absurd many
-united_depth make (x ∷ w ∷ xs) (y ∷ []) d e many same = absurd many
-united_depth make (x ∷ w ∷ xs) (y ∷ z ∷ ys) d e many same = ap (λ n. n + 1) same
+trees_same : (xs ys : List SetTree) → AreSame xs ys → outlines (trees xs) ≡ outlines (trees ys)
+trees_same [] [] same = refl
+trees_same [] (y ∷ ys) same = absurd same
+trees_same (x ∷ xs) [] same = absurd same
+trees_same (x ∷ xs) (y ∷ ys) same = ap₂ more same.0 (trees_same xs ys same.1)
 
-front_same : (a b : Part) (r s : Row) → a.depth ≡ b.depth → IsSameRow r s → IsSameRow (in_front a r) (in_front b s)
-front_same a b r s deep same = record { many = same.many; deep = ap₂ max deep same.deep }
+module _ (make : SetTrees → SetTree) (made : (ts us : SetTrees) → outlines ts ≡ outlines us → outline (make ts) ≡ outline (make us)) where
+  united_same : (xs ys : List SetTree) (d e : ℕ) → AreSame xs ys → d ≡ e → IsSamePart (united make xs d) (united make ys e)
+  united_same [] [] d e same deep = record { deep = refl; tree = refl }
+  united_same [] (y ∷ ys) d e same deep = absurd same
+  united_same (x ∷ xs) [] d e same deep = absurd same
+  united_same (x ∷ []) (y ∷ []) d e same deep = record { deep = deep; tree = same.0 }
+  united_same (x ∷ []) (y ∷ z ∷ ys) d e same deep = absurd same.1
+  united_same (x ∷ w ∷ xs) (y ∷ []) d e same deep = absurd same.1
+  united_same (x ∷ w ∷ xs) (y ∷ z ∷ ys) d e same deep =
+      record { deep = ap (λ n. n + 1) deep; tree = made (trees (x ∷ w ∷ xs)) (trees (y ∷ z ∷ ys)) (trees_same (x ∷ w ∷ xs) (y ∷ z ∷ ys) same) }
+
+front_same : (a b : Part) (r s : Row) → IsSamePart a b → IsSameRow r s → IsSameRow (in_front a r) (in_front b s)
+front_same a b r s part same = record { trees = (part.tree, same.trees); deep = ap₂ max part.deep same.deep }
 
 sequences_same : (ps bs : List Row) → AreSameRows ps bs → IsSameRow (row_of (map sequence ps)) (row_of (map sequence bs))
-sequences_same [] [] same = record { many = tt; deep = refl }
+sequences_same [] [] same = record { trees = tt; deep = refl }
 sequences_same [] (b ∷ bs) same = absurd same
 sequences_same (a ∷ ps) [] same = absurd same
 sequences_same (a ∷ ps) (b ∷ bs) same =
-    front_same (sequence a) (sequence b) _ _ (united_depth concat a.trees b.trees a.depth b.depth same.0.many same.0.deep) (sequences_same ps bs same.1)
+    front_same (sequence a) (sequence b) _ _ (united_same concat (λ ts us e. ap concat e) a.trees b.trees a.depth b.depth same.0.trees same.0.deep) (sequences_same ps bs same.1)
 
-joined_depth : (ps bs : List Row) → AreSameRows ps bs → (joined ps).depth ≡ (joined bs).depth
-joined_depth ps bs same =
+joined_same : (ps bs : List Row) → AreSameRows ps bs → IsSamePart (joined ps) (joined bs)
+joined_same ps bs same =
+    let first = row_of (map sequence ps) in
+    let second = row_of (map sequence bs) in
     let rows = sequences_same ps bs same in
-    united_depth alternation (row_of (map sequence ps)).trees (row_of (map sequence bs)).trees (row_of (map sequence ps)).depth (row_of (map sequence bs)).depth rows.many rows.deep
+    united_same alternation (λ ts us e. ap alternation e) first.trees second.trees first.depth second.depth rows.trees rows.deep
 
-put_same : (a b : Part) (ps bs : List Row) → a.depth ≡ b.depth → AreSameRows ps bs → AreSameRows (put a ps) (put b bs)
-put_same a b [] [] deep same = tt
-put_same a b [] (s ∷ ss) deep same = absurd same
-put_same a b (r ∷ rs) [] deep same = absurd same
-put_same a b (r ∷ rs) (s ∷ ss) deep same = (front_same a b r s deep same.0, same.1)
+put_same : (a b : Part) (ps bs : List Row) → IsSamePart a b → AreSameRows ps bs → AreSameRows (put a ps) (put b bs)
+put_same a b [] [] part same = tt
+put_same a b [] (s ∷ ss) part same = absurd same
+put_same a b (r ∷ rs) [] part same = absurd same
+put_same a b (r ∷ rs) (s ∷ ss) part same = (front_same a b r s part same.0, same.1)
 
-repeat_depth : (k l : Flags) (rs : List Repeated) (a b : Part) → a.depth ≡ b.depth → (repeat k rs a).depth ≡ (repeat l rs b).depth
-repeat_depth k l [] a b deep = deep
-repeat_depth k l (r ∷ rs) a b deep =
-    repeat_depth k l rs (at_depth (a.depth + 1) (count_tree r.count (not (xor r.swaps k.swaps)) a.tree)) (at_depth (b.depth + 1) (count_tree r.count (not (xor r.swaps l.swaps)) b.tree))
-    (ap (λ n. n + 1) deep)
+count_same : (n : Count) (greedy : Bool) (a b : SetTree) → outline a ≡ outline b → outline (count_tree n greedy a) ≡ outline (count_tree n greedy b)
+count_same optional greedy a b e = ap (repetition 0 (Some 1) greedy) e
+count_same star greedy a b e = ap (repetition 0 None greedy) e
+count_same plus greedy a b e = ap (repetition 1 None greedy) e
+count_same (exactly n) greedy a b e = ap (repetition (value n) (Some (value n)) greedy) e
+count_same (at_least n) greedy a b e = ap (repetition (value n) None greedy) e
+count_same (between n m) greedy a b e = ap (repetition (value n) (Some (value m)) greedy) e
 
-single_depth : (k l : Flags) (s : Single) → (single_part k s).depth ≡ (single_part l s).depth
-single_depth k l (atom a) = refl
-single_depth k l dot = refl
-single_depth k l caret = refl
-single_depth k l dollar = refl
-single_depth k l (look e) = refl
-single_depth k l (class h p) = refl
+repeat_same : (v : Bool) (k : Flags) (rs : List Repeated) (a b : Part) → IsSamePart a b → IsSamePart (repeat k rs a) (repeat (folding v k) rs b)
+repeat_same v k [] a b same = same
+repeat_same v k (r ∷ rs) a b same =
+    let greedy = not (xor r.swaps k.swaps) in
+    repeat_same v k rs (at_depth (a.depth + 1) (count_tree r.count greedy a.tree)) (at_depth (b.depth + 1) (count_tree r.count greedy b.tree))
+    (record { deep = ap (λ n. n + 1) same.deep; tree = count_same r.count greedy a.tree b.tree same.tree })
 
-branches_same : (k l : Flags) (n : ℕ) (p : Syntax) → AreSameRows (branches k n p) (branches l n p)
-branches_same k l n end = (record { many = tt; deep = refl }, tt)
-branches_same k l n (bar p) = (record { many = tt; deep = refl }, branches_same k l n p)
-branches_same k l n (pass b p) = branches_same k l n p
-branches_same k l n (set bs f p) = put_same _ _ _ _ refl (branches_same (apply f k) (apply f l) n p)
-branches_same k l n (single s rs p) =
-    put_same (repeat k rs (single_part k s)) (repeat l rs (single_part l s)) _ _ (repeat_depth k l rs _ _ (single_depth k l s)) (branches_same k l n p)
-branches_same k l n (group m q rs p) =
-    let a = joined (branches (inside_flags m k) (n + own m) q) in
-    let b = joined (branches (inside_flags m l) (n + own m) q) in
-    let deep : a.depth ≡ b.depth = joined_depth _ _ (branches_same (inside_flags m k) (inside_flags m l) (n + own m) q) in
-    put_same (repeat k rs (at_depth (a.depth + 1) (grouped m n a.tree))) (repeat l rs (at_depth (b.depth + 1) (grouped m n b.tree))) _ _
-    (repeat_depth k l rs _ _ (ap (λ n. n + 1) deep)) (branches_same k l (n + own m + captures q) p)
+either_outline : (b : Bool) (x y : SetTree) → outline x ≡ literal [] → outline y ≡ literal [] → outline (if b then x else y) ≡ literal []
+either_outline true x y p q = p
+either_outline false x y p q = q
+
+class_outline : (k : Flags) (s : Set) → outline (class_tree k s) ≡ literal []
+class_outline k s = either_outline k.unicode _ _ refl refl
+
+one_outline : (k : Flags) (a : Atom) (c : Option ℕ) → outline (one_tree k a c) ≡ literal []
+one_outline k a None = class_outline k (atom_set k a)
+one_outline k a (Some c) =
+    either_outline (k.folds && folds_with_another k c) (class_tree k (closed k (λ d. d == c))) (literal (literal_bytes k a c)) (class_outline k (closed k (λ d. d == c))) refl
+
+single_same : (v : Bool) (k : Flags) (s : Single) → IsSamePart (single_part k s) (single_part (folding v k) s)
+single_same v k (atom a) = record { deep = refl; tree = one_outline k a (single_of a) ∙ sym (one_outline (folding v k) a (single_of a)) }
+single_same v k dot = record { deep = refl; tree = class_outline k _ ∙ sym (class_outline (folding v k) _) }
+single_same v k caret = record { deep = refl; tree = refl }
+single_same v k dollar = record { deep = refl; tree = refl }
+single_same v k (look e) = record { deep = refl; tree = refl }
+single_same v k (class h p) = record { deep = refl; tree = class_outline k _ ∙ sym (class_outline (folding v k) _) }
+
+group_same : (m : Kind) (n : ℕ) (a b : Part) → IsSamePart a b → IsSamePart (at_depth (a.depth + 1) (grouped m n a.tree)) (at_depth (b.depth + 1) (grouped m n b.tree))
+group_same numbered n a b same = record { deep = ap (λ n. n + 1) same.deep; tree = ap (capture (n + 1) None) same.tree }
+group_same (named bs p name) n a b same = record { deep = ap (λ n. n + 1) same.deep; tree = ap (capture (n + 1) (Some name)) same.tree }
+group_same (flagged bs l) n a b same = record { deep = ap (λ n. n + 1) same.deep; tree = same.tree }
+
+branches_same : (v : Bool) (k : Flags) (n : ℕ) (p : Syntax) → AreSameRows (branches k n p) (branches (folding v k) n p)
+branches_same v k n end = (record { trees = tt; deep = refl }, tt)
+branches_same v k n (bar p) = (record { trees = tt; deep = refl }, branches_same v k n p)
+branches_same v k n (pass b p) = branches_same v k n p
+branches_same v k n (set bs f p) =
+    let kept = apply_kept f v k in
+    let nothing = at_depth 0 empty in
+    put_same nothing nothing (branches (apply f k) n p) (branches (apply f (folding v k)) n p) (record { deep = refl; tree = refl })
+    (subst (λ (l : Flags). AreSameRows (branches (apply f k) n p) (branches l n p)) (sym kept.1) (branches_same kept.0 (apply f k) n p))
+branches_same v k n (single s rs p) =
+    put_same (repeat k rs (single_part k s)) (repeat (folding v k) rs (single_part (folding v k) s)) (branches k n p) (branches (folding v k) n p)
+    (repeat_same v k rs (single_part k s) (single_part (folding v k) s) (single_same v k s)) (branches_same v k n p)
+branches_same v k n (group m q rs p) =
+    let kept = inside_kept m v k in
+    let inner = branches (inside_flags m k) (n + own m) q in
+    let other = branches (inside_flags m (folding v k)) (n + own m) q in
+    let after = n + own m + captures q in
+    let same : AreSameRows inner other =
+    subst (λ (l : Flags). AreSameRows inner (branches l (n + own m) q)) (sym kept.1) (branches_same kept.0 (inside_flags m k) (n + own m) q) in
+    let a = at_depth ((joined inner).depth + 1) (grouped m n (joined inner).tree) in
+    let b = at_depth ((joined other).depth + 1) (grouped m n (joined other).tree) in
+    put_same (repeat k rs a) (repeat (folding v k) rs b) (branches k after p) (branches (folding v k) after p)
+    (repeat_same v k rs a b (group_same m n (joined inner) (joined other) (joined_same inner other same))) (branches_same v k after p)
 
 -- ---- the law
 
-pub refolded : FoldingChangesTheTreeAlone
+pub refolded : FoldingChangesClassesAlone
 refolded k folded text found read =
     let p = read.syntax in
     let other = found_of (folding folded k) p in
-    let alike : IsAlike (found_of k p) other = record { depth = joined_depth _ _ (branches_same k (folding folded k) 0 p); groups = refl; names = refl; literals = refl } in (
+    let same = joined_same (branches k 0 p) (branches (folding folded k) 0 p) (branches_same folded k 0 p) in
+    let alike : IsAlike (found_of k p) other = record { depth = same.deep; groups = refl; names = refl; literals = refl; tree = same.tree } in (
       other,
       (
         record { syntax = p; fine = fine folded k p [] read.fine; written = read.written; read = refl },
