@@ -90,6 +90,13 @@ impl Hirs {
         &self.parts
     }
 
+    /// The parts, out of the list.
+    pub fn into_parts(self) -> Vec<Hir>
+        ensures { result.items ≡ parts_of self }
+    {
+        self.parts
+    }
+
     /// How many parts there are.
     pub fn len(&self) -> usize
         ensures { result ≡ length (parts_of self.now) }

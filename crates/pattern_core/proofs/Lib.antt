@@ -1,1 +1,2 @@
 pub mod EscapeLemmas
+pub use Rattle.pattern_core.proofs.parsing.NameLemmas

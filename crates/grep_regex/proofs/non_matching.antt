@@ -1,0 +1,2 @@
+pub mod RemovedLemmas
+pub mod Utf8Lemmas

@@ -1,0 +1,11 @@
+pub mod Anchors
+pub mod Building
+pub mod Exact
+pub mod Matching
+pub mod MatchingLemmas
+pub mod NonMatching
+pub mod Options
+pub mod Readings
+pub mod Removed
+pub mod ReadSoFar
+pub mod Stripping
