@@ -8,7 +8,7 @@ use std::process::Abort;
 use std::test::Fail;
 
 /// A matcher of a pattern.
-pub fn build(
+pub(crate) fn build(
     alloc: Global,
     builder: &RegexMatcherBuilder,
     pattern: &str,
@@ -20,7 +20,7 @@ pub fn build(
 }
 
 /// A matcher of several patterns.
-pub fn build_many(
+pub(crate) fn build_many(
     alloc: Global,
     builder: &RegexMatcherBuilder,
     patterns: &[&str],
@@ -36,12 +36,15 @@ pub fn build_many(
 }
 
 /// Where a matcher first finds something.
-pub fn first(matcher: &RegexMatcher, text: &[u8]) -> Result<Option<(usize, usize)>, NoMemory> {
+pub(crate) fn first(
+    matcher: &RegexMatcher,
+    text: &[u8],
+) -> Result<Option<(usize, usize)>, NoMemory> {
     Ok(matcher.find(text)?.map(|span| (span.start(), span.end())))
 }
 
 /// A pattern first finds this in a text.
-pub fn check(
+pub(crate) fn check(
     rt: &(impl Abort + AllocGlobal),
     builder: &RegexMatcherBuilder,
     pattern: &str,
@@ -56,7 +59,7 @@ pub fn check(
 }
 
 /// A pattern is refused so.
-pub fn check_refused(
+pub(crate) fn check_refused(
     rt: &(impl Abort + AllocGlobal),
     builder: &RegexMatcherBuilder,
     pattern: &str,
