@@ -1,0 +1,3 @@
+-- What the proofs of the examples use.
+pub mod PlanBy
+pub mod StepLemmas

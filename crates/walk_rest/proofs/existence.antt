@@ -1,0 +1,4 @@
+-- What the law of existence uses.
+pub mod ReachLemmas
+pub mod EnteredLemmas
+pub mod ExistenceLemmas

@@ -1,0 +1,2 @@
+-- What the proofs about file names use.
+pub mod LastLemmas

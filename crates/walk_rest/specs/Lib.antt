@@ -1,0 +1,11 @@
+pub mod Orders
+pub mod Plan
+pub mod Names
+pub mod Errors
+pub mod Sorting
+pub mod Listing
+pub mod Existence
+pub mod Rest
+pub mod Level
+pub mod Read
+pub mod Examples
