@@ -1,0 +1,2 @@
+-- What the proofs about keeping a list use.
+pub mod KeepLemmas

@@ -1,0 +1,3 @@
+-- What the proofs about lists of a walk use.
+pub mod SoundLemmas
+pub mod WithinLemmas

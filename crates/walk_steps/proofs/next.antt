@@ -1,0 +1,4 @@
+-- What the proofs about a step use.
+pub mod StepLemmas
+pub mod MeetLemmas
+pub mod TakeStepLemmas

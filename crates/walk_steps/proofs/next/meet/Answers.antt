@@ -1,0 +1,229 @@
+use Rattle.std.proofs.Common.{◌≡◌, ◌+◌, ◌≤◌, ◌∷◌, ◌++◌, [], None, Some, Option, Bool, refl, sym, subst, ◌∙◌, ap, arith}
+use Rattle.std.specs.Prelude.{option_map}
+use Rattle.walk_rest.specs.declared.entry.DirEntry.{DirEntry}
+use Rattle.walk_rest.specs.Level.{item_of}
+use Rattle.walk_rest.specs.declared.error.Error.{Error}
+use Rattle.walk_rest.specs.declared.error.Error.TheVariants as error
+use Rattle.walk_rest.specs.Plan.{Seen, seen, enters, item_where}
+use Rattle.walk_steps.specs.Seen.{FailsAsSeen}
+use Rattle.walk_rest.specs.Listing.{manner_of}
+use Rattle.walk_steps.specs.Inside.{chain_of, levels_of, with_top}
+use Rattle.walk_steps.specs.Sound.{IsSound}
+use Rattle.walk_steps.specs.Steps.{TurnsTo}
+use Rattle.walk_steps.specs.Work.{left_to_do}
+use Rattle.walk_steps.proofs.leave.SoundLemmas.{sound_split}
+use Rattle.walk_steps.proofs.leave.WithinLemmas.{keeps_on}
+use Rattle.walk_steps.proofs.next.MeetLemmas.{PutsBack, met_stays, met_error, met_enters, back_sound, back_keeps, back_work, seen_here, enters_sound, enters_keeps, enters_work, refused_keeps}
+use Rattle.walk_steps.proofs.next.meet.Goals as goal
+
+pub returns-in_err-entry-in-Ok-Enters-clause-keeps : goal.returns-in_err-entry-in-Ok-Enters-clause-keeps
+returns-in_err-entry-in-Ok-Enters-clause-keeps g c =
+    let s = g.D.Disk.state c.args.disk.now in
+    let now = g.D.Disk.state c.see.new.disk in
+    let inside = with_top c.args.inside.now c.args.level in
+    let back = back_keeps s now inside c.see.ensures.lists c.see.ensures.tree c.see.ensures.faults c.requires.sound.lists in
+    let r = c.in_err-entry-in-Ok-Enters.ensures.refused in
+    keeps_on s now now inside inside c.enter.new.inside back
+    (refused_keeps now c.args.inside.now c.enter.new.inside c.args.level r.0 r.1 r.2 r.3 c.enter.ensures.same back.lists)
+
+pub returns-then-is_shown-clause-turns : goal.returns-then-is_shown-clause-turns
+returns-then-is_shown-clause-turns g c = λ tells by rest taken.
+    let s = g.D.Disk.state c.args.disk.now in
+    let now = g.D.Disk.state c.see.new.disk in
+    let sorts = g.S.Order.sorts c.args.inside.now.order in
+    let inside = c.args.inside.now in
+    let m = manner_of s.tree inside.options sorts by inside.root in
+    let back : PutsBack s now sorts by inside c.args.level c.args.entry rest = record {
+      taken = taken;
+      first = c.requires.first;
+      faultless = c.requires.faultless;
+      read = c.requires.read;
+      readable = (sound_split s inside.stack.items c.args.level c.requires.sound.lists).1;
+      lists = c.see.ensures.lists.open_list;
+      tree = c.see.ensures.tree.tree;
+      faults = c.see.ensures.faults;
+    } in
+    let seen = (rw c.in-Ok-Stays.field-0-is at c.in-Ok-Stays.ensures.seen) tells m (record { options = refl; device = taken.device }) in
+    met_stays s now sorts by inside c.args.level c.args.entry c.in-Ok-Stays.entry rest _ back seen
+    (ap (λ shown. item_where shown c.in-Ok-Stays.entry) (sym c.is_shown.ensures ∙ c.if-is_shown.true))
+
+pub returns-then-is_shown-clause-sound : goal.returns-then-is_shown-clause-sound
+returns-then-is_shown-clause-sound g c = back_sound (g.D.Disk.state c.args.disk.now) (g.D.Disk.state c.see.new.disk) (g.S.Order.sorts c.args.inside.now.order) (with_top c.args.inside.now c.args.level) c.see.ensures.lists c.requires.sound
+
+pub returns-then-is_shown-clause-keeps : goal.returns-then-is_shown-clause-keeps
+returns-then-is_shown-clause-keeps g c =
+    back_keeps (g.D.Disk.state c.args.disk.now) (g.D.Disk.state c.see.new.disk) (with_top c.args.inside.now c.args.level) c.see.ensures.lists c.see.ensures.tree c.see.ensures.faults c.requires.sound.lists
+
+pub returns-then-is_shown-clause-little : goal.returns-then-is_shown-clause-little
+returns-then-is_shown-clause-little g c = let e = back_work (g.D.Disk.state c.args.disk.now) (g.D.Disk.state c.see.new.disk) (with_top c.args.inside.now c.args.level) c.see.ensures.lists in omega (arith, e)
+
+pub returns-else-is_shown-clause-turns : goal.returns-else-is_shown-clause-turns
+returns-else-is_shown-clause-turns g c = λ tells by rest taken.
+    let s = g.D.Disk.state c.args.disk.now in
+    let now = g.D.Disk.state c.see.new.disk in
+    let sorts = g.S.Order.sorts c.args.inside.now.order in
+    let inside = c.args.inside.now in
+    let m = manner_of s.tree inside.options sorts by inside.root in
+    let back : PutsBack s now sorts by inside c.args.level c.args.entry rest = record {
+      taken = taken;
+      first = c.requires.first;
+      faultless = c.requires.faultless;
+      read = c.requires.read;
+      readable = (sound_split s inside.stack.items c.args.level c.requires.sound.lists).1;
+      lists = c.see.ensures.lists.open_list;
+      tree = c.see.ensures.tree.tree;
+      faults = c.see.ensures.faults;
+    } in
+    let seen = (rw c.in-Ok-Stays.field-0-is at c.in-Ok-Stays.ensures.seen) tells m (record { options = refl; device = taken.device }) in
+    met_stays s now sorts by inside c.args.level c.args.entry c.in-Ok-Stays.entry rest None back seen
+    (ap (λ shown. item_where shown c.in-Ok-Stays.entry) (sym c.is_shown.ensures ∙ c.if-is_shown.false))
+
+pub returns-else-is_shown-clause-sound : goal.returns-else-is_shown-clause-sound
+returns-else-is_shown-clause-sound g c = back_sound (g.D.Disk.state c.args.disk.now) (g.D.Disk.state c.see.new.disk) (g.S.Order.sorts c.args.inside.now.order) (with_top c.args.inside.now c.args.level) c.see.ensures.lists c.requires.sound
+
+pub returns-else-is_shown-clause-keeps : goal.returns-else-is_shown-clause-keeps
+returns-else-is_shown-clause-keeps g c =
+    back_keeps (g.D.Disk.state c.args.disk.now) (g.D.Disk.state c.see.new.disk) (with_top c.args.inside.now c.args.level) c.see.ensures.lists c.see.ensures.tree c.see.ensures.faults c.requires.sound.lists
+
+pub returns-else-is_shown-clause-little : goal.returns-else-is_shown-clause-little
+returns-else-is_shown-clause-little g c = let e = back_work (g.D.Disk.state c.args.disk.now) (g.D.Disk.state c.see.new.disk) (with_top c.args.inside.now c.args.level) c.see.ensures.lists in omega (arith, e)
+
+pub returns-in-Some-clause-turns : goal.returns-in-Some-clause-turns
+returns-in-Some-clause-turns g c = λ tells by rest taken.
+    let s = g.D.Disk.state c.args.disk.now in
+    let now = g.D.Disk.state c.see.new.disk in
+    let sorts = g.S.Order.sorts c.args.inside.now.order in
+    let inside = c.args.inside.now in
+    let m = manner_of s.tree inside.options sorts by inside.root in
+    let back : PutsBack s now sorts by inside c.args.level c.args.entry rest = record {
+      taken = taken;
+      first = c.requires.first;
+      faultless = c.requires.faultless;
+      read = c.requires.read;
+      readable = (sound_split s inside.stack.items c.args.level c.requires.sound.lists).1;
+      lists = c.see.ensures.lists.open_list;
+      tree = c.see.ensures.tree.tree;
+      faults = c.see.ensures.faults;
+    } in
+    let seen = (rw c.in-Ok-Enters.field-0-is at c.in-Ok-Enters.ensures.seen) tells m (record { options = refl; device = taken.device }) in
+    let is : Seen = enters c.in-Ok-Enters.entry c.in-Ok-Enters.folder in
+    let turned = met_enters s now sorts by inside c.enter.new.inside c.args.level c.args.entry c.in-Ok-Enters.entry c.in-Ok-Enters.folder c.in_ok-entry-in-Ok-Enters.field-0 rest back (seen_here s.tree m inside c.args.level c.args.entry is seen)
+    c.in_ok-entry-in-Ok-Enters.ensures.entered c.enter.ensures.same c.enter.ensures.device in
+    let T : Option DirEntry → Type 0 = λ given. TurnsTo s sorts by rest (option_map item_of given) now c.enter.new.inside in
+    subst T c.in-Some.is turned
+
+pub returns-in-Some-clause-sound : goal.returns-in-Some-clause-sound
+returns-in-Some-clause-sound g c =
+    let s = g.D.Disk.state c.args.disk.now in
+    let now = g.D.Disk.state c.see.new.disk in
+    let sorts = g.S.Order.sorts c.args.inside.now.order in
+    let back = back_sound s now sorts (with_top c.args.inside.now c.args.level) c.see.ensures.lists c.requires.sound in
+    let P : Bool → Type 0 = λ b. IsSound now b c.enter.new.inside in
+    subst P (sym (ap g.S.Order.sorts c.enter.ensures.same.order))
+    (enters_sound now sorts c.args.inside.now c.enter.new.inside c.args.level c.in-Ok-Enters.entry c.in-Ok-Enters.folder c.in_ok-entry-in-Ok-Enters.field-0 c.in_ok-entry-in-Ok-Enters.ensures.entered c.enter.ensures.same c.requires.read back)
+
+pub returns-in-Some-clause-keeps : goal.returns-in-Some-clause-keeps
+returns-in-Some-clause-keeps g c =
+    let s = g.D.Disk.state c.args.disk.now in
+    let now = g.D.Disk.state c.see.new.disk in
+    let inside = with_top c.args.inside.now c.args.level in
+    let back = back_keeps s now inside c.see.ensures.lists c.see.ensures.tree c.see.ensures.faults c.requires.sound.lists in
+    keeps_on s now now inside inside c.enter.new.inside back
+    (enters_keeps now c.args.inside.now c.enter.new.inside c.args.level c.in-Ok-Enters.entry c.in-Ok-Enters.folder c.in_ok-entry-in-Ok-Enters.field-0 c.in_ok-entry-in-Ok-Enters.ensures.entered c.enter.ensures.same back.lists)
+
+pub returns-in-Some-clause-little : goal.returns-in-Some-clause-little
+returns-in-Some-clause-little g c =
+    let s = g.D.Disk.state c.args.disk.now in
+    let now = g.D.Disk.state c.see.new.disk in
+    let e = back_work s now (with_top c.args.inside.now c.args.level) c.see.ensures.lists in
+    let w = enters_work now c.args.inside.now c.enter.new.inside c.args.level c.in-Ok-Enters.entry c.in-Ok-Enters.folder c.in_ok-entry-in-Ok-Enters.field-0 c.in_ok-entry-in-Ok-Enters.ensures.entered in
+    omega (arith, e, w)
+
+pub returns-in-None-clause-turns : goal.returns-in-None-clause-turns
+returns-in-None-clause-turns g c = λ tells by rest taken.
+    let s = g.D.Disk.state c.args.disk.now in
+    let now = g.D.Disk.state c.see.new.disk in
+    let sorts = g.S.Order.sorts c.args.inside.now.order in
+    let inside = c.args.inside.now in
+    let m = manner_of s.tree inside.options sorts by inside.root in
+    let back : PutsBack s now sorts by inside c.args.level c.args.entry rest = record {
+      taken = taken;
+      first = c.requires.first;
+      faultless = c.requires.faultless;
+      read = c.requires.read;
+      readable = (sound_split s inside.stack.items c.args.level c.requires.sound.lists).1;
+      lists = c.see.ensures.lists.open_list;
+      tree = c.see.ensures.tree.tree;
+      faults = c.see.ensures.faults;
+    } in
+    let seen = (rw c.in-Ok-Enters.field-0-is at c.in-Ok-Enters.ensures.seen) tells m (record { options = refl; device = taken.device }) in
+    let is : Seen = enters c.in-Ok-Enters.entry c.in-Ok-Enters.folder in
+    let turned = met_enters s now sorts by inside c.enter.new.inside c.args.level c.args.entry c.in-Ok-Enters.entry c.in-Ok-Enters.folder c.in_ok-entry-in-Ok-Enters.field-0 rest back (seen_here s.tree m inside c.args.level c.args.entry is seen)
+    c.in_ok-entry-in-Ok-Enters.ensures.entered c.enter.ensures.same c.enter.ensures.device in
+    let T : Option DirEntry → Type 0 = λ given. TurnsTo s sorts by rest (option_map item_of given) now c.enter.new.inside in
+    subst T c.in-None.is turned
+
+pub returns-in-None-clause-sound : goal.returns-in-None-clause-sound
+returns-in-None-clause-sound g c =
+    let s = g.D.Disk.state c.args.disk.now in
+    let now = g.D.Disk.state c.see.new.disk in
+    let sorts = g.S.Order.sorts c.args.inside.now.order in
+    let back = back_sound s now sorts (with_top c.args.inside.now c.args.level) c.see.ensures.lists c.requires.sound in
+    let P : Bool → Type 0 = λ b. IsSound now b c.enter.new.inside in
+    subst P (sym (ap g.S.Order.sorts c.enter.ensures.same.order))
+    (enters_sound now sorts c.args.inside.now c.enter.new.inside c.args.level c.in-Ok-Enters.entry c.in-Ok-Enters.folder c.in_ok-entry-in-Ok-Enters.field-0 c.in_ok-entry-in-Ok-Enters.ensures.entered c.enter.ensures.same c.requires.read back)
+
+pub returns-in-None-clause-keeps : goal.returns-in-None-clause-keeps
+returns-in-None-clause-keeps g c =
+    let s = g.D.Disk.state c.args.disk.now in
+    let now = g.D.Disk.state c.see.new.disk in
+    let inside = with_top c.args.inside.now c.args.level in
+    let back = back_keeps s now inside c.see.ensures.lists c.see.ensures.tree c.see.ensures.faults c.requires.sound.lists in
+    keeps_on s now now inside inside c.enter.new.inside back
+    (enters_keeps now c.args.inside.now c.enter.new.inside c.args.level c.in-Ok-Enters.entry c.in-Ok-Enters.folder c.in_ok-entry-in-Ok-Enters.field-0 c.in_ok-entry-in-Ok-Enters.ensures.entered c.enter.ensures.same back.lists)
+
+pub returns-in-None-clause-little : goal.returns-in-None-clause-little
+returns-in-None-clause-little g c =
+    let s = g.D.Disk.state c.args.disk.now in
+    let now = g.D.Disk.state c.see.new.disk in
+    let e = back_work s now (with_top c.args.inside.now c.args.level) c.see.ensures.lists in
+    let w = enters_work now c.args.inside.now c.enter.new.inside c.args.level c.in-Ok-Enters.entry c.in-Ok-Enters.folder c.in_ok-entry-in-Ok-Enters.field-0 c.in_ok-entry-in-Ok-Enters.ensures.entered in
+    omega (arith, e, w)
+
+pub returns-in_err-named-in-Err-clause-keeps : goal.returns-in_err-named-in-Err-clause-keeps
+returns-in_err-named-in-Err-clause-keeps g c =
+    back_keeps (g.D.Disk.state c.args.disk.now) (g.D.Disk.state c.see.new.disk) (with_top c.args.inside.now c.args.level) c.see.ensures.lists c.see.ensures.tree c.see.ensures.faults c.requires.sound.lists
+
+pub returns-in_ok-named-in-Err-clause-turns : goal.returns-in_ok-named-in-Err-clause-turns
+returns-in_ok-named-in-Err-clause-turns g c = λ tells by rest taken.
+    let s = g.D.Disk.state c.args.disk.now in
+    let now = g.D.Disk.state c.see.new.disk in
+    let sorts = g.S.Order.sorts c.args.inside.now.order in
+    let inside = c.args.inside.now in
+    let m = manner_of s.tree inside.options sorts by inside.root in
+    let back : PutsBack s now sorts by inside c.args.level c.args.entry rest = record {
+      taken = taken;
+      first = c.requires.first;
+      faultless = c.requires.faultless;
+      read = c.requires.read;
+      readable = (sound_split s inside.stack.items c.args.level c.requires.sound.lists).1;
+      lists = c.see.ensures.lists.open_list;
+      tree = c.see.ensures.tree.tree;
+      faults = c.see.ensures.faults;
+    } in
+    let F : Error → Type 0 = FailsAsSeen s.faults now.faults c.args.entry (seen s.tree m (chain_of (with_top inside c.args.level)) c.args.entry) in
+    met_error s now sorts by inside c.args.level c.args.entry rest c.in_ok-named-in-Err.field-0 back c.requires.depth c.in_ok-named-in-Err.ensures.named
+    (subst F (sym c.in_ok-named-in-Err.ensures.same) (c.in-Err.ensures.failed tells m (record { options = refl; device = taken.device })))
+
+pub returns-in_ok-named-in-Err-clause-named : goal.returns-in_ok-named-in-Err-clause-named
+returns-in_ok-named-in-Err-clause-named g c = λ e. c.in_ok-named-in-Err.ensures.named (let f : c.in_ok-named-in-Err.field-0 ≡ error.NoMemory = cc in f)
+
+pub returns-in_ok-named-in-Err-clause-sound : goal.returns-in_ok-named-in-Err-clause-sound
+returns-in_ok-named-in-Err-clause-sound g c = back_sound (g.D.Disk.state c.args.disk.now) (g.D.Disk.state c.see.new.disk) (g.S.Order.sorts c.args.inside.now.order) (with_top c.args.inside.now c.args.level) c.see.ensures.lists c.requires.sound
+
+pub returns-in_ok-named-in-Err-clause-keeps : goal.returns-in_ok-named-in-Err-clause-keeps
+returns-in_ok-named-in-Err-clause-keeps g c =
+    back_keeps (g.D.Disk.state c.args.disk.now) (g.D.Disk.state c.see.new.disk) (with_top c.args.inside.now c.args.level) c.see.ensures.lists c.see.ensures.tree c.see.ensures.faults c.requires.sound.lists
+
+pub returns-in_ok-named-in-Err-clause-little : goal.returns-in_ok-named-in-Err-clause-little
+returns-in_ok-named-in-Err-clause-little g c = let e = back_work (g.D.Disk.state c.args.disk.now) (g.D.Disk.state c.see.new.disk) (with_top c.args.inside.now c.args.level) c.see.ensures.lists in omega (arith, e)

@@ -1,0 +1,118 @@
+use Rattle.std.proofs.Common.{◌≡◌, ◌+◌, ◌≤◌, ◌<◌, ◌++◌, [], Some, None, Bool, ℕ, List, Option, refl, sym, subst, ◌∙◌, ap, arith, inl, inr, append-nil}
+use Rattle.walk_rest.specs.declared.level.Level.{Level}
+use Rattle.walk_rest.specs.Plan.{Item}
+use Rattle.walk_steps.specs.Inside.{HasRest, levels_of, top_levels, with_top}
+use Rattle.walk_steps.specs.Steps.{MovesTo, StepsTo, TurnsTo}
+use Rattle.walk_steps.specs.Sound.{IsSound, opens, open_limit}
+use Rattle.walk_steps.specs.Work.{left_to_do, work_in}
+use Rattle.walk_steps.proofs.leave.WithinLemmas.{keeps_on, keeps_same, retop_levels, is_sound_retop, within_on, within_more, within_fewer, gone_lighter}
+use Rattle.walk_steps.proofs.next.StepLemmas.{moves_none, moves_more, moves_last, none_left, rest_retop}
+use Rattle.walk_steps.proofs.next.next_item.Goals as goal
+
+pub loop-level-init : goal.loop-level-init
+loop-level-init g c = record {
+  sound = c.requires.sound;
+  keeps = keeps_same (g.D.Disk.state c.args.disk.now) c.args.inside.now c.args.inside.now (record { options = refl; order = refl; root = refl }) refl c.requires.sound.lists;
+  less = omega arith;
+  moved = λ tells by rest same h. moves_none (g.D.Disk.state c.args.disk.now) (g.S.Order.sorts c.args.inside.now.order) by c.args.inside.now rest h;
+}
+
+pub loop-level-preserved : goal.loop-level-preserved
+loop-level-preserved g c =
+    let s0 = g.D.Disk.state c.args.disk.now in
+    let s = g.D.Disk.state c.loop-level.disk in
+    let now = g.D.Disk.state c.turn.new.disk in
+    let inv = c.loop-level.invariant in
+    let k = c.turn.ensures.keeps in
+    let top = sym c.take.ensures.value ∙ c.in-Some.is in
+    let mid = with_top c.loop-level.inside c.in-Some.level in
+    let levels = retop_levels c.loop-level.inside c.loop-level.inside c.in-Some.level top refl in
+    let put = keeps_same s c.loop-level.inside mid (record { options = refl; order = refl; root = refl }) levels inv.sound.lists in
+    let order = ap g.S.Order.sorts inv.keeps.same.order in
+    let order_now = ap g.S.Order.sorts (k.same.order ∙ inv.keeps.same.order) in
+    let keeps = keeps_on s0 s now c.args.inside.now c.loop-level.inside c.turn.new.inside inv.keeps (keeps_on s s now c.loop-level.inside mid c.turn.new.inside put k) in
+    let P : Bool → Type 0 = λ b. IsSound now b c.turn.new.inside in
+    record {
+      sound = subst P order_now c.in-Ok-None.ensures.sound;
+      keeps = keeps;
+      less = let a = c.in-Ok-None.ensures.less in let b = inv.less in let d = ap (work_in s) levels in omega (arith, a, b, d);
+      moved = λ tells by rest same h.
+          (let m = inv.moved tells by rest same h in
+          let C : _ → Type 0 = λ o. g.S.Order.compares_by o by in
+          let H : Bool → Type 0 = λ b. HasRest s b by mid m.new in
+          let has = rest_retop s (g.S.Order.sorts c.args.inside.now.order) by c.loop-level.inside mid m.new (record { options = refl; order = refl; root = refl }) refl levels m.left in
+          let T : Option Item → Type 0 = λ a. TurnsTo s (g.S.Order.sorts c.loop-level.inside.order) by m.new a now c.turn.new.inside in
+          let turned = subst T c.in-Ok-None.field-0-is (c.in-Ok-None.ensures.turns tells by m.new (subst C (sym inv.keeps.same.order) same) (subst H (sym order) has)) in
+          let M : Bool → Type 0 = λ b. MovesTo s b by m.new now c.turn.new.inside in
+          moves_more s0 s now (g.S.Order.sorts c.args.inside.now.order) by c.loop-level.inside c.turn.new.inside rest inv.keeps.faults k.faults m (subst M order turned));
+    }
+
+pub returns-in-Ok-Some-clause-step : goal.returns-in-Ok-Some-clause-step
+returns-in-Ok-Some-clause-step g c = λ tells by rest same h.
+    let s0 = g.D.Disk.state c.args.disk.now in
+    let s = g.D.Disk.state c.loop-level.disk in
+    let now = g.D.Disk.state c.turn.new.disk in
+    let inv = c.loop-level.invariant in
+    let mid = with_top c.loop-level.inside c.in-Some.level in
+    let levels = retop_levels c.loop-level.inside c.loop-level.inside c.in-Some.level (sym c.take.ensures.value ∙ c.in-Some.is) refl in
+    let order = ap g.S.Order.sorts inv.keeps.same.order in
+    let m = inv.moved tells by rest same h in
+    let C : _ → Type 0 = λ o. g.S.Order.compares_by o by in
+    let H : Bool → Type 0 = λ b. HasRest s b by mid m.new in
+    let has = rest_retop s (g.S.Order.sorts c.args.inside.now.order) by c.loop-level.inside mid m.new (record { options = refl; order = refl; root = refl }) refl levels m.left in
+    let T : Option Item → Type 0 = λ a. TurnsTo s (g.S.Order.sorts c.loop-level.inside.order) by m.new a now c.turn.new.inside in
+    let turned = subst T c.in-Ok-Some.field-0-is (c.in-Ok-Some.ensures.turns tells by m.new (subst C (sym inv.keeps.same.order) same) (subst H (sym order) has)) in
+    let M : Bool → Type 0 = λ b. StepsTo s b by m.new (Some c.in-Ok-Some.item) now c.turn.new.inside in
+    inr (moves_last s0 s now (g.S.Order.sorts c.args.inside.now.order) by c.loop-level.inside c.turn.new.inside rest (Some c.in-Ok-Some.item) inv.keeps.faults c.turn.ensures.keeps.faults m (subst M order turned))
+
+pub returns-in-Ok-Some-clause-gave_up : goal.returns-in-Ok-Some-clause-gave_up
+returns-in-Ok-Some-clause-gave_up g c = λ e. absurd ((rw c.in-Ok-Some.field-0-is at c.in-Ok-Some.ensures.named) e)
+
+pub returns-in-Ok-Some-clause-within : goal.returns-in-Ok-Some-clause-within
+returns-in-Ok-Some-clause-within g c =
+    let s0 = g.D.Disk.state c.args.disk.now in
+    let s = g.D.Disk.state c.loop-level.disk in
+    let now = g.D.Disk.state c.turn.new.disk in
+    let inv = c.loop-level.invariant in
+    let top = sym c.take.ensures.value ∙ c.in-Some.is in
+    let mid = with_top c.loop-level.inside c.in-Some.level in
+    let put = keeps_same s c.loop-level.inside mid (record { options = refl; order = refl; root = refl }) (retop_levels c.loop-level.inside c.loop-level.inside c.in-Some.level top refl) inv.sound.lists in
+    (keeps_on s0 s now c.args.inside.now c.loop-level.inside c.turn.new.inside inv.keeps (keeps_on s s now c.loop-level.inside mid c.turn.new.inside put c.turn.ensures.keeps)).within
+
+pub returns-in-Err-clause-less : goal.returns-in-Err-clause-less
+returns-in-Err-clause-less g c =
+    gone_lighter (g.D.Disk.state c.loop-level.disk) (g.D.Disk.state c.give_up.new.disk) c.loop-level.inside c.give_up.new.inside c.in-Some.level _ (sym c.take.ensures.value ∙ c.in-Some.is) c.give_up.ensures.gone
+    (let a = c.turn.ensures.keeps.later in let b = c.give_up.ensures.listed in omega (arith, a, b)) c.loop-level.invariant.less
+
+pub returns-in-Err-clause-within : goal.returns-in-Err-clause-within
+returns-in-Err-clause-within g c =
+    let s0 = g.D.Disk.state c.args.disk.now in
+    let s = g.D.Disk.state c.loop-level.disk in
+    let now = g.D.Disk.state c.turn.new.disk in
+    let inv = c.loop-level.invariant in
+    let limit = open_limit c.args.inside.now.options in
+    let top = sym c.take.ensures.value ∙ c.in-Some.is in
+    let mid = with_top c.loop-level.inside c.in-Some.level in
+    let put = keeps_same s c.loop-level.inside mid (record { options = refl; order = refl; root = refl }) (retop_levels c.loop-level.inside c.loop-level.inside c.in-Some.level top refl) inv.sound.lists in
+    let so_far = (keeps_on s0 s now c.args.inside.now c.loop-level.inside c.turn.new.inside inv.keeps (keeps_on s s now c.loop-level.inside mid c.turn.new.inside put c.turn.ensures.keeps)).within in
+    let closed = within_more 0 limit now (g.D.Disk.state c.give_up.new.disk) (levels_of c.turn.new.inside) [] (omega arith) c.give_up.ensures.within in
+    let all = within_on limit s0 now (g.D.Disk.state c.give_up.new.disk) (levels_of c.args.inside.now) (levels_of c.turn.new.inside) [] so_far closed in
+    let none = ap opens c.give_up.ensures.gone in
+    λ others e. let w = all others e in (let a = w.0 in omega (arith, a, none), w.1)
+
+pub returns-clause-step : goal.returns-clause-step
+returns-clause-step g c = λ tells by rest same h.
+    let s = g.D.Disk.state c.loop-level.disk in
+    let inv = c.loop-level.invariant in
+    let top = sym c.take.ensures.value ∙ c.in_default.is in
+    let empty = inv.sound.rooted top in
+    let none : levels_of c.loop-level.inside ≡ [] = ap (λ (t : Option Level). c.loop-level.inside.stack.items ++ top_levels t) top ∙ (append-nil _ ∙ empty) in
+    let after = ap (λ (t : Option Level). c.loop-level.inside.stack.items ++ top_levels t) c.take.ensures.after ∙ (append-nil _ ∙ empty) in
+    inr (none_left (g.D.Disk.state c.args.disk.now) s (g.S.Order.sorts c.args.inside.now.order) by c.loop-level.inside _ rest none after (record { options = refl; order = refl; root = refl }) refl (inv.moved tells by rest same h))
+
+pub returns-clause-within : goal.returns-clause-within
+returns-clause-within g c =
+    let inv = c.loop-level.invariant in
+    let top = sym c.take.ensures.value ∙ c.in_default.is in
+    let after = ap (λ (t : Option Level). opens (c.loop-level.inside.stack.items ++ top_levels t)) (c.take.ensures.after ∙ sym top) in
+    λ others e. let w = inv.keeps.within others e in (let a = w.0 in omega (arith, a, after), w.1)

@@ -1,0 +1,23 @@
+use Rattle.std.proofs.Common.{◌≤◌}
+use Rattle.std.specs.Prelude.{IsTrue}
+use Rattle.std.specs.declared.cmp.Ordering.{Ordering}
+use Rattle.walk_rest.specs.declared.entry.DirEntry.{DirEntry}
+use Rattle.walk_rest.specs.Rest.{Rest}
+use Rattle.walk_steps.specs.Inside.{HasRest}
+use Rattle.walk_steps.specs.Sound.{IsSound, KeepsWalk}
+use Rattle.walk_steps.specs.Steps.{MovesTo}
+use Rattle.walk_steps.specs.Work.{left_to_do}
+use Rattle.walk_steps.proofs.next.next_item.Given as goal
+
+abbrev pub invariant-loop-level : goal.invariant-loop-level
+invariant-loop-level g l = record {
+  sound : IsSound (g.D.Disk.state l.disk) (g.S.Order.sorts l.fn.inside.order) l.inside;
+  keeps : KeepsWalk (g.D.Disk.state l.fn.disk) l.fn.inside (g.D.Disk.state l.disk) l.inside;
+  less : left_to_do (g.D.Disk.state l.disk) l.inside ≤ left_to_do (g.D.Disk.state l.fn.disk) l.fn.inside;
+  moved : IsTrue g.D.Disk.tells → (by : DirEntry → DirEntry → Ordering) → (rest : Rest) → g.S.Order.compares_by l.fn.inside.order by
+      → HasRest (g.D.Disk.state l.fn.disk) (g.S.Order.sorts l.fn.inside.order) by l.fn.inside rest
+      → MovesTo (g.D.Disk.state l.fn.disk) (g.S.Order.sorts l.fn.inside.order) by rest (g.D.Disk.state l.disk) l.inside;
+}
+
+abbrev pub decreases-loop-level : goal.decreases-loop-level
+decreases-loop-level g l = left_to_do (g.D.Disk.state l.disk) l.inside

@@ -1,0 +1,124 @@
+use Rattle.std.proofs.Common.{◌≡◌, ◌<◌, [], None, Some, ℕ, refl, sym, subst, ◌∙◌, ap, arith}
+use Rattle.std.specs.Prelude.{OnOk}
+use Rattle.walk_rest.specs.declared.level.Level.{Level}
+use Rattle.walk_steps.specs.Inside.{with_top}
+use Rattle.walk_steps.specs.Work.{left_to_do}
+use Rattle.walk_steps.specs.Steps.{LiesUnread}
+use Rattle.walk_steps.proofs.leave.WithinLemmas.{keeps_on, keeps_relevel, is_sound_relevel, below_of, fault_lighter, first_lighter, weight_relevel}
+use Rattle.walk_steps.proofs.next.StepLemmas.{fault_turn, first_turn, rest_relevel, no_items, unread_of}
+use Rattle.walk_steps.proofs.next.turn.Goals as goal
+
+pub returns-in-Some-clause-turns : goal.returns-in-Some-clause-turns
+returns-in-Some-clause-turns g c = λ tells by rest same h.
+    fault_turn (g.D.Disk.state c.args.disk.now) (g.S.Order.sorts c.args.inside.now.order) by c.args.inside.now c.args.level _ c.in-Some.due rest h c.in-Some.ensures.items refl refl refl
+
+pub returns-in-Some-clause-sound : goal.returns-in-Some-clause-sound
+returns-in-Some-clause-sound g c = is_sound_relevel (g.D.Disk.state c.args.disk.now) (g.S.Order.sorts c.args.inside.now.order) c.args.inside.now c.args.level _ refl refl c.requires.sound
+
+pub returns-in-Some-clause-keeps : goal.returns-in-Some-clause-keeps
+returns-in-Some-clause-keeps g c = keeps_relevel (g.D.Disk.state c.args.disk.now) c.args.inside.now c.args.level _ refl refl c.requires.sound.lists
+
+pub returns-in-Some-clause-less : goal.returns-in-Some-clause-less
+returns-in-Some-clause-less g c = fault_lighter (g.D.Disk.state c.args.disk.now) c.args.inside.now c.args.level _ c.in-Some.due refl refl refl c.in-Some.ensures.items
+
+pub returns-in-Some-take-clause-turns : goal.returns-in-Some-take-clause-turns
+returns-in-Some-take-clause-turns g c = λ tells by rest same h.
+    let faultless = no_items c.args.level.faults.items (let z = c.in_default.ensures.cases.0 in omega (arith, z, c.args.level.faults.ok.0)) in
+    let popped = no_items c.pop.new.self.items (let z = c.in_default.ensures.cases.1 in omega (arith, z, c.pop.new.self.ok.0)) in
+    first_turn (g.D.Disk.state c.args.disk.now) (g.S.Order.sorts c.args.inside.now.order) by c.args.inside.now c.args.level _ c.in-Some-take.entry rest h faultless
+    (sym c.take.ensures.value ∙ c.in-Some-take.is) refl c.take.ensures.after refl popped
+
+pub returns-in-Some-take-clause-sound : goal.returns-in-Some-take-clause-sound
+returns-in-Some-take-clause-sound g c = is_sound_relevel (g.D.Disk.state c.args.disk.now) (g.S.Order.sorts c.args.inside.now.order) c.args.inside.now c.args.level _ refl refl c.requires.sound
+
+pub returns-in-Some-take-clause-keeps : goal.returns-in-Some-take-clause-keeps
+returns-in-Some-take-clause-keeps g c = keeps_relevel (g.D.Disk.state c.args.disk.now) c.args.inside.now c.args.level _ refl refl c.requires.sound.lists
+
+pub returns-in-Some-take-clause-less : goal.returns-in-Some-take-clause-less
+returns-in-Some-take-clause-less g c =
+    let faultless = no_items c.args.level.faults.items (let z = c.in_default.ensures.cases.0 in omega (arith, z, c.args.level.faults.ok.0)) in
+    let popped = no_items c.pop.new.self.items (let z = c.in_default.ensures.cases.1 in omega (arith, z, c.pop.new.self.ok.0)) in
+    first_lighter (g.D.Disk.state c.args.disk.now) c.args.inside.now c.args.level _ c.in-Some-take.entry refl refl (sym c.take.ensures.value ∙ c.in-Some-take.is) c.take.ensures.after (popped ∙ sym faultless)
+
+pub take_next-requires-clause-sound : goal.take_next-requires-clause-sound
+take_next-requires-clause-sound g c = is_sound_relevel (g.D.Disk.state c.args.disk.now) (g.S.Order.sorts c.args.inside.now.order) c.args.inside.now c.args.level _ refl refl c.requires.sound
+
+pub returns-then-is_read-clause-turns : goal.returns-then-is_read-clause-turns
+returns-then-is_read-clause-turns g c = λ tells by rest same h.
+    let faultless = no_items c.args.level.faults.items (let z = c.in_default.ensures.cases.0 in omega (arith, z, c.args.level.faults.ok.0)) in
+    let popped = no_items c.pop.new.self.items (let z = c.in_default.ensures.cases.1 in omega (arith, z, c.pop.new.self.ok.0)) in
+    let first = c.take.ensures.after ∙ sym (sym c.take.ensures.value ∙ c.in_default-take.is) in
+    c.take_next.ensures.turns tells by rest
+    (rest_relevel (g.D.Disk.state c.args.disk.now) (g.S.Order.sorts c.args.inside.now.order) by c.args.inside.now c.args.level _ rest refl first refl (popped ∙ sym faultless) h)
+
+pub returns-then-is_read-clause-keeps : goal.returns-then-is_read-clause-keeps
+returns-then-is_read-clause-keeps g c =
+    keeps_on (g.D.Disk.state c.args.disk.now) (g.D.Disk.state c.args.disk.now) (g.D.Disk.state c.take_next.new.disk) _ _ _
+    (keeps_relevel (g.D.Disk.state c.args.disk.now) c.args.inside.now c.args.level _ refl refl c.requires.sound.lists) c.take_next.ensures.keeps
+
+pub returns-then-is_read-clause-less : goal.returns-then-is_read-clause-less
+returns-then-is_read-clause-less g c =
+    let s = g.D.Disk.state c.args.disk.now in
+    let faultless = no_items c.args.level.faults.items (let z = c.in_default.ensures.cases.0 in omega (arith, z, c.args.level.faults.ok.0)) in
+    let popped = no_items c.pop.new.self.items (let z = c.in_default.ensures.cases.1 in omega (arith, z, c.pop.new.self.ok.0)) in
+    let first = c.take.ensures.after ∙ sym (sym c.take.ensures.value ∙ c.in_default-take.is) in
+    let mid : Level = record c.args.level { first = c.take.new.self; faults = c.pop.new.self } in
+    let same = weight_relevel s c.args.inside.now c.args.level mid refl refl first (popped ∙ sym faultless) in
+    let P : ℕ → Type 0 = λ n. OnOk c.take_next.result (left_to_do (g.D.Disk.state c.take_next.new.disk) c.take_next.new.inside < n) in
+    subst P same c.take_next.ensures.less
+
+pub read_root-requires-clause-sound : goal.read_root-requires-clause-sound
+read_root-requires-clause-sound g c = below_of (g.D.Disk.state c.args.disk.now) (g.S.Order.sorts c.args.inside.now.order) c.args.inside.now c.args.level c.requires.sound
+
+pub returns-in-None-clause-turns : goal.returns-in-None-clause-turns
+returns-in-None-clause-turns g c = λ tells by rest same h.
+    let lying : LiesUnread c.args.level None = record {
+      folder_is = c.in-None.is;
+      first = sym c.take.ensures.value ∙ c.in_default-take.is;
+      unread = unread_of c.args.level.entries (λ r. let e = sym c.if-is_read.false ∙ c.is_read.ensures.1 r in cc e);
+      faultless = no_items c.args.level.faults.items (let z = c.in_default.ensures.cases.0 in omega (arith, z, c.args.level.faults.ok.0));
+    } in
+    c.read_root.ensures.turns tells by c.args.level rest lying h
+
+pub returns-in-None-clause-keeps : goal.returns-in-None-clause-keeps
+returns-in-None-clause-keeps g c =
+    let lying : LiesUnread c.args.level None = record {
+      folder_is = c.in-None.is;
+      first = sym c.take.ensures.value ∙ c.in_default-take.is;
+      unread = unread_of c.args.level.entries (λ r. let e = sym c.if-is_read.false ∙ c.is_read.ensures.1 r in cc e);
+      faultless = no_items c.args.level.faults.items (let z = c.in_default.ensures.cases.0 in omega (arith, z, c.args.level.faults.ok.0));
+    } in
+    c.read_root.ensures.keeps c.args.level lying
+
+pub read_directory-requires-clause-sound : goal.read_directory-requires-clause-sound
+read_directory-requires-clause-sound g c = below_of (g.D.Disk.state c.args.disk.now) (g.S.Order.sorts c.args.inside.now.order) c.args.inside.now c.args.level c.requires.sound
+
+pub returns-in_err-read_directory-in-Some-folder-clause-keeps : goal.returns-in_err-read_directory-in-Some-folder-clause-keeps
+returns-in_err-read_directory-in-Some-folder-clause-keeps g c =
+    let lying : LiesUnread c.args.level (Some c.in-Some-folder.folder) = record {
+      folder_is = c.in-Some-folder.is;
+      first = sym c.take.ensures.value ∙ c.in_default-take.is;
+      unread = unread_of c.args.level.entries (λ r. let e = sym c.if-is_read.false ∙ c.is_read.ensures.1 r in cc e);
+      faultless = no_items c.args.level.faults.items (let z = c.in_default.ensures.cases.0 in omega (arith, z, c.args.level.faults.ok.0));
+    } in
+    c.read_directory.ensures.keeps c.args.level lying
+
+pub returns-clause-turns : goal.returns-clause-turns
+returns-clause-turns g c = λ tells by rest same h.
+    let lying : LiesUnread c.args.level (Some c.in-Some-folder.folder) = record {
+      folder_is = c.in-Some-folder.is;
+      first = sym c.take.ensures.value ∙ c.in_default-take.is;
+      unread = unread_of c.args.level.entries (λ r. let e = sym c.if-is_read.false ∙ c.is_read.ensures.1 r in cc e);
+      faultless = no_items c.args.level.faults.items (let z = c.in_default.ensures.cases.0 in omega (arith, z, c.args.level.faults.ok.0));
+    } in
+    c.in_ok-read_directory-in-Some-folder.ensures.moves tells by c.args.level rest same lying h
+
+pub returns-clause-keeps : goal.returns-clause-keeps
+returns-clause-keeps g c =
+    let lying : LiesUnread c.args.level (Some c.in-Some-folder.folder) = record {
+      folder_is = c.in-Some-folder.is;
+      first = sym c.take.ensures.value ∙ c.in_default-take.is;
+      unread = unread_of c.args.level.entries (λ r. let e = sym c.if-is_read.false ∙ c.is_read.ensures.1 r in cc e);
+      faultless = no_items c.args.level.faults.items (let z = c.in_default.ensures.cases.0 in omega (arith, z, c.args.level.faults.ok.0));
+    } in
+    c.read_directory.ensures.keeps c.args.level lying

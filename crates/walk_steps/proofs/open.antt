@@ -1,0 +1,3 @@
+-- What the proofs about reading a directory use.
+pub mod OpenLemmas
+pub mod RootLemmas

@@ -1,0 +1,2 @@
+-- What the proofs about entries use.
+pub mod SightLemmas

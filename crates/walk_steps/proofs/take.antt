@@ -1,0 +1,2 @@
+-- What the proofs about taking an entry use.
+pub mod TakeLemmas

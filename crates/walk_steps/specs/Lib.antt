@@ -1,0 +1,6 @@
+pub mod Inside
+pub mod Sound
+pub mod Work
+pub mod Seen
+pub mod Steps
+pub mod Lists

@@ -1,0 +1,94 @@
+-- What the parts of a step do to what is left of a walk.
+use Rattle.std.specs.Prelude.{◌≡◌, ◌⊎◌, ℕ, Bool, true, IsTrue, List, [], ◌∷◌, ◌++◌, Option, Some, None, Err, option_map}
+use Rattle.std.specs.declared.cmp.Ordering.{Ordering}
+use Rattle.sd_edge.specs.Count.{HasRisen}
+use Rattle.sd_edge.specs.Tree.{Tree}
+use Rattle.sd_edge.specs.Disk.{DiskState}
+use Rattle.walk_rest.specs.declared.entry.DirEntry.{DirEntry}
+use Rattle.walk_rest.specs.declared.error.Error.{Error}
+use Rattle.walk_rest.specs.declared.error.Error.TheVariants as error
+use Rattle.walk_rest.specs.declared.level.Folder.{Folder}
+use Rattle.walk_rest.specs.declared.level.Entries.TheVariants.{Unread}
+use Rattle.walk_rest.specs.declared.level.Level.{Level}
+use Rattle.walk_rest.specs.declared.options.Options.{Options}
+use Rattle.walk_rest.specs.Plan.{Item, IsPlan, item_before, item_after}
+use Rattle.walk_rest.specs.Listing.{Beginning, ends, begins, beginning, device_to}
+use Rattle.walk_rest.specs.Rest.{Part, Rest, Moves, IsStep, Skips}
+use Rattle.walk_rest.specs.Level.{HasParts, IsAllowed, chain_above, with_folder, item_of}
+use Rattle.walk_steps.specs.declared.inside.Inside.{Inside}
+use Rattle.walk_steps.specs.Inside.{HasRest, entries_due, manner_in, levels_of, SameWalk}
+
+-- ---- the root
+
+-- a call on the root failed, and was counted; or it leads nowhere, as the tree has it
+abbrev pub CannotBegin : Bool → DiskState → DiskState → Options → List ℕ → Error → Type 0
+CannotBegin tells old new options root failed =
+    (failed ≡ error.NoMemory) ⊎ (((failed ≡ error.Disk (Some root) 0) × HasRisen old.faults new.faults)
+    ⊎ ((failed ≡ error.Absent root 0) × (IsTrue tells → beginning old.tree options root ≡ ends failed)))
+
+module _ {S : Type 0} where
+  -- ---- steps
+
+  -- the walk moved on, with no answer yet
+  pub record MovesTo (before : DiskState) (sorts : Bool) (compare : DirEntry → DirEntry → Ordering) (rest : Rest) (now : DiskState) (inside : Inside S) : Type 0 where
+    pub cuts : ℕ
+    pub new : Rest
+    pub moves : Moves cuts rest new
+    pub left : HasRest now sorts compare inside new
+    pub allowed : IsAllowed cuts before.faults now.faults
+
+  -- the walk made one step
+  pub record StepsTo (before : DiskState) (sorts : Bool) (compare : DirEntry → DirEntry → Ordering) (rest : Rest) (answer : Option Item) (now : DiskState) (inside : Inside S) : Type 0 where
+    pub cuts : ℕ
+    pub new : Rest
+    pub is_step : IsStep cuts rest answer new
+    pub left : HasRest now sorts compare inside new
+    pub allowed : IsAllowed cuts before.faults now.faults
+
+  -- it came to an item, or moved on
+  abbrev pub TurnsTo : DiskState → Bool → (DirEntry → DirEntry → Ordering) → Rest → Option Item → DiskState → Inside S → Type 0
+  TurnsTo before sorts compare rest None now inside = MovesTo before sorts compare rest now inside
+  TurnsTo before sorts compare rest (Some item) now inside = StepsTo before sorts compare rest (Some item) now inside
+
+  -- ---- an entry that was taken
+
+  -- this is left of the walk, where an entry was taken from the level on top, of which nothing else was due first
+  pub record HasTaken (state : DiskState) (sorts : Bool) (compare : DirEntry → DirEntry → Ordering) (inside : Inside S) (level : Level) (entry : DirEntry) (rest : Rest) : Type 0 where
+    pub below : List Part
+    pub part : Part
+    pub was : rest ≡ below ++ part ∷ []
+    pub lower : HasParts state (manner_in state.tree sorts compare inside) inside.root [] inside.stack.items below
+    pub folder : part.folder ≡ level.folder
+    pub first : part.first ≡ None
+    pub faultless : part.faults ≡ []
+    pub planned : IsPlan state.tree (manner_in state.tree sorts compare inside) (with_folder level.folder (chain_above [] inside.stack.items)) (entry ∷ entries_due state level) part.left
+    pub device : IsTrue inside.options.same_file_system → inside.device ≡ device_to state.tree inside.root
+
+  -- A directory was entered: its level lies unread on top, and its item after its contents, if it is one, waits in the level below.
+  pub record Enters (old : Inside S) (level : Level) (entry : DirEntry) (folder : Folder) (new : Inside S) (given : Option DirEntry) : Type 0 where
+    pub raised : Level
+    pub opened : Level
+    pub top : new.top ≡ Some opened
+    pub stack : new.stack.items ≡ old.stack.items ++ raised ∷ []
+    pub raised_is : raised ≡ record level { first = raised.first }
+    pub after : option_map item_of raised.first ≡ item_after old.options entry
+    pub before : option_map item_of given ≡ item_before old.options entry
+    pub folder_is : opened.folder ≡ Some folder
+    pub first : opened.first ≡ None
+    pub unread : opened.entries ≡ Unread
+    pub faultless : opened.faults.items ≡ []
+
+  -- ---- leaving
+
+  -- the walk left the topmost directory
+  pub record SkipsTo (sorts : Bool) (compare : DirEntry → DirEntry → Ordering) (rest : Rest) (now : DiskState) (inside : Inside S) : Type 0 where
+    pub new : Rest
+    pub skips : Skips rest new
+    pub left : HasRest now sorts compare inside new
+
+-- a directory that was entered, and of which nothing was read
+pub record LiesUnread (level : Level) (folder : Option Folder) : Type 0 where
+  pub folder_is : level.folder ≡ folder
+  pub first : level.first ≡ None
+  pub unread : level.entries ≡ Unread
+  pub faultless : level.faults.items ≡ []

@@ -1,0 +1,16 @@
+//! The steps of a walk over the directories of a disk, one at a time.
+#![tactic(auto)]
+
+mod begin;
+mod enter;
+mod inside;
+mod keep;
+mod leave;
+mod next;
+mod open;
+mod see;
+mod take;
+
+pub use inside::Inside;
+pub use leave::{give_up, skip_top};
+pub use next::next_item;

@@ -1,0 +1,202 @@
+//! The next item of a walk.
+
+ghost use Rattle.std.specs.Prelude.{◌≡◌, ◌≢◌, ◌+◌, ◌^◌, ◌<◌, ◌≤◌, ◌⊎◌, ◌↔◌, [], Some, None, Err, IsTrue, IfOk, OnOk, OnSome, IfNone};
+ghost use Rattle.std.specs.declared.cmp.Ordering as ordering;
+ghost use Rattle.sd_edge.specs.Disk.{SameTree};
+ghost use Rattle.walk_rest.specs.declared.entry.DirEntry as entry_type;
+ghost use Rattle.walk_rest.specs.declared.error.Error.TheVariants as error;
+ghost use Rattle.walk_rest.specs.Rest.{Rest};
+ghost use Rattle.walk_steps.specs.Inside.{HasRest, IsRead, SameWalk, levels_of, with_top};
+ghost use Rattle.walk_steps.specs.Sound.{IsSound, KeepsWalk, StaysWithin, depth_below, open_limit};
+ghost use Rattle.walk_steps.specs.Steps.{HasTaken, StepsTo, TurnsTo};
+ghost use Rattle.walk_steps.specs.Work.{left_to_do};
+
+use crate::Inside;
+use crate::enter::{enter, is_shown};
+use crate::leave::{close_level, give_up};
+use crate::open::{read_directory, read_root};
+use crate::see::{Sight, named, see};
+use crate::take::take_entry;
+use sd_edge::{Disk, DiskFault, NoMemory};
+use walk_rest::{DirEntry, Entries, Error, Folder, Level, Order};
+
+/// The next item of a walk, or `None` where nothing is left. `NoMemory` closes every list that the walk holds and ends it.
+pub fn next_item<D: Disk, S: Order>(
+    disk: &mut D,
+    inside: &mut Inside<S>,
+) -> Option<Result<DirEntry, Error>>
+    requires sound { IsSound (D.state disk.old) (S.sorts inside.old.order) inside.old }
+    requires order { S.can_compare inside.old.order }
+    ensures step { IsTrue D.tells → (by : entry_type.DirEntry → entry_type.DirEntry → ordering.Ordering) (rest : Rest) → S.compares_by inside.old.order by
+        → HasRest (D.state disk.old) (S.sorts inside.old.order) by inside.old rest
+        → (result ≡ Some (Err error.NoMemory)) ⊎ StepsTo (D.state disk.old) (S.sorts inside.old.order) by rest result (D.state disk.new) inside.new }
+    ensures sound { IsSound (D.state disk.new) (S.sorts inside.new.order) inside.new }
+    ensures same { SameWalk inside.old inside.new }
+    ensures less { OnSome result (left_to_do (D.state disk.new) inside.new < left_to_do (D.state disk.old) inside.old) }
+    ensures ended { IfNone result (levels_of inside.new ≡ []) }
+    ensures gave_up { result ≡ Some (Err error.NoMemory) → levels_of inside.new ≡ [] }
+    ensures within { StaysWithin (open_limit inside.old.options) (D.state disk.old) (levels_of inside.old) (D.state disk.new) (levels_of inside.new) }
+    ensures tree { SameTree (D.state disk.old) (D.state disk.new) }
+    ensures faults { (D.state disk.old).faults ≤ (D.state disk.new).faults }
+{
+    while let Some(level) = inside.top.take() {
+        match turn(disk, inside, level) {
+            Ok(None) => {}
+            Ok(Some(item)) => return Some(item),
+            Err(_) => {
+                give_up(disk, inside);
+                return Some(Err(Error::NoMemory));
+            }
+        }
+    }
+    None
+}
+
+/// Gives the next item that the topmost level leads to, or comes nearer to it: gives a failure that is due, or the item of a directory that was left,
+/// or reads the directory, or takes its next entry. Refuses for want of memory alone.
+fn turn<D: Disk, S: Order>(
+    disk: &mut D,
+    inside: &mut Inside<S>,
+    level: Level,
+) -> Result<Option<Result<DirEntry, Error>>, NoMemory>
+    requires sound { IsSound (D.state disk.old) (S.sorts inside.old.order) (with_top inside.old level) }
+    requires order { S.can_compare inside.old.order }
+    requires top { inside.old.top ≡ None }
+    ensures turns { IsTrue D.tells → (by : entry_type.DirEntry → entry_type.DirEntry → ordering.Ordering) (rest : Rest) → S.compares_by inside.old.order by
+        → HasRest (D.state disk.old) (S.sorts inside.old.order) by (with_top inside.old level) rest
+        → IfOk result (λ answer. TurnsTo (D.state disk.old) (S.sorts inside.old.order) by rest answer (D.state disk.new) inside.new) }
+    ensures named { IfOk result (λ answer. answer ≢ Some (Err error.NoMemory)) }
+    ensures sound { OnOk result (IsSound (D.state disk.new) (S.sorts inside.new.order) inside.new) }
+    ensures keeps { KeepsWalk (D.state disk.old) (with_top inside.old level) (D.state disk.new) inside.new }
+    ensures less { OnOk result (left_to_do (D.state disk.new) inside.new < left_to_do (D.state disk.old) (with_top inside.old level)) }
+{
+    let mut level = level;
+    if let Some(due) = level.faults.pop() {
+        inside.top = Some(level);
+        return Ok(Some(Err(Error::Disk {
+            path: due.path,
+            depth: due.depth,
+        })));
+    }
+    if let Some(entry) = level.first.take() {
+        inside.top = Some(level);
+        return Ok(Some(Ok(entry)));
+    }
+    if is_read(&level.entries) {
+        return take_next(disk, inside, level);
+    }
+    let Level {
+        folder,
+        first: _first,
+        entries: _entries,
+        faults: _faults,
+    } = level;
+    match folder {
+        None => read_root(disk, inside),
+        Some(folder) => {
+            read_directory(disk, inside, folder)?;
+            Ok(None)
+        }
+    }
+}
+
+/// Whether a list was opened or read.
+fn is_read(entries: &Entries) -> bool
+    ensures { IsTrue result ↔ IsRead entries.now }
+{
+    match entries {
+        Entries::Unread => false,
+        Entries::Open(_) => true,
+        Entries::Kept(_) => true,
+    }
+}
+
+/// Takes the next entry of a level that was read and of which nothing is due first, or leaves it where there is none. Refuses for want of memory alone.
+fn take_next<D: Disk, S: Order>(
+    disk: &mut D,
+    inside: &mut Inside<S>,
+    level: Level,
+) -> Result<Option<Result<DirEntry, Error>>, NoMemory>
+    requires sound { IsSound (D.state disk.old) (S.sorts inside.old.order) (with_top inside.old level) }
+    requires read { IsRead level.entries }
+    requires first { level.first ≡ None }
+    requires faultless { level.faults.items ≡ [] }
+    ensures turns { IsTrue D.tells → (by : entry_type.DirEntry → entry_type.DirEntry → ordering.Ordering) (rest : Rest)
+        → HasRest (D.state disk.old) (S.sorts inside.old.order) by (with_top inside.old level) rest
+        → IfOk result (λ answer. TurnsTo (D.state disk.old) (S.sorts inside.old.order) by rest answer (D.state disk.new) inside.new) }
+    ensures named { IfOk result (λ answer. answer ≢ Some (Err error.NoMemory)) }
+    ensures sound { OnOk result (IsSound (D.state disk.new) (S.sorts inside.new.order) inside.new) }
+    ensures keeps { KeepsWalk (D.state disk.old) (with_top inside.old level) (D.state disk.new) inside.new }
+    ensures less { OnOk result (left_to_do (D.state disk.new) inside.new < left_to_do (D.state disk.old) (with_top inside.old level)) }
+{
+    let mut level = level;
+    match take_entry(inside.alloc, disk, &mut level) {
+        Ok(None) => {
+            close_level(disk, level);
+            inside.top = inside.stack.pop();
+            Ok(None)
+        }
+        Ok(Some(entry)) => meet(disk, inside, level, entry),
+        Err(DiskFault::Failed) => {
+            let depth = depth_in(&level.folder);
+            inside.top = Some(level);
+            Ok(Some(Err(Error::Disk { path: None, depth })))
+        }
+        Err(_) => {
+            inside.top = Some(level);
+            Err(NoMemory)
+        }
+    }
+}
+
+/// The depth of the entries of a folder; the root lies in none.
+fn depth_in(folder: &Option<Folder>) -> usize
+    requires { depth_below folder.now < 2 ^ 64 }
+    ensures { result ≡ depth_below folder.now }
+{
+    match folder {
+        None => 0,
+        Some(folder) => folder.depth + 1,
+    }
+}
+
+/// Meets an entry that was taken from the level that comes on top: enters it, or gives it or the error in its place, or passes over it where it is no
+/// item. Refuses for want of memory alone.
+fn meet<D: Disk, S: Order>(
+    disk: &mut D,
+    inside: &mut Inside<S>,
+    level: Level,
+    entry: DirEntry,
+) -> Result<Option<Result<DirEntry, Error>>, NoMemory>
+    requires sound { IsSound (D.state disk.old) (S.sorts inside.old.order) (with_top inside.old level) }
+    requires read { IsRead level.entries }
+    requires first { level.first ≡ None }
+    requires faultless { level.faults.items ≡ [] }
+    requires depth { entry.depth ≡ depth_below level.folder }
+    ensures turns { IsTrue D.tells → (by : entry_type.DirEntry → entry_type.DirEntry → ordering.Ordering) (rest : Rest)
+        → HasTaken (D.state disk.old) (S.sorts inside.old.order) by inside.old level entry rest
+        → IfOk result (λ answer. TurnsTo (D.state disk.old) (S.sorts inside.old.order) by rest answer (D.state disk.new) inside.new) }
+    ensures named { IfOk result (λ answer. answer ≢ Some (Err error.NoMemory)) }
+    ensures sound { OnOk result (IsSound (D.state disk.new) (S.sorts inside.new.order) inside.new) }
+    ensures keeps { KeepsWalk (D.state disk.old) (with_top inside.old level) (D.state disk.new) inside.new }
+    ensures listed { (D.state disk.new).listed ≡ (D.state disk.old).listed }
+    ensures little { OnOk result (left_to_do (D.state disk.new) inside.new ≤ left_to_do (D.state disk.old) (with_top inside.old level) + 4) }
+{
+    match see(disk, inside, &level, entry) {
+        Ok(Sight::Enters(entry, folder)) => match enter(inside, level, entry, folder)? {
+            Some(entry) => Ok(Some(Ok(entry))),
+            None => Ok(None),
+        },
+        Ok(Sight::Stays(entry)) => {
+            inside.top = Some(level);
+            if is_shown(&inside.options, entry.depth) {
+                return Ok(Some(Ok(entry)));
+            }
+            Ok(None)
+        }
+        Err(error) => {
+            inside.top = Some(level);
+            Ok(Some(Err(named(error)?)))
+        }
+    }
+}
