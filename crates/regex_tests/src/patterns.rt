@@ -1,64 +1,78 @@
 //! What patterns find with no option set.
 
-use crate::building::{build, check};
-use grep_matcher::{LineMatchKind, Match, Matcher};
-use grep_regex::RegexMatcherBuilder;
+use crate::building::{build, builder, check, count};
+use grep_matcher::{Match, Matcher};
+use grep_regex::RegexMatcher;
+use sd_base::NoMemory;
+use std::alloc::Global;
 use std::test::Fail;
+
+const FOUND: &[(&str, &str, Option<(usize, usize)>)] = &[
+    ("a*", "baac", Some((0, 0))),
+    ("^a", "aa", Some((0, 1))),
+    ("", "\u{e9}", Some((0, 0))),
+    ("(?:a?b??)*", "ab", Some((0, 1))),
+    (".*(/.*/)", "sample with /path/\n", Some((0, 18))),
+    ("(?i)k", "\u{212a}", Some((0, 3))),
+    ("one|two", "a two one", Some((2, 5))),
+    (r"\d{4}-\d\d", "on 2026-11", Some((3, 10))),
+    (r"\bfoo\w*", "a foobar", Some((2, 8))),
+    ("x", "abc", None),
+];
 
 #[test]
 fn first_matches(rt: HostRuntime) -> Result<(), Fail> {
-    let builder = RegexMatcherBuilder::new();
-    for (pattern, text, found) in [
-        ("a*", "baac", Some((0, 0))),
-        ("^a", "aa", Some((0, 1))),
-        ("", "\u{e9}", Some((0, 0))),
-        ("(?:a?b??)*", "ab", Some((0, 1))),
-        (".*(/.*/)", "sample with /path/\n", Some((0, 18))),
-        ("(?i)k", "\u{212a}", Some((0, 3))),
-        ("one|two", "a two one", Some((2, 5))),
-        (r"\d{4}-\d\d", "on 2026-11", Some((3, 10))),
-        (r"\bfoo\w*", "a foobar", Some((2, 8))),
-        ("x", "abc", None),
-    ] {
-        check(&rt, &builder, pattern, text.as_bytes(), found)?;
+    let plain = builder(&[]);
+    for (pattern, text, found) in FOUND {
+        check(&rt, &plain, pattern, text.as_bytes(), *found)?;
     }
     Ok(())
+}
+
+/// All that a matcher finds.
+fn all_spans(alloc: Global, matcher: &RegexMatcher, text: &[u8]) -> Result<Vec<Match>, NoMemory> {
+    let mut spans = Vec::new(alloc);
+    matcher.find_iter(text, |span| spans.push(span).is_ok())?;
+    Ok(spans)
+}
+
+/// A text with a dash in the place of each match, if there is memory for it.
+fn dashed(alloc: Global, matcher: &RegexMatcher, text: &[u8]) -> Option<Vec<u8>> {
+    let mut dashes = Vec::new(alloc);
+    let done = matcher.replace(text, &mut dashes, |_span, out: &mut Vec<u8>| {
+        out.push(b'-')?;
+        Ok(true)
+    });
+    done.is_ok().then_some(dashes)
+}
+
+/// The end of the first match in its line.
+fn candidate(matcher: &RegexMatcher, text: &[u8]) -> Result<Option<usize>, NoMemory> {
+    matcher.shortest_match(text)
 }
 
 #[test]
 fn every_match_of_a_pattern_with_groups(rt: HostRuntime) -> Result<(), Fail> {
     let alloc = rt.alloc();
     let text = b"x@y z@w";
-    let matcher = build(alloc, &RegexMatcherBuilder::new(), r"(\w+)@(\w+)")??;
-    let mut spans = Vec::new(alloc);
-    matcher.find_iter(text, |span| spans.push(span).is_ok())?;
+    let matcher = build(alloc, &builder(&[]), r"(\w+)@(\w+)")??;
+    let spans = all_spans(alloc, &matcher, text)?;
     assert_eq!(rt;
         spans.as_slice(),
         [Match::new(0, 3), Match::new(4, 7)].as_slice()
     );
-    assert_eq!(rt; matcher.capture_count(), 3);
-    assert!(rt;
-        matches!(
-            matcher.find_candidate_line(text)?,
-            Some(LineMatchKind::Confirmed(3))
-        )
-    );
-    let mut dashes = Vec::new(alloc);
-    let done = matcher.replace(text, &mut dashes, |_span, out: &mut Vec<u8>| {
-        out.push(b'-')?;
-        Ok(true)
-    });
-    assert!(rt; done.is_ok());
+    assert_eq!(rt; count(&matcher), 3);
+    assert_eq!(rt; candidate(&matcher, text)?, Some(3));
+    let dashes = dashed(alloc, &matcher, text).ok_or("no memory")?;
     assert_eq!(rt; dashes.as_slice(), b"- -".as_slice());
     Ok(())
 }
 
 #[test]
 fn haystacks_that_are_not_utf_8(rt: HostRuntime) -> Result<(), Fail> {
-    let builder = RegexMatcherBuilder::new();
-    check(&rt, &builder, "a.b", b"a\xFFb a-b", Some((4, 7)))?;
-    check(&rt, &builder, r"(?-u)a\xFFb", b"-a\xFFb", Some((1, 4)))?;
-    check(&rt, &builder, "b$", b"\xC3b", Some((1, 2)))?;
-    check(&rt, &builder, "[^a]", b"\xE2\x82", None)?;
-    Ok(())
+    let plain = builder(&[]);
+    check(&rt, &plain, "a.b", b"a\xFFb a-b", Some((4, 7)))?;
+    check(&rt, &plain, r"(?-u)a\xFFb", b"-a\xFFb", Some((1, 4)))?;
+    check(&rt, &plain, "b$", b"\xC3b", Some((1, 2)))?;
+    check(&rt, &plain, "[^a]", b"\xE2\x82", None)
 }
