@@ -1,8 +1,8 @@
 //! What patterns find with no option set.
 
 use crate::building::{build, builder, check, count};
-use grep_matcher::{Match, Matcher};
-use grep_regex::RegexMatcher;
+use grep_matcher::{Captures, LineMatchKind, Match, Matcher};
+use grep_regex::{RegexCaptures, RegexMatcher};
 use sd_base::NoMemory;
 use std::alloc::Global;
 use std::test::Fail;
@@ -46,9 +46,37 @@ fn dashed(alloc: Global, matcher: &RegexMatcher, text: &[u8]) -> Option<Vec<u8>>
     done.is_ok().then_some(dashes)
 }
 
-/// The end of the first match in its line.
-fn candidate(matcher: &RegexMatcher, text: &[u8]) -> Result<Option<usize>, NoMemory> {
-    matcher.shortest_match(text)
+/// Whether a line is confirmed at a place.
+fn is_confirmed(matcher: &RegexMatcher, text: &[u8], end: usize) -> Result<bool, NoMemory> {
+    let line = matcher.find_candidate_line(text)?;
+    Ok(matches!(line, Some(LineMatchKind::Confirmed(place)) if place == end))
+}
+
+/// A text from a place on, with the bytes of group 2 in the place of each match, if there is memory for it.
+fn second_groups(
+    alloc: Global,
+    matcher: &RegexMatcher,
+    text: &[u8],
+    at: usize,
+) -> Result<Option<Vec<u8>>, NoMemory> {
+    if at > text.len() {
+        return Ok(None);
+    }
+    let mut caps = matcher.new_captures()?;
+    let mut groups = Vec::new(alloc);
+    let done = matcher.replace_with_captures_at(
+        text,
+        at,
+        &mut caps,
+        &mut groups,
+        |caps: &RegexCaptures, out: &mut Vec<u8>| {
+            if let Some(span) = caps.get(2) {
+                out.extend_from_slice(text.get(span.start()..span.end()).unwrap_or(b""))?;
+            }
+            Ok(true)
+        },
+    );
+    Ok(done.is_ok().then_some(groups))
 }
 
 #[test]
@@ -62,9 +90,11 @@ fn every_match_of_a_pattern_with_groups(rt: HostRuntime) -> Result<(), Fail> {
         [Match::new(0, 3), Match::new(4, 7)].as_slice()
     );
     assert_eq!(rt; count(&matcher), 3);
-    assert_eq!(rt; candidate(&matcher, text)?, Some(3));
+    assert!(rt; is_confirmed(&matcher, text, 3)?);
     let dashes = dashed(alloc, &matcher, text).ok_or("no memory")?;
     assert_eq!(rt; dashes.as_slice(), b"- -".as_slice());
+    let groups = second_groups(alloc, &matcher, text, 4)?.ok_or("no memory")?;
+    assert_eq!(rt; groups.as_slice(), b"w".as_slice());
     Ok(())
 }
 
