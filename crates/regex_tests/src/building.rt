@@ -1,6 +1,6 @@
 //! Matchers of short patterns, and what they find.
 
-use grep_matcher::{Captures, Match, Matcher};
+use grep_matcher::{Captures, Matcher};
 use grep_regex::{Error, ErrorKind, RegexMatcher, RegexMatcherBuilder, fit_together};
 use sd_base::{NoMemory, Patterns};
 use std::alloc::Global;
@@ -129,16 +129,22 @@ pub(crate) fn check_refused(
     Ok(())
 }
 
-/// The spans of the groups 1 to 4 of the first match, if there is one.
-pub(crate) fn groups_of(
+/// A matcher of patterns with the defaults.
+pub(crate) fn plain(alloc: Global, patterns: &[&str]) -> Result<RegexMatcher, Fail> {
+    Ok(build_many(alloc, &builder(&[]), patterns)??)
+}
+
+/// The span of a group of the first match, if there is one and the group is set.
+pub(crate) fn group(
     matcher: &RegexMatcher,
     text: &[u8],
-) -> Result<Option<[Option<Match>; 4]>, NoMemory> {
+    index: usize,
+) -> Result<Option<(usize, usize)>, NoMemory> {
     let mut caps = matcher.new_captures()?;
     if !matcher.captures(text, &mut caps)? {
         return Ok(None);
     }
-    Ok(Some([caps.get(1), caps.get(2), caps.get(3), caps.get(4)]))
+    Ok(caps.get(index).map(|span| (span.start(), span.end())))
 }
 
 /// The number of a group's name.

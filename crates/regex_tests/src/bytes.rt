@@ -39,6 +39,18 @@ fn a_dot_takes_no_line_feed(rt: HostRuntime) -> Result<(), Fail> {
     check_skipped(&rt, r"(?s).|\xC0", NEVER)
 }
 
+/// Whether a byte is told to be in no match of a pattern.
+fn check_one(
+    rt: &(impl Abort + AllocGlobal),
+    pattern: &str,
+    byte: u8,
+    skipped: bool,
+) -> Result<(), Fail> {
+    let matcher = build(rt.alloc(), &builder(&[]), pattern)??;
+    assert_eq!(rt; skips(&matcher, byte), skipped, "{pattern}: {byte}");
+    Ok(())
+}
+
 /// A pattern, a byte, and whether that is told to be in no match.
 const SKIPPED: &[(&str, u8, bool)] = &[
     ("(?m)^a", b'\n', false),
@@ -54,8 +66,7 @@ const SKIPPED: &[(&str, u8, bool)] = &[
 #[test]
 fn anchors_keep_the_ends_of_lines(rt: HostRuntime) -> Result<(), Fail> {
     for (pattern, byte, skipped) in SKIPPED {
-        let matcher = build(rt.alloc(), &builder(&[]), pattern)??;
-        assert_eq!(rt; skips(&matcher, *byte), *skipped, "{pattern}: {byte}");
+        check_one(&rt, pattern, *byte, *skipped)?;
     }
     Ok(())
 }

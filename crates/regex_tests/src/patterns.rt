@@ -1,6 +1,6 @@
 //! What patterns find with no option set.
 
-use crate::building::{build, builder, check, count};
+use crate::building::{builder, check, plain};
 use grep_matcher::{Captures, LineMatchKind, Match, Matcher};
 use grep_regex::{RegexCaptures, RegexMatcher};
 use sd_base::NoMemory;
@@ -22,9 +22,9 @@ const FOUND: &[(&str, &str, Option<(usize, usize)>)] = &[
 
 #[test]
 fn first_matches(rt: HostRuntime) -> Result<(), Fail> {
-    let plain = builder(&[]);
+    let defaults = builder(&[]);
     for (pattern, text, found) in FOUND {
-        check(&rt, &plain, pattern, text.as_bytes(), *found)?;
+        check(&rt, &defaults, pattern, text.as_bytes(), *found)?;
     }
     Ok(())
 }
@@ -79,30 +79,51 @@ fn second_groups(
     Ok(done.is_ok().then_some(groups))
 }
 
+const TEXT: &[u8] = b"x@y z@w";
+
+/// A matcher of an address.
+fn address(alloc: Global) -> Result<RegexMatcher, Fail> {
+    plain(alloc, &[r"(\w+)@(\w+)"])
+}
+
 #[test]
-fn every_match_of_a_pattern_with_groups(rt: HostRuntime) -> Result<(), Fail> {
+fn each_match_of_a_pattern(rt: HostRuntime) -> Result<(), Fail> {
     let alloc = rt.alloc();
-    let text = b"x@y z@w";
-    let matcher = build(alloc, &builder(&[]), r"(\w+)@(\w+)")??;
-    let spans = all_spans(alloc, &matcher, text)?;
+    let spans = all_spans(alloc, &address(alloc)?, TEXT)?;
     assert_eq!(rt;
         spans.as_slice(),
         [Match::new(0, 3), Match::new(4, 7)].as_slice()
     );
-    assert_eq!(rt; count(&matcher), 3);
-    assert!(rt; is_confirmed(&matcher, text, 3)?);
-    let dashes = dashed(alloc, &matcher, text).ok_or("no memory")?;
+    Ok(())
+}
+
+#[test]
+fn a_line_is_confirmed_where_a_match_ends(rt: HostRuntime) -> Result<(), Fail> {
+    assert!(rt; is_confirmed(&address(rt.alloc())?, TEXT, 3)?);
+    Ok(())
+}
+
+#[test]
+fn a_text_in_the_place_of_each_match(rt: HostRuntime) -> Result<(), Fail> {
+    let alloc = rt.alloc();
+    let dashes = dashed(alloc, &address(alloc)?, TEXT).ok_or("no memory")?;
     assert_eq!(rt; dashes.as_slice(), b"- -".as_slice());
-    let groups = second_groups(alloc, &matcher, text, 4)?.ok_or("no memory")?;
+    Ok(())
+}
+
+#[test]
+fn a_group_in_the_place_of_each_match_from_a_place_on(rt: HostRuntime) -> Result<(), Fail> {
+    let alloc = rt.alloc();
+    let groups = second_groups(alloc, &address(alloc)?, TEXT, 4)?.ok_or("no memory")?;
     assert_eq!(rt; groups.as_slice(), b"w".as_slice());
     Ok(())
 }
 
 #[test]
 fn haystacks_that_are_not_utf_8(rt: HostRuntime) -> Result<(), Fail> {
-    let plain = builder(&[]);
-    check(&rt, &plain, "a.b", b"a\xFFb a-b", Some((4, 7)))?;
-    check(&rt, &plain, r"(?-u)a\xFFb", b"-a\xFFb", Some((1, 4)))?;
-    check(&rt, &plain, "b$", b"\xC3b", Some((1, 2)))?;
-    check(&rt, &plain, "[^a]", b"\xE2\x82", None)
+    let defaults = builder(&[]);
+    check(&rt, &defaults, "a.b", b"a\xFFb a-b", Some((4, 7)))?;
+    check(&rt, &defaults, r"(?-u)a\xFFb", b"-a\xFFb", Some((1, 4)))?;
+    check(&rt, &defaults, "b$", b"\xC3b", Some((1, 2)))?;
+    check(&rt, &defaults, "[^a]", b"\xE2\x82", None)
 }

@@ -86,15 +86,34 @@ fn what_a_matcher_tells_of_its_terminator(rt: HostRuntime) -> Result<(), Fail> {
     Ok(())
 }
 
+/// The default matcher of lines for a pattern: whether it finds something, and the terminator that it tells of.
+fn by_lines(alloc: Global, pattern: &str, text: &[u8]) -> Result<(bool, Option<u8>), Fail> {
+    if pattern.len() > u32::MAX as usize {
+        return Err("a long pattern".into());
+    }
+    let lines = RegexMatcher::new_line_matcher(alloc, pattern)?;
+    Ok((finds(&lines, text)?, told(&lines)))
+}
+
+/// Whether the default matcher of lines is refused for a pattern.
+fn is_no_line(alloc: Global, pattern: &str) -> bool {
+    pattern.len() <= u32::MAX as usize && RegexMatcher::new_line_matcher(alloc, pattern).is_err()
+}
+
+/// The same of the default matcher.
+fn by_default(alloc: Global, pattern: &str, text: &[u8]) -> Result<(bool, Option<u8>), Fail> {
+    if pattern.len() > u32::MAX as usize {
+        return Err("a long pattern".into());
+    }
+    let matcher = RegexMatcher::new(alloc, pattern)?;
+    Ok((finds(&matcher, text)?, told(&matcher)))
+}
+
 #[test]
 fn the_default_matchers(rt: HostRuntime) -> Result<(), Fail> {
     let alloc = rt.alloc();
-    let lines = RegexMatcher::new_line_matcher(alloc, "a")?;
-    assert!(rt; finds(&lines, b"b\na")?);
-    assert_eq!(rt; told(&lines), Some(b'\n'));
-    assert!(rt; RegexMatcher::new_line_matcher(alloc, "a\nb").is_err());
-    let plain = RegexMatcher::new(alloc, "a\nb")?;
-    assert!(rt; finds(&plain, b"a\nb")?);
-    assert_eq!(rt; told(&plain), None);
+    assert_eq!(rt; by_lines(alloc, "a", b"b\na")?, (true, Some(b'\n')));
+    assert!(rt; is_no_line(alloc, "a\nb"));
+    assert_eq!(rt; by_default(alloc, "a\nb", b"a\nb")?, (true, None));
     Ok(())
 }
