@@ -2,7 +2,7 @@
 
 use crate::building::{builder, check, plain};
 use grep_matcher::{Captures, LineMatchKind, Match, Matcher};
-use grep_regex::{RegexCaptures, RegexMatcher};
+use grep_regex::RegexMatcher;
 use sd_base::NoMemory;
 use std::alloc::Global;
 use std::test::Fail;
@@ -52,31 +52,20 @@ fn is_confirmed(matcher: &RegexMatcher, text: &[u8], end: usize) -> Result<bool,
     Ok(matches!(line, Some(LineMatchKind::Confirmed(place)) if place == end))
 }
 
-/// A text from a place on, with the bytes of group 2 in the place of each match, if there is memory for it.
-fn second_groups(
-    alloc: Global,
+/// Where group 2 of the first match from a place on is.
+fn second_group(
     matcher: &RegexMatcher,
     text: &[u8],
     at: usize,
-) -> Result<Option<Vec<u8>>, NoMemory> {
+) -> Result<Option<(usize, usize)>, NoMemory> {
     if at > text.len() {
         return Ok(None);
     }
     let mut caps = matcher.new_captures()?;
-    let mut groups = Vec::new(alloc);
-    let done = matcher.replace_with_captures_at(
-        text,
-        at,
-        &mut caps,
-        &mut groups,
-        |caps: &RegexCaptures, out: &mut Vec<u8>| {
-            if let Some(span) = caps.get(2) {
-                out.extend_from_slice(text.get(span.start()..span.end()).unwrap_or(b""))?;
-            }
-            Ok(true)
-        },
-    );
-    Ok(done.is_ok().then_some(groups))
+    if !matcher.captures_at(text, at, &mut caps)? {
+        return Ok(None);
+    }
+    Ok(caps.get(2).map(|span| (span.start(), span.end())))
 }
 
 const TEXT: &[u8] = b"x@y z@w";
@@ -112,10 +101,8 @@ fn a_text_in_the_place_of_each_match(rt: HostRuntime) -> Result<(), Fail> {
 }
 
 #[test]
-fn a_group_in_the_place_of_each_match_from_a_place_on(rt: HostRuntime) -> Result<(), Fail> {
-    let alloc = rt.alloc();
-    let groups = second_groups(alloc, &address(alloc)?, TEXT, 4)?.ok_or("no memory")?;
-    assert_eq!(rt; groups.as_slice(), b"w".as_slice());
+fn groups_of_a_match_from_a_place_on(rt: HostRuntime) -> Result<(), Fail> {
+    assert_eq!(rt; second_group(&address(rt.alloc())?, TEXT, 4)?, Some((6, 7)));
     Ok(())
 }
 
