@@ -1,88 +1,126 @@
 //! Groups of one pattern and of several.
 
-use crate::building::{build, build_many, first};
-use grep_matcher::{Captures, Match, Matcher};
-use grep_regex::{ErrorKind, RegexFault, RegexMatcher, RegexMatcherBuilder};
+use crate::building::{build_many, builder, count, finds, first, group, number, plain};
+use grep_regex::{ErrorKind, RegexFault};
 use std::alloc::Global;
+use std::process::Abort;
 use std::test::Fail;
 
-/// The spans of the groups 1 to 4 of the first match.
-fn groups_of(matcher: &RegexMatcher, text: &[u8]) -> Result<[Option<Match>; 4], Fail> {
-    let mut caps = matcher.new_captures()?;
-    if !matcher.captures(text, &mut caps)? {
-        return Err("no match".into());
+const DATES: &[&str] = &[r"(?P<year>\d+)-(\d+)|(?P<none>x)"];
+
+const SEVERAL: &[&str] = &["(a)(?P<b>b)", "c", "(?P<d>d)|(e)"];
+
+/// Patterns, a text, a group, and where it is in the first match.
+const GROUPS: &[(&[&str], &[u8], usize, Option<(usize, usize)>)] = &[
+    (DATES, b"on 2026-11", 0, Some((3, 10))),
+    (DATES, b"on 2026-11", 1, Some((3, 7))),
+    (DATES, b"on 2026-11", 2, Some((8, 10))),
+    (DATES, b"on 2026-11", 3, None),
+    (DATES, b"on 2026-11", 4, None),
+    (DATES, b"x", 3, Some((0, 1))),
+    (SEVERAL, b"-e", 4, Some((1, 2))),
+    (SEVERAL, b"-e", 3, None),
+    (SEVERAL, b"-e", 1, None),
+    (SEVERAL, b"ab", 1, Some((0, 1))),
+    (SEVERAL, b"ab", 2, Some((1, 2))),
+    (SEVERAL, b"ab", 3, None),
+    (SEVERAL, b"d", 3, Some((0, 1))),
+];
+
+/// A group is at this place.
+fn check_group(
+    rt: &(impl Abort + AllocGlobal),
+    patterns: &[&str],
+    text: &[u8],
+    index: usize,
+    wanted: Option<(usize, usize)>,
+) -> Result<(), Fail> {
+    let matcher = plain(rt.alloc(), patterns)?;
+    assert_eq!(rt; group(&matcher, text, index)?, wanted, "{index}");
+    Ok(())
+}
+
+#[test]
+fn groups_are_numbered_on_over_all_patterns(rt: HostRuntime) -> Result<(), Fail> {
+    for (patterns, text, index, wanted) in GROUPS {
+        check_group(&rt, patterns, text, *index, *wanted)?;
     }
-    Ok([caps.get(1), caps.get(2), caps.get(3), caps.get(4)])
+    Ok(())
 }
 
-/// The number of a group's name.
-fn number(matcher: &RegexMatcher, name: &str) -> Option<usize> {
-    matcher.capture_index(name)
-}
+/// Patterns, a name, and the number of its group.
+const NAMES: &[(&[&str], &str, Option<usize>)] = &[
+    (DATES, "year", Some(1)),
+    (DATES, "none", Some(3)),
+    (DATES, "month", None),
+    (DATES, "", None),
+    (SEVERAL, "b", Some(2)),
+    (SEVERAL, "d", Some(3)),
+    (SEVERAL, "e", None),
+];
 
-#[test]
-fn groups_of_one_pattern(rt: HostRuntime) -> Result<(), Fail> {
-    let matcher = build(
-        rt.alloc(),
-        &RegexMatcherBuilder::new(),
-        r"(?P<year>\d+)-(\d+)|(?P<none>x)",
-    )??;
-    assert_eq!(rt; matcher.capture_count(), 4);
-    let groups = groups_of(&matcher, b"on 2026-11")?;
-    assert_eq!(rt; groups[0], Some(Match::new(3, 7)));
-    assert_eq!(rt; groups[1], Some(Match::new(8, 10)));
-    assert_eq!(rt; groups[2], None);
-    assert_eq!(rt; groups[3], None);
-    assert_eq!(rt; number(&matcher, "year"), Some(1));
-    assert_eq!(rt; number(&matcher, "none"), Some(3));
-    assert_eq!(rt; number(&matcher, "month"), None);
-    assert_eq!(rt; number(&matcher, ""), None);
+/// A name is of this group.
+fn check_name(
+    rt: &(impl Abort + AllocGlobal),
+    patterns: &[&str],
+    name: &str,
+    wanted: Option<usize>,
+) -> Result<(), Fail> {
+    let matcher = plain(rt.alloc(), patterns)?;
+    assert_eq!(rt; number(&matcher, name), wanted, "{name}");
     Ok(())
 }
 
 #[test]
-fn groups_of_several_patterns_are_numbered_on(rt: HostRuntime) -> Result<(), Fail> {
-    let matcher = build_many(
-        rt.alloc(),
-        &RegexMatcherBuilder::new(),
-        &["(a)(?P<b>b)", "c", "(?P<d>d)|(e)"],
-    )??;
-    assert_eq!(rt; matcher.capture_count(), 5);
-    assert_eq!(rt; number(&matcher, "b"), Some(2));
-    assert_eq!(rt; number(&matcher, "d"), Some(3));
-    let last = groups_of(&matcher, b"-e")?;
-    assert_eq!(rt; last[3], Some(Match::new(1, 2)));
-    assert_eq!(rt; last[0], None);
-    let front = groups_of(&matcher, b"ab")?;
-    assert_eq!(rt; front[0], Some(Match::new(0, 1)));
-    assert_eq!(rt; front[1], Some(Match::new(1, 2)));
-    assert_eq!(rt; front[2], None);
+fn names_tell_the_numbers_of_groups(rt: HostRuntime) -> Result<(), Fail> {
+    for (patterns, name, wanted) in NAMES {
+        check_name(&rt, patterns, name, *wanted)?;
+    }
     Ok(())
+}
+
+/// How many groups patterns have.
+fn count_of(alloc: Global, patterns: &[&str]) -> Result<usize, Fail> {
+    Ok(count(&plain(alloc, patterns)?))
+}
+
+#[test]
+fn groups_are_counted_over_all_patterns(rt: HostRuntime) -> Result<(), Fail> {
+    assert_eq!(rt; count_of(rt.alloc(), DATES)?, 4);
+    assert_eq!(rt; count_of(rt.alloc(), SEVERAL)?, 5);
+    assert_eq!(rt; count_of(rt.alloc(), &["a"])?, 1);
+    assert_eq!(rt; count_of(rt.alloc(), &[])?, 1);
+    Ok(())
+}
+
+/// What patterns first find.
+fn first_of(alloc: Global, patterns: &[&str], text: &[u8]) -> Result<Option<(usize, usize)>, Fail> {
+    Ok(first(&plain(alloc, patterns)?, text)?)
 }
 
 #[test]
 fn the_first_pattern_is_preferred(rt: HostRuntime) -> Result<(), Fail> {
     let alloc = rt.alloc();
-    let builder = RegexMatcherBuilder::new();
-    let short = build_many(alloc, &builder, &["a", "ab"])??;
-    assert_eq!(rt; first(&short, b"ab")?, Some((0, 1)));
-    let long = build_many(alloc, &builder, &["ab", "a"])??;
-    assert_eq!(rt; first(&long, b"ab")?, Some((0, 2)));
+    assert_eq!(rt; first_of(alloc, &["a", "ab"], b"ab")?, Some((0, 1)));
+    assert_eq!(rt; first_of(alloc, &["ab", "a"], b"ab")?, Some((0, 2)));
     Ok(())
+}
+
+/// Whether no patterns find something.
+fn nothing_finds(alloc: Global, text: &[u8]) -> Result<bool, Fail> {
+    Ok(finds(&plain(alloc, &[])?, text)?)
 }
 
 #[test]
 fn no_patterns_match_nothing(rt: HostRuntime) -> Result<(), Fail> {
-    let none = build_many(rt.alloc(), &RegexMatcherBuilder::new(), &[])??;
-    assert!(rt; !none.is_match(b"")?);
-    assert!(rt; !none.is_match(b"a")?);
-    assert_eq!(rt; none.capture_count(), 1);
+    assert!(rt; !nothing_finds(rt.alloc(), b"")?);
+    assert!(rt; !nothing_finds(rt.alloc(), b"a")?);
     Ok(())
 }
 
 /// The kind of the refusal of several patterns.
 fn refusal(alloc: Global, patterns: &[&str]) -> Result<Option<ErrorKind>, Fail> {
-    match build_many(alloc, &RegexMatcherBuilder::new(), patterns)? {
+    match build_many(alloc, &builder(&[]), patterns)? {
         Ok(_) => Ok(None),
         Err(error) => Ok(Some(*error.kind())),
     }

@@ -1,195 +1,165 @@
 //! Each option on and off.
 
-use crate::building::{build, build_many, check, check_refused, first};
-use grep_regex::{ErrorKind, RegexFault, RegexMatcherBuilder};
+use crate::building::{Setting, build, build_many, builder, check, check_refused, first};
+use grep_regex::{ErrorKind, RegexFault};
 use std::process::Abort;
 use std::test::Fail;
 
-/// An option that is on or off.
-#[derive(Clone, Copy, Debug)]
-enum Flag {
-    CaseInsensitive,
-    CaseSmart,
-    MultiLine,
-    DotMatchesNewLine,
-    SwapGreed,
-    IgnoreWhitespace,
-    Unicode,
-    Octal,
-    Crlf,
-    Word,
-    WordEdges,
-    FixedStrings,
-    WholeLine,
-}
+/// An option, a pattern, a text, and what is first found there.
+type Row = (Setting, &'static str, &'static str, Option<(usize, usize)>);
 
-/// A builder with the defaults but for one option.
-fn builder_with(flag: Flag, yes: bool) -> RegexMatcherBuilder {
-    let mut builder = RegexMatcherBuilder::new();
-    match flag {
-        Flag::CaseInsensitive => builder.case_insensitive(yes),
-        Flag::CaseSmart => builder.case_smart(yes),
-        Flag::MultiLine => builder.multi_line(yes),
-        Flag::DotMatchesNewLine => builder.dot_matches_new_line(yes),
-        Flag::SwapGreed => builder.swap_greed(yes),
-        Flag::IgnoreWhitespace => builder.ignore_whitespace(yes),
-        Flag::Unicode => builder.unicode(yes),
-        Flag::Octal => builder.octal(yes),
-        Flag::Crlf => builder.crlf(yes),
-        Flag::Word => builder.word(yes),
-        Flag::WordEdges => builder.word_edges(yes),
-        Flag::FixedStrings => builder.fixed_strings(yes),
-        Flag::WholeLine => builder.whole_line(yes),
-    };
-    builder
-}
-
-/// An option, a pattern, a text, and what is first found there with the option on, and off.
-type Row = (
-    Flag,
-    &'static str,
-    &'static str,
-    Option<(usize, usize)>,
-    Option<(usize, usize)>,
-);
-
-const FLAGS: &[Row] = &[
-    (Flag::CaseInsensitive, "abc", "ABC", Some((0, 3)), None),
-    (Flag::CaseInsensitive, "k", "\u{212a}", Some((0, 3)), None),
-    (Flag::CaseSmart, "abc", "ABC", Some((0, 3)), None),
-    (Flag::CaseSmart, "aBc", "ABC", None, None),
-    (Flag::CaseSmart, r"\w", "A", Some((0, 1)), Some((0, 1))),
-    (Flag::MultiLine, "^b", "a\nb", Some((2, 3)), None),
-    (Flag::MultiLine, "a$", "a\nb", Some((0, 1)), None),
-    (Flag::DotMatchesNewLine, "a.b", "a\nb", Some((0, 3)), None),
-    (Flag::SwapGreed, "a+", "aaa", Some((0, 1)), Some((0, 3))),
-    (Flag::SwapGreed, "a+?", "aaa", Some((0, 3)), Some((0, 1))),
+const ON: &[Row] = &[
+    (Setting::CaseInsensitive(true), "abc", "ABC", Some((0, 3))),
     (
-        Flag::IgnoreWhitespace,
+        Setting::CaseInsensitive(true),
+        "k",
+        "\u{212a}",
+        Some((0, 3)),
+    ),
+    (Setting::CaseSmart(true), "abc", "ABC", Some((0, 3))),
+    (Setting::CaseSmart(true), "aBc", "ABC", None),
+    (Setting::CaseSmart(true), r"\w", "A", Some((0, 1))),
+    (Setting::MultiLine(true), "^b", "a\nb", Some((2, 3))),
+    (Setting::MultiLine(true), "a$", "a\nb", Some((0, 1))),
+    (
+        Setting::DotMatchesNewLine(true),
+        "a.b",
+        "a\nb",
+        Some((0, 3)),
+    ),
+    (Setting::SwapGreed(true), "a+", "aaa", Some((0, 1))),
+    (Setting::SwapGreed(true), "a+?", "aaa", Some((0, 3))),
+    (
+        Setting::IgnoreWhitespace(true),
         "a b # c",
         "a b # c ab",
         Some((8, 10)),
+    ),
+    (Setting::Unicode(true), r"\w+", "\u{e9}a", Some((0, 3))),
+    (Setting::Unicode(true), "(?i)k", "\u{212a}", Some((0, 3))),
+    (Setting::Octal(true), r"\141", "a", Some((0, 1))),
+    (Setting::Crlf(true), "(?m)a$", "a\r\n", Some((0, 1))),
+    (Setting::Crlf(true), "a.b", "a\rb", None),
+    (Setting::Word(true), "-2", "abc -2 foo", Some((4, 6))),
+    (Setting::Word(true), "b", "abc b", Some((4, 5))),
+    (Setting::WordEdges(true), "-2", "abc -2 foo", None),
+    (Setting::WordEdges(true), "b", "abc b", Some((4, 5))),
+    (Setting::FixedStrings(true), "a.b", "axb a.b", Some((4, 7))),
+    (Setting::FixedStrings(true), "(", "a(", Some((1, 2))),
+    (Setting::WholeLine(true), "b", "a\nb\nbc", Some((2, 3))),
+    (Setting::WholeLine(true), "c", "a\nb\nbc", None),
+    (Setting::DfaSizeLimit(0), "a+", "aa", Some((0, 2))),
+    (Setting::SizeLimit(usize::MAX), "a", "a", Some((0, 1))),
+];
+
+const OFF: &[Row] = &[
+    (Setting::CaseInsensitive(false), "abc", "ABC", None),
+    (Setting::CaseSmart(false), "abc", "ABC", None),
+    (Setting::CaseSmart(false), r"\w", "A", Some((0, 1))),
+    (Setting::MultiLine(false), "^b", "a\nb", None),
+    (Setting::MultiLine(false), "a$", "a\nb", None),
+    (Setting::DotMatchesNewLine(false), "a.b", "a\nb", None),
+    (Setting::SwapGreed(false), "a+", "aaa", Some((0, 3))),
+    (Setting::SwapGreed(false), "a+?", "aaa", Some((0, 1))),
+    (
+        Setting::IgnoreWhitespace(false),
+        "a b # c",
+        "a b # c ab",
         Some((0, 7)),
     ),
-    (Flag::Unicode, r"\w+", "\u{e9}a", Some((0, 3)), Some((2, 3))),
-    (Flag::Unicode, "(?i)k", "\u{212a}", Some((0, 3)), None),
-    (Flag::Crlf, "(?m)a$", "a\r\n", Some((0, 1)), None),
-    (Flag::Crlf, "a.b", "a\rb", None, Some((0, 3))),
-    (Flag::Word, "-2", "abc -2 foo", Some((4, 6)), Some((4, 6))),
-    (Flag::Word, "b", "abc b", Some((4, 5)), Some((1, 2))),
-    (Flag::WordEdges, "-2", "abc -2 foo", None, Some((4, 6))),
-    (Flag::WordEdges, "b", "abc b", Some((4, 5)), Some((1, 2))),
-    (
-        Flag::FixedStrings,
-        "a.b",
-        "axb a.b",
-        Some((4, 7)),
-        Some((0, 3)),
-    ),
-    (Flag::FixedStrings, "(", "a(", Some((1, 2)), None),
-    (Flag::WholeLine, "b", "a\nb\nbc", Some((2, 3)), Some((2, 3))),
-    (Flag::WholeLine, "c", "a\nb\nbc", None, Some((5, 6))),
+    (Setting::Unicode(false), r"\w+", "\u{e9}a", Some((2, 3))),
+    (Setting::Unicode(false), "(?i)k", "\u{212a}", None),
+    (Setting::Crlf(false), "(?m)a$", "a\r\n", None),
+    (Setting::Crlf(false), "a.b", "a\rb", Some((0, 3))),
+    (Setting::Word(false), "b", "abc b", Some((1, 2))),
+    (Setting::WordEdges(false), "-2", "abc -2 foo", Some((4, 6))),
+    (Setting::WordEdges(false), "b", "abc b", Some((1, 2))),
+    (Setting::FixedStrings(false), "a.b", "axb a.b", Some((0, 3))),
+    (Setting::WholeLine(false), "c", "a\nb\nbc", Some((5, 6))),
 ];
+
+/// Each row says what is found.
+fn check_all(rt: &(impl Abort + AllocGlobal), rows: &[Row]) -> Result<(), Fail> {
+    for (setting, pattern, text, found) in rows {
+        check(rt, &builder(&[*setting]), pattern, text.as_bytes(), *found)?;
+    }
+    Ok(())
+}
 
 #[test]
 fn options_on(rt: HostRuntime) -> Result<(), Fail> {
-    for (flag, pattern, text, on, _) in FLAGS {
-        check(
-            &rt,
-            &builder_with(*flag, true),
-            pattern,
-            text.as_bytes(),
-            *on,
-        )?;
-    }
-    Ok(())
+    check_all(&rt, ON)
 }
 
 #[test]
 fn options_off(rt: HostRuntime) -> Result<(), Fail> {
-    for (flag, pattern, text, _, off) in FLAGS {
-        let builder = builder_with(*flag, false);
-        if *pattern == "(" {
-            let grammar = ErrorKind::Regex(RegexFault::Grammar);
-            check_refused(&rt, &builder, pattern, grammar)?;
-        } else {
-            check(&rt, &builder, pattern, text.as_bytes(), *off)?;
-        }
-    }
-    Ok(())
-}
-
-#[test]
-fn octal_digits_are_read_where_they_are_asked_for(rt: HostRuntime) -> Result<(), Fail> {
-    let on = builder_with(Flag::Octal, true);
-    check(&rt, &on, r"\141", b"a", Some((0, 1)))?;
-    let off = builder_with(Flag::Octal, false);
+    check_all(&rt, OFF)?;
     let grammar = ErrorKind::Regex(RegexFault::Grammar);
-    check_refused(&rt, &off, r"\141", grammar)
+    check_refused(&rt, &builder(&[Setting::Octal(false)]), r"\141", grammar)?;
+    check_refused(&rt, &builder(&[Setting::FixedStrings(false)]), "(", grammar)
 }
 
 #[test]
 fn whole_lines_come_before_words_and_these_before_edges(rt: HostRuntime) -> Result<(), Fail> {
-    let mut builder = RegexMatcherBuilder::new();
-    builder.word_edges(true);
-    check(&rt, &builder, "-", b"a-b", Some((1, 2)))?;
-    builder.word(true);
-    check(&rt, &builder, "-", b"a-b", None)?;
-    check(&rt, &builder, "-", b"a - b", Some((2, 3)))?;
-    builder.whole_line(true);
-    check(&rt, &builder, "-", b"a - b", None)?;
-    check(&rt, &builder, "-", b"a\n-\nb", Some((2, 3)))
+    let edges = builder(&[Setting::WordEdges(true)]);
+    check(&rt, &edges, "-", b"a-b", Some((1, 2)))?;
+    let words = builder(&[Setting::WordEdges(true), Setting::Word(true)]);
+    check(&rt, &words, "-", b"a-b", None)?;
+    check(&rt, &words, "-", b"a - b", Some((2, 3)))?;
+    let lines = builder(&[
+        Setting::WordEdges(true),
+        Setting::Word(true),
+        Setting::WholeLine(true),
+    ]);
+    check(&rt, &lines, "-", b"a - b", None)?;
+    check(&rt, &lines, "-", b"a\n-\nb", Some((2, 3)))
+}
+
+/// What several patterns with smart case first find.
+fn first_of(
+    rt: &impl AllocGlobal,
+    patterns: &[&str],
+    text: &[u8],
+) -> Result<Option<(usize, usize)>, Fail> {
+    let smart = builder(&[Setting::CaseSmart(true)]);
+    let matcher = build_many(rt.alloc(), &smart, patterns)??;
+    Ok(first(&matcher, text)?)
 }
 
 #[test]
 fn letters_are_folded_by_all_patterns_together(rt: HostRuntime) -> Result<(), Fail> {
-    let alloc = rt.alloc();
-    let builder = builder_with(Flag::CaseSmart, true);
-    let small = build_many(alloc, &builder, &["abc", "d"])??;
-    assert_eq!(rt; first(&small, b"ABC")?, Some((0, 3)));
-    assert_eq!(rt; first(&small, b"D")?, Some((0, 1)));
-    let large = build_many(alloc, &builder, &["abc", "D"])??;
-    assert_eq!(rt; first(&large, b"ABC")?, None);
-    assert_eq!(rt; first(&large, b"d")?, None);
-    assert_eq!(rt; first(&large, b"D")?, Some((0, 1)));
+    assert_eq!(rt; first_of(&rt, &["abc", "d"], b"ABC")?, Some((0, 3)));
+    assert_eq!(rt; first_of(&rt, &["abc", "d"], b"D")?, Some((0, 1)));
+    assert_eq!(rt; first_of(&rt, &["abc", "D"], b"ABC")?, None);
+    assert_eq!(rt; first_of(&rt, &["D", "abc"], b"ABC")?, None);
+    assert_eq!(rt; first_of(&rt, &["abc", "D"], b"d")?, None);
+    assert_eq!(rt; first_of(&rt, &["abc", "D"], b"D")?, Some((0, 1)));
     Ok(())
 }
 
 #[test]
 fn fixed_strings_keep_white_space(rt: HostRuntime) -> Result<(), Fail> {
-    let mut builder = builder_with(Flag::FixedStrings, true);
-    builder.ignore_whitespace(true);
-    check(&rt, &builder, "a b#", b"ab a b#", Some((3, 7)))?;
-    builder.case_insensitive(true);
-    check(&rt, &builder, "a.B", b"aXb A.b", Some((4, 7)))
-}
-
-#[test]
-fn the_largest_of_an_automaton_changes_nothing(rt: HostRuntime) -> Result<(), Fail> {
-    let mut builder = RegexMatcherBuilder::new();
-    builder.dfa_size_limit(0);
-    check(&rt, &builder, "a+", b"aa", Some((0, 2)))
+    let texts = builder(&[Setting::FixedStrings(true), Setting::IgnoreWhitespace(true)]);
+    check(&rt, &texts, "a b#", b"ab a b#", Some((3, 7)))?;
+    let folded = builder(&[Setting::FixedStrings(true), Setting::CaseInsensitive(true)]);
+    check(&rt, &folded, "a.B", b"aXb A.b", Some((4, 7)))
 }
 
 #[test]
 fn patterns_as_large_as_their_limit(rt: HostRuntime) -> Result<(), Fail> {
-    let mut builder = RegexMatcherBuilder::new();
-    builder.size_limit(32_000);
-    assert!(rt; build(rt.alloc(), &builder, "a{1000}")?.is_ok());
-    builder.size_limit(31_999);
+    let fits = builder(&[Setting::SizeLimit(32_000)]);
+    assert!(rt; build(rt.alloc(), &fits, "a{1000}")?.is_ok());
+    let small = builder(&[Setting::SizeLimit(31_999)]);
     let large = ErrorKind::Regex(RegexFault::Size(31_999));
-    check_refused(&rt, &builder, "a{1000}", large)?;
-    builder.size_limit(0);
-    check_refused(&rt, &builder, "a", ErrorKind::Regex(RegexFault::Size(0)))?;
-    builder.size_limit(usize::MAX);
-    check(&rt, &builder, "a", b"a", Some((0, 1)))
+    check_refused(&rt, &small, "a{1000}", large)?;
+    let none = builder(&[Setting::SizeLimit(0)]);
+    check_refused(&rt, &none, "a", ErrorKind::Regex(RegexFault::Size(0)))
 }
 
 #[test]
 fn patterns_that_nest_to_their_limit(rt: HostRuntime) -> Result<(), Fail> {
-    let mut builder = RegexMatcherBuilder::new();
-    builder.nest_limit(2);
-    check(&rt, &builder, "((a))", b"a", Some((0, 1)))?;
-    builder.nest_limit(1);
-    check_refused(&rt, &builder, "((a))", ErrorKind::Regex(RegexFault::Nest))
+    let two = builder(&[Setting::NestLimit(2)]);
+    check(&rt, &two, "((a))", b"a", Some((0, 1)))?;
+    let one = builder(&[Setting::NestLimit(1)]);
+    check_refused(&rt, &one, "((a))", ErrorKind::Regex(RegexFault::Nest))
 }

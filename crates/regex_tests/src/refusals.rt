@@ -1,7 +1,7 @@
 //! Patterns that are refused, and what is said of them.
 
-use crate::building::{build, build_many, check_refused};
-use grep_regex::{Error, ErrorKind, RegexFault, RegexMatcherBuilder};
+use crate::building::{Setting, build, build_many, builder, check_refused};
+use grep_regex::{Error, ErrorKind, RegexFault};
 use std::alloc::Global;
 use std::process::Abort;
 use std::test::Fail;
@@ -34,30 +34,24 @@ const UNREAD: &[&str] = &[
 
 #[test]
 fn patterns_that_are_not_read(rt: HostRuntime) -> Result<(), Fail> {
-    let builder = RegexMatcherBuilder::new();
+    let plain = builder(&[]);
     for pattern in UNREAD {
-        check_refused(
-            &rt,
-            &builder,
-            pattern,
-            ErrorKind::Regex(RegexFault::Grammar),
-        )?;
+        check_refused(&rt, &plain, pattern, ErrorKind::Regex(RegexFault::Grammar))?;
     }
     Ok(())
 }
 
 #[test]
 fn the_first_pattern_that_is_not_read_is_told(rt: HostRuntime) -> Result<(), Fail> {
-    let mut builder = RegexMatcherBuilder::new();
-    builder.nest_limit(1).size_limit(0);
+    let small = builder(&[Setting::NestLimit(1), Setting::SizeLimit(0)]);
     for (patterns, fault) in [
-        ([r"a", "((b))", "("], RegexFault::Nest),
-        ([r"a", "(", "((b))"], RegexFault::Grammar),
+        (["a", "((b))", "("], RegexFault::Nest),
+        (["a", "(", "((b))"], RegexFault::Grammar),
         (["(?P<n>a)", "(?P<n>b)", "("], RegexFault::Grammar),
         (["(?P<n>a)", "(?P<n>b)", "c"], RegexFault::DoubleName),
         (["a", "b", "c"], RegexFault::Size(0)),
     ] {
-        match build_many(rt.alloc(), &builder, &patterns)? {
+        match build_many(rt.alloc(), &small, &patterns)? {
             Ok(_) => assert!(rt; false, "built"),
             Err(error) => assert_eq!(rt; *error.kind(), ErrorKind::Regex(fault)),
         }
@@ -67,20 +61,13 @@ fn the_first_pattern_that_is_not_read_is_told(rt: HostRuntime) -> Result<(), Fai
 
 #[test]
 fn the_ban_comes_before_the_terminator(rt: HostRuntime) -> Result<(), Fail> {
-    let mut builder = RegexMatcherBuilder::new();
-    builder.line_terminator(Some(b'\n')).ban_byte(Some(0));
-    check_refused(&rt, &builder, r"\n\x00", ErrorKind::Banned(0))?;
-    check_refused(&rt, &builder, r"\n", ErrorKind::NotAllowed(10))?;
-    builder.size_limit(0);
-    check_refused(&rt, &builder, r"\n", ErrorKind::NotAllowed(10))
-}
-
-/// What is said of a pattern that is refused.
-fn text_of(alloc: Global, builder: &RegexMatcherBuilder, pattern: &str) -> Result<String, Fail> {
-    match build(alloc, builder, pattern)? {
-        Ok(_) => Err("it is built".into()),
-        Err(error) => written(alloc, &error),
-    }
+    let both = builder(&[
+        Setting::LineTerminator(Some(b'\n')),
+        Setting::BanByte(Some(0)),
+        Setting::SizeLimit(0),
+    ]);
+    check_refused(&rt, &both, r"\n\x00", ErrorKind::Banned(0))?;
+    check_refused(&rt, &both, r"\n", ErrorKind::NotAllowed(10))
 }
 
 /// What an error says.
@@ -90,42 +77,55 @@ fn written(alloc: Global, error: &Error) -> Result<String, Fail> {
     Ok(text)
 }
 
+/// What is said of a pattern that is refused.
+fn check_text(
+    rt: &(impl Abort + AllocGlobal),
+    setting: Setting,
+    pattern: &str,
+    wanted: &str,
+) -> Result<(), Fail> {
+    match build(rt.alloc(), &builder(&[setting]), pattern)? {
+        Ok(_) => assert!(rt; false, "{pattern} is built"),
+        Err(error) => assert_eq!(rt; written(rt.alloc(), &error)?.as_str(), wanted),
+    }
+    Ok(())
+}
+
+/// An option, a pattern, and what is said of it.
+const TEXTS: &[(Setting, &str, &str)] = &[
+    (Setting::Unicode(true), "(", "regex parse error"),
+    (
+        Setting::Unicode(true),
+        "(?P<n>a)(?P<n>b)",
+        "duplicate group name",
+    ),
+    (Setting::NestLimit(0), "(a)", "regex nests too deep"),
+    (
+        Setting::SizeLimit(31),
+        "a",
+        "compiled regex exceeds size limit of 31",
+    ),
+    (
+        Setting::BanByte(Some(0)),
+        r"\x00",
+        "pattern contains byte 0 but it is impossible to match",
+    ),
+    (
+        Setting::LineTerminator(Some(b'\n')),
+        r"\n",
+        "the literal \"\\n\" is not allowed in a regex",
+    ),
+    (
+        Setting::LineTerminator(Some(200)),
+        "a",
+        "line terminators must be ASCII, but byte 200 is not",
+    ),
+];
+
 #[test]
 fn what_refusals_say(rt: HostRuntime) -> Result<(), Fail> {
-    let alloc = rt.alloc();
-    let mut builder = RegexMatcherBuilder::new();
-    assert_eq!(rt;
-        text_of(alloc, &builder, "(")?.as_str(),
-        "regex parse error"
-    );
-    assert_eq!(rt;
-        text_of(alloc, &builder, "(?P<n>a)(?P<n>b)")?.as_str(),
-        "duplicate group name"
-    );
-    builder.nest_limit(0);
-    assert_eq!(rt;
-        text_of(alloc, &builder, "(a)")?.as_str(),
-        "regex nests too deep"
-    );
-    builder.nest_limit(250).size_limit(31);
-    assert_eq!(rt;
-        text_of(alloc, &builder, "a")?.as_str(),
-        "compiled regex exceeds size limit of 31"
-    );
-    builder.size_limit(1000).ban_byte(Some(0));
-    assert_eq!(rt;
-        text_of(alloc, &builder, r"\x00")?.as_str(),
-        "pattern contains byte 0 but it is impossible to match"
-    );
-    builder.line_terminator(Some(b'\n'));
-    assert_eq!(rt;
-        text_of(alloc, &builder, r"\n")?.as_str(),
-        "the literal \"\\n\" is not allowed in a regex"
-    );
-    builder.line_terminator(Some(200));
-    assert_eq!(rt;
-        text_of(alloc, &builder, "a")?.as_str(),
-        "line terminators must be ASCII, but byte 200 is not"
-    );
+    for (setting, pattern, wanted) in TEXTS {
+        check_text(&rt, *setting, pattern, wanted)?;
+    }
     Ok(())
 }
