@@ -1,8 +1,11 @@
 //! What patterns find with no option set.
 
+ghost use Rattle.grep_matcher.specs.References.{LieIn};
+ghost use Rattle.grep_matcher.specs.Replaced.{Extends};
+
 use crate::building::{builder, check, plain};
 use grep_matcher::{Captures, LineMatchKind, Match, Matcher};
-use grep_regex::RegexMatcher;
+use grep_regex::{RegexCaptures, RegexMatcher};
 use sd_base::NoMemory;
 use std::alloc::Global;
 use std::test::Fail;
@@ -68,6 +71,35 @@ fn second_group(
     Ok(caps.get(2).map(|span| (span.start(), span.end())))
 }
 
+/// A text from a place on, with a replacement text in the place of each match, whose references are numbers.
+fn replaced_from(
+    alloc: Global,
+    matcher: &RegexMatcher,
+    text: &[u8],
+    at: usize,
+    replacement: &[u8],
+) -> Option<Vec<u8>> {
+    if at > text.len() {
+        return None;
+    }
+    let mut caps = matcher.new_captures().ok()?;
+    let mut new = Vec::new(alloc);
+    let done = matcher.replace_with_captures_at(
+        text,
+        at,
+        &mut caps,
+        &mut new,
+        |caps: &RegexCaptures, out: &mut Vec<u8>| -> Result<bool, NoMemory>
+            requires { LieIn caps.now text.now }
+            ensures { Extends out.old.items out.new.items }
+        {
+            caps.interpolate(|_name| None, text, replacement, out)?;
+            Ok(true)
+        },
+    );
+    done.is_ok().then_some(new)
+}
+
 const TEXT: &[u8] = b"x@y z@w";
 
 /// A matcher of an address.
@@ -103,6 +135,14 @@ fn a_text_in_the_place_of_each_match(rt: HostRuntime) -> Result<(), Fail> {
 #[test]
 fn groups_of_a_match_from_a_place_on(rt: HostRuntime) -> Result<(), Fail> {
     assert_eq!(rt; second_group(&address(rt.alloc())?, TEXT, 4)?, Some((6, 7)));
+    Ok(())
+}
+
+#[test]
+fn a_group_in_the_place_of_matches_from_a_place_on(rt: HostRuntime) -> Result<(), Fail> {
+    let alloc = rt.alloc();
+    let new = replaced_from(alloc, &address(alloc)?, TEXT, 4, b"$2").ok_or("no memory")?;
+    assert_eq!(rt; new.as_slice(), b"w".as_slice());
     Ok(())
 }
 
