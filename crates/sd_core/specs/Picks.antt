@@ -1,11 +1,14 @@
 -- What a walk of a place gives, and which of its entries are those of chosen files.
-use Rattle.std.specs.Prelude.{◌≡◌, ◌<◌, ◌+◌, ◌⊎◌, ℕ, false, List, [], ◌∷◌, length, Some, IsSome, Ok, Err}
+use Rattle.std.specs.Prelude.{◌≡◌, ◌<◌, ◌≤◌, ◌+◌, ◌⊎◌, ℕ, false, true, List, [], ◌∷◌, length, Some, IsSome, Ok, Err}
 use Rattle.sd_edge.specs.Tree.{NameList, Node, Tree, node_at}
+use Rattle.sd_edge.specs.Paths.{reached}
 use Rattle.sd_edge.specs.Files.{kind_of, len_of, path_text}
 use Rattle.sd_edge.specs.declared.meta.Kind.TheVariants as kind
 use Rattle.walk_rest.specs.declared.entry.DirEntry.{DirEntry}
 use Rattle.walk_rest.specs.declared.options.Options.{Options}
 use Rattle.walk_rest.specs.Plan.{Item, path_below, node_to}
+use Rattle.walk_rest.specs.Names.{by_file_name}
+use Rattle.walk_rest.specs.Listing.{IsListing}
 use Rattle.sd_core.specs.Chosen.{IsListOf}
 use Rattle.sd_core.specs.Globs.{FitsAny}
 use Rattle.sd_core.specs.Walk.{IsWithin}
@@ -18,6 +21,14 @@ pub record IsPlainWalk (options : Options) : Type 0 where
   pub contents_last : options.contents_first ≡ false
   pub no_links : options.follow_links ≡ false
   pub all_devices : options.same_file_system ≡ false
+
+-- A plain walk of the place that a path leads to gives these items, sorted by file name. They are no more than `max_depth`, so no directory
+-- lies so deep that it isn't opened.
+pub record WalksWhole (tree : Tree) (options : Options) (root : List ℕ) (top : NameList) (items : List Item) : Type 0 where
+  pub is_plain : IsPlainWalk options
+  pub leads : reached tree root true ≡ Some top
+  pub listing : IsListing tree options true by_file_name (path_text top) items
+  pub few : length items ≤ options.max_depth
 
 -- a node stands at a place that is the top or below it
 abbrev pub StandsIn : Tree → NameList → NameList → Type 0

@@ -1,19 +1,18 @@
 //! Laws of what is chosen, of what is found and of what takes its place, and of what a crash leaves of it.
 
-ghost use Rattle.std.specs.Prelude.{◌≡◌, ◌≤◌, ◌⊎◌, ℕ, Bool, List, [], None, Some, length, true, false};
-ghost use Rattle.sd_edge.specs.Tree.{NameList, Content, Tree, IsTree};
+ghost use Rattle.std.specs.Prelude.{◌≡◌, ◌⊎◌, ℕ, Bool, List, [], None, Some, false};
+ghost use Rattle.sd_edge.specs.Tree.{NameList, Content, Tree, IsTree, is_directory_at};
 ghost use Rattle.sd_edge.specs.Outcomes.{content_at};
 ghost use Rattle.sd_edge.specs.Disk.{DiskState};
 ghost use Rattle.sd_edge.specs.Paths.{reached};
 ghost use Rattle.sd_edge.specs.Files.{path_text};
 ghost use Rattle.walk_rest.specs.declared.options.Options.{Options};
 ghost use Rattle.walk_rest.specs.Plan.{Comparison, Item};
-ghost use Rattle.walk_rest.specs.Names.{by_file_name};
 ghost use Rattle.walk_rest.specs.Listing.{IsListing};
 ghost use Rattle.sd_core.specs.Words.{TreeOrder};
 ghost use Rattle.sd_core.specs.Chosen.{Chosen, ListsChosen};
 ghost use Rattle.sd_core.specs.Crash.{IsOnMedium, IsChosenBy, IsNewChosen, IsFreeBesideChosen, IsOldOrNewImage, IsNewImage};
-ghost use Rattle.sd_core.specs.Picks.{IsPlainWalk, ListsAllIn, Picks};
+ghost use Rattle.sd_core.specs.Picks.{ListsAllIn, Picks, WalksWhole};
 ghost use Rattle.sd_core.specs.Rewriting.{NewBytes};
 
 /// A tree, a place and globs determine the list of the chosen files below the place. A tree, a root and globs determine
@@ -25,21 +24,22 @@ pub fn one_list_of_chosen_files()
         → ListsChosen tree root globs ys → xs ≡ ys }
 {}
 
-/// A plain walk of the place that a path leads to, sorted by file name, gives each node at or below the place once, in the
-/// order of name lists, if it gives no more items than its `max_depth`: every directory is listed whole.
-pub fn a_walk_lists_all()
-    ensures { (tree : Tree) (how : Options) (root : List ℕ) (top : NameList) (items : List Item) → IsTree tree → IsPlainWalk how
-        → reached tree root true ≡ Some top → IsListing tree how true by_file_name (path_text top) items → length items ≤ how.max_depth
-        → ListsAllIn tree top items }
+/// A whole walk of the place that a path leads to gives each node at or below the place once, in the order of name lists:
+/// every directory is listed whole.
+pub fn a_whole_walk_lists_all()
+    ensures { (tree : Tree) (how : Options) (root : List ℕ) (top : NameList) (items : List Item) → IsTree tree
+        → WalksWhole tree how root top items → ListsAllIn tree top items }
 {}
 
-/// Of such a walk, those entries that are picked are the chosen files in their order. Where the path leads nowhere, a walk of
-/// it gives no entry that is picked.
+/// Of the entries of a whole walk, those that are picked are the chosen files in their order. Nothing is picked where the path
+/// leads to no directory, nor of a walk of a path that leads nowhere.
 pub fn chosen_is_the_listing()
     ensures chosen { (tree : Tree) (how : Options) (root : List ℕ) (top : NameList) (globs : List (List ℕ)) (items : List Item)
-        (paths : List (List ℕ)) → IsTree tree → IsPlainWalk how
-        → reached tree root true ≡ Some top → IsListing tree how true by_file_name (path_text top) items → length items ≤ how.max_depth
-        → Picks tree (path_text top) globs items paths → ListsChosen tree root globs paths }
+        (paths : List (List ℕ)) → IsTree tree → WalksWhole tree how root top items → Picks tree (path_text top) globs items paths
+        → ListsChosen tree root globs paths }
+    ensures no_directory { (tree : Tree) (how : Options) (root : List ℕ) (top : NameList) (globs : List (List ℕ)) (items : List Item)
+        (paths : List (List ℕ)) → IsTree tree → WalksWhole tree how root top items → is_directory_at tree top ≡ false
+        → Picks tree (path_text top) globs items paths → paths ≡ [] }
     ensures nowhere { (tree : Tree) (how : Options) (sorts : Bool) (compare : Comparison) (root : List ℕ) (globs : List (List ℕ))
         (items : List Item) (paths : List (List ℕ)) → reached tree root false ≡ None → IsListing tree how sorts compare root items
         → Picks tree root globs items paths → paths ≡ [] }

@@ -31,13 +31,15 @@ unfolding tree_with
 stands place = get-from_entries (lists_total nat_list_cmp_total) d_nodes place
 
 -- a step from a directory to what is no link
-step_down : (tree : Tree) (linking : Linking) (at : NameList) (part : Name) (parts : List Name) (c : Content) (dev ino : ℕ) → ((target : List ℕ) → c ≢ link target)
-    → is_directory_at tree at ≡ true → is_up part ≡ false → node_at tree (at ++ part ∷ []) ≡ Some (record { content = c; dev = dev; ino = ino })
+step_down : (tree : Tree) (linking : Linking) (at : NameList) (part : Name) (parts : List Name) (c : Content) (dev ino : ℕ)
+    → ((target : List ℕ) → c ≢ link target) → is_directory_at tree at ≡ true → is_up part ≡ false
+    → node_at tree (at ++ part ∷ []) ≡ Some (record { content = c; dev = dev; ino = ino })
     → steps tree linking false at (part ∷ parts) ≡ steps tree linking false (at ++ part ∷ []) parts
 step_down tree linking at part parts c dev ino no_link there up stands = rw (there, up, stands) (by c no_link)
   where
     by : (c : Content) → ((target : List ℕ) → c ≢ link target)
-        → through_node linking (λ next. steps tree linking false next parts) false at part parts (Some (record { content = c; dev = dev; ino = ino })) ≡ steps tree linking false (at ++ part ∷ []) parts
+        → through_node linking (λ next. steps tree linking false next parts) false at part parts (Some (record { content = c; dev = dev; ino = ino }))
+        ≡ steps tree linking false (at ++ part ∷ []) parts
     by directory none = refl
     by (link target) none = absurd (none target refl)
     by (file bytes mode) none = refl
@@ -50,19 +52,23 @@ is_folder place dev ino e = ap is_directory_node (stands place ∙ e)
 -- into the directories `d` and `s`, and to their files
 into_d : (linking : Linking) (parts : List Name)
     → steps (tree_with d_nodes) linking false [] (codes "d" ∷ parts) ≡ steps (tree_with d_nodes) linking false (codes "d" ∷ []) parts
-into_d linking parts = step_down (tree_with d_nodes) linking [] (codes "d") parts directory 0 2 (λ target e. cc) (is_folder [] 0 1 refl) refl (stands (codes "d" ∷ []))
+into_d linking parts =
+    step_down (tree_with d_nodes) linking [] (codes "d") parts directory 0 2 (λ target e. cc)
+    (is_folder [] 0 1 refl) refl (stands (codes "d" ∷ []))
 
 into_s : (linking : Linking) (parts : List Name)
     → steps (tree_with d_nodes) linking false (codes "d" ∷ []) (codes "s" ∷ parts) ≡ steps (tree_with d_nodes) linking false (codes "d" ∷ codes "s" ∷ []) parts
 into_s linking parts =
-    step_down (tree_with d_nodes) linking (codes "d" ∷ []) (codes "s") parts directory 0 6 (λ target e. cc) (is_folder (codes "d" ∷ []) 0 2 refl) refl (stands (codes "d" ∷ codes "s" ∷ []))
+    step_down (tree_with d_nodes) linking (codes "d" ∷ []) (codes "s") parts directory 0 6 (λ target e. cc)
+    (is_folder (codes "d" ∷ []) 0 2 refl) refl (stands (codes "d" ∷ codes "s" ∷ []))
 
 file_in : (linking : Linking) (folder : NameList) (name : Name) (dev ino : ℕ) (bytes : List ℕ) (number : ℕ) → is_up name ≡ false
     → find name_list_cmp folder d_nodes ≡ Some (record { content = directory; dev = dev; ino = ino })
     → find name_list_cmp (folder ++ name ∷ []) d_nodes ≡ Some (record { content = file bytes 420; dev = 0; ino = number })
     → steps (tree_with d_nodes) linking false folder (name ∷ []) ≡ Some (folder ++ name ∷ [])
 file_in linking folder name dev ino bytes number up there e =
-    step_down (tree_with d_nodes) linking folder name [] (file bytes 420) 0 number (λ target e. cc) (is_folder folder dev ino there) up (stands (folder ++ name ∷ []) ∙ e)
+    step_down (tree_with d_nodes) linking folder name [] (file bytes 420) 0 number (λ target e. cc)
+    (is_folder folder dev ino there) up (stands (folder ++ name ∷ []) ∙ e)
 
 -- what a link on the way does
 abbrev links : Linking
@@ -87,9 +93,12 @@ to_e = by_parts (codes "/d/e") (codes "d" ∷ codes "e" ∷ []) refl refl
 to_b : reached (tree_with d_nodes) (codes "/d/s/b") false ≡ Some (codes "d" ∷ codes "s" ∷ codes "b" ∷ [])
 unfolding parts_of
 to_b = by_parts (codes "/d/s/b") (codes "d" ∷ codes "s" ∷ codes "b" ∷ []) refl refl
-    (into_d links (codes "s" ∷ codes "b" ∷ []) ∙ into_s links (codes "b" ∷ []) ∙ file_in links (codes "d" ∷ codes "s" ∷ []) (codes "b") 0 6 (codes "hi") 7 refl refl refl)
+    (into_d links (codes "s" ∷ codes "b" ∷ [])
+    ∙ into_s links (codes "b" ∷ [])
+    ∙ file_in links (codes "d" ∷ codes "s" ∷ []) (codes "b") 0 6 (codes "hi") 7 refl refl refl)
 
-node_there : (path : List ℕ) (place : NameList) → reached (tree_with d_nodes) path false ≡ Some place → node_to (tree_with d_nodes) path false ≡ find name_list_cmp place d_nodes
+node_there : (path : List ℕ) (place : NameList) → reached (tree_with d_nodes) path false ≡ Some place
+    → node_to (tree_with d_nodes) path false ≡ find name_list_cmp place d_nodes
 node_there path place leads = ap (option_and_then (node_at (tree_with d_nodes))) leads ∙ stands place
 
 -- ---- its entries
@@ -116,7 +125,8 @@ module _ (globs : List (List ℕ)) where
   -- the file is empty
   pub e_not : ¬ Picked (record { path = codes "/d/e"; kind = kind.File; depth = 1; ino = 4; followed = false })
   e_not picked =
-      let same : ◌≡◌ {A = Option Node} (Some (record { content = file [] 420; dev = 0; ino = 4 })) (Some picked.node) = sym (node_there (codes "/d/e") (codes "d" ∷ codes "e" ∷ []) to_e) ∙ picked.leads in
+      let same : ◌≡◌ {A = Option Node} (Some (record { content = file [] 420; dev = 0; ino = 4 })) (Some picked.node) =
+      sym (node_there (codes "/d/e") (codes "d" ∷ codes "e" ∷ []) to_e) ∙ picked.leads in
       let none = ap (λ (n : Node). len_of n.content) (same_Some _ picked.node same) in
       let some = picked.nonempty in
       absurd (omega (arith, none, some))
@@ -140,7 +150,9 @@ module _ (globs : List (List ℕ)) where
   }
 
   pub b_not : ¬ FitsAny globs (codes "s/b") → ¬ Picked (record { path = codes "/d/s/b"; kind = kind.File; depth = 2; ino = 7; followed = false })
-  b_not none picked = none (subst (λ (names : List ℕ). FitsAny globs names) (same_below (codes "/d") picked.names (codes "s/b") (sym picked.path_is)) picked.fits)
+  b_not none picked =
+      none (subst (λ (names : List ℕ). FitsAny globs names)
+      (same_below (codes "/d") picked.names (codes "s/b") (sym picked.path_is)) picked.fits)
 
 -- ---- globs
 
@@ -164,7 +176,8 @@ pub stars_fit_a : FitsAny (codes "**" ∷ []) (codes "a")
 stars_fit_a = fits_one (codes "**") (codes "a") (omega arith, (omega arith, tt)) (omega arith, tt) (1, (omega arith, omega arith), refl)
 
 pub stars_fit_b : FitsAny (codes "**" ∷ []) (codes "s/b")
-stars_fit_b = fits_one (codes "**") (codes "s/b") (omega arith, (omega arith, tt)) (omega arith, (omega arith, (omega arith, tt))) (3, (omega arith, omega arith), refl)
+stars_fit_b =
+    fits_one (codes "**") (codes "s/b") (omega arith, (omega arith, tt)) (omega arith, (omega arith, (omega arith, tt))) (3, (omega arith, omega arith), refl)
 
 pub star_fits_a : FitsAny (codes "*" ∷ []) (codes "a")
 star_fits_a = fits_one (codes "*") (codes "a") (omega arith, tt) (omega arith, tt) (1, (omega arith, omega arith, λ place from to. no_slash place to), refl)

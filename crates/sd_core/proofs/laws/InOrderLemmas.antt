@@ -34,7 +34,8 @@ by_name_total = record {
   congr = λ x y z. name_total.congr x.name y.name z.name;
 }
 
-all_insert : {X : Type 0} (P : X → Type 0) (compare : X → X → Ordering) (x : X) (ys : List X) → P x → AllByRecursion P ys → AllByRecursion P (insert compare x ys)
+all_insert : {X : Type 0} (P : X → Type 0) (compare : X → X → Ordering) (x : X) (ys : List X) → P x → AllByRecursion P ys
+    → AllByRecursion P (insert compare x ys)
 all_insert P compare x [] p h = (p, tt)
 all_insert {X} P compare x (y ∷ ys) p h = by (all_insert P compare x ys p h.1) (is_lt (compare y x))
   where
@@ -68,15 +69,20 @@ insert_moves c x [] = IsPermutation-refl (x ∷ [])
 insert_moves {X} c x (y ∷ ys) = by (insert_moves c x ys) (is_lt (c y x))
   where
     by : IsPermutation (x ∷ ys) (insert c x ys) → (b : Bool) → IsPermutation (x ∷ y ∷ ys) (cond b (y ∷ insert c x ys) (x ∷ y ∷ ys))
-    by r true = IsPermutation-trans (x ∷ y ∷ ys) (y ∷ x ∷ ys) (y ∷ insert c x ys) (IsPermutation-middle (x ∷ []) y ys) (IsPermutation-cons y (x ∷ ys) (insert c x ys) r)
+    by r true =
+        IsPermutation-trans (x ∷ y ∷ ys) (y ∷ x ∷ ys) (y ∷ insert c x ys)
+        (IsPermutation-middle (x ∷ []) y ys) (IsPermutation-cons y (x ∷ ys) (insert c x ys) r)
     by r false = IsPermutation-refl (x ∷ y ∷ ys)
 
 sorted_moves : {X : Type 0} (c : X → X → Ordering) (xs : List X) → IsPermutation xs (sorted c xs)
 sorted_moves c [] = IsPermutation-refl []
-sorted_moves c (x ∷ xs) = IsPermutation-trans (x ∷ xs) (x ∷ sorted c xs) (insert c x (sorted c xs)) (IsPermutation-cons x xs (sorted c xs) (sorted_moves c xs)) (insert_moves c x (sorted c xs))
+sorted_moves c (x ∷ xs) =
+    IsPermutation-trans (x ∷ xs) (x ∷ sorted c xs) (insert c x (sorted c xs))
+    (IsPermutation-cons x xs (sorted c xs) (sorted_moves c xs)) (insert_moves c x (sorted c xs))
 
 sorted_by_name : (raws : List RawEntry) → IsSortedByKey (λ entry. entry.name) name_cmp (sorted by_name raws)
-sorted_by_name raws k d from_first within = near_from_up (less by_name) (sorted by_name raws) (sorted_up by_name (less_weak by_name by_name_total) raws) k d within
+sorted_by_name raws k d from_first within =
+    near_from_up (less by_name) (sorted by_name raws) (sorted_up by_name (less_weak by_name by_name_total) raws) k d within
 
 -- ---- a directory's entries
 
@@ -106,12 +112,15 @@ in_order_by_name tree place folder entries listed is there text names ordered =
     let each = each_told tree place (tree.order place) listed told in
     record {
       raws = raws;
-      entries_are = ordered ∙ sorted_map (entry_below folder) (λ raw. IsName raw.name) by_name by_file_name (by_names folder) listed (names_real tree is place listed each);
-      up = strictly_sorted listed raws moved (subst (λ (names : List Name). IsDistinct (eq_by_cmp name_cmp) names) (sym listed_are) (is.order_once place)) (sorted_by_name listed);
+      entries_are = ordered
+          ∙ sorted_map (entry_below folder) (λ raw. IsName raw.name) by_name by_file_name (by_names folder) listed (names_real tree is place listed each);
+      up = strictly_sorted listed raws moved
+          (subst (λ (names : List Name). IsDistinct (eq_by_cmp name_cmp) names) (sym listed_are) (is.order_once place)) (sorted_by_name listed);
       each = recursion_from_All TellsOwn raws (All-permutation TellsOwn listed raws moved (All-from_recursion TellsOwn listed each));
       all = λ name stands.
           let known : In name (tree.order place) = in_from_any name (tree.order place) (is.order_all place name ∙ stands) in
-          let before : Contains (names_of listed) name = contains_from_in (names_of listed) name (subst (λ (names : List Name). In name names) (sym listed_are) known) in
+          let before : Contains (names_of listed) name =
+          contains_from_in (names_of listed) name (subst (λ (names : List Name). In name names) (sym listed_are) known) in
           in_from_contains (names_of raws) name
           (Contains-permutation (names_of listed) (names_of raws) name (IsPermutation-map (λ raw. raw.name) listed raws moved) before);
     }

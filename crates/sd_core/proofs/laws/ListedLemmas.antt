@@ -20,11 +20,12 @@ use Rattle.walk_rest.specs.declared.options.Options.{Options}
 use Rattle.walk_rest.specs.Names.{by_file_name}
 use Rattle.walk_rest.specs.Plan.{Comparison, Item, path_below, Plan, done, past, into, items_of, items_in, Manner, Seen, stays, enters, seen_by, node_to, folder_of, is_directory, is_link, entry_below, item_where, is_shown, IsPlan, IsPast, IsInto, IsContents}
 use Rattle.walk_rest.specs.Listing.{Beginning, ends, begins, begins_with, beginning_by, beginning, root_entry, manner_of, device_to, IsBegun, IsListing}
-use Rattle.sd_core.specs.Picks.{IsPlainWalk, StandsIn, IsEntryAt, AreEntriesAt, ListsAllIn}
+use Rattle.sd_core.specs.Picks.{IsPlainWalk, WalksWhole, StandsIn, IsEntryAt, AreEntriesAt, ListsAllIn}
 use Rattle.sd_core.proofs.listing.EntryLemmas.{names_of}
 use Rattle.sd_core.proofs.listing.StackLemmas.{In, in_from_contains, contains_from_in, in_left, in_right, in_append, all_from_in, in_from_all, sorted_append, child_less, below_later}
 use Rattle.sd_core.proofs.laws.BelowLemmas.{below_place}
 use Rattle.sd_core.proofs.laws.InOrderLemmas.{in_order_by_name}
+use Rattle.sd_core.proofs.laws.ReachedLemmas.{reached_no_link}
 
 -- ---- lists of entries
 
@@ -36,7 +37,7 @@ record ListsOf (tree : Tree) (top : NameList) (P : NameList → Type 0) (items :
   entries : AreEntriesAt tree top places items
 
 -- something stands properly below a place
-abbrev StandsBelow : Tree → NameList → NameList → Type 0
+abbrev pub StandsBelow : Tree → NameList → NameList → Type 0
 StandsBelow tree place q = (name : Name) × (rest : NameList) × (q ≡ place ++ name ∷ rest) × IsSome (node_at tree q)
 
 -- it stands at or below one of these names in a place
@@ -56,7 +57,8 @@ module _ (tree : Tree) (top : NameList) where
   unfolding IsStrictlySortedBy
   none_listed P none = record { places = []; in_order = tt; these = λ q. ((λ i. absurd i), λ p. absurd (none q p)); entries = tt }
 
-  listed_as : {P Q : NameList → Type 0} {items : List Item} → ((q : NameList) → P q → Q q) → ((q : NameList) → Q q → P q) → ListsOf tree top P items → ListsOf tree top Q items
+  listed_as : {P Q : NameList → Type 0} {items : List Item} → ((q : NameList) → P q → Q q) → ((q : NameList) → Q q → P q) → ListsOf tree top P items
+      → ListsOf tree top Q items
   listed_as onward back l = record {
     places = l.places;
     in_order = l.in_order;
@@ -65,7 +67,8 @@ module _ (tree : Tree) (top : NameList) where
   }
 
   -- one list after another
-  both_listed : {P Q : NameList → Type 0} {xs ys : List Item} → ((q r : NameList) → P q → Q r → name_list_cmp q r ≡ Less) → ListsOf tree top P xs → ListsOf tree top Q ys
+  both_listed : {P Q : NameList → Type 0} {xs ys : List Item} → ((q r : NameList) → P q → Q r → name_list_cmp q r ≡ Less)
+      → ListsOf tree top P xs → ListsOf tree top Q ys
       → ListsOf tree top (λ q. P q ⊎ Q q) (xs ++ ys)
   both_listed {P} {Q} {xs} {ys} before l m = record {
     places = l.places ++ m.places;
@@ -129,7 +132,7 @@ kinds Link = inr ((λ e. cc), refl)
 kinds File = inr ((λ e. cc), refl)
 kinds Other = inr ((λ e. cc), refl)
 
-directory_kind : (c : Content) → kind_of c ≡ kind.Directory → is_directory_content c ≡ true
+pub directory_kind : (c : Content) → kind_of c ≡ kind.Directory → is_directory_content c ≡ true
 directory_kind directory e = refl
 directory_kind (link target) e = cc
 directory_kind (file bytes mode) e = cc
@@ -158,7 +161,8 @@ le_of : (a b : ℕ) → a ≤ b → nat_le a b ≡ true
 le_of a b e = search rules
 
 -- nothing stands below what is no directory
-nothing_below : (tree : Tree) → IsTree tree → (place : NameList) (node : Node) → node_at tree place ≡ Some node → kind_of node.content ≢ kind.Directory → (q : NameList) → StandsBelow tree place q → ⊥
+pub nothing_below : (tree : Tree) → IsTree tree → (place : NameList) (node : Node) → node_at tree place ≡ Some node
+    → kind_of node.content ≢ kind.Directory → (q : NameList) → StandsBelow tree place q → ⊥
 nothing_below tree is place node stands no_folder q (name, rest, e, some) =
     let under = above tree is place name rest (subst (λ (q : NameList). IsSome (node_at tree q)) e some) in
     no_folder (kind_directory node.content (ap is_directory_node (sym stands) ∙ is.parents place name under))
@@ -173,11 +177,13 @@ module _ (tree : Tree) (is : IsTree tree) (top : NameList) (options : Options) (
       let max : nat_le depth options.max_depth ≡ true = le_of depth options.max_depth shallow in
       rw (min, max) refl
 
-  seen_in : (chain : List Folder) (entry : DirEntry) (to : Option Node) → is_directory entry.kind ≡ true → seen_by manner chain entry to ≡ enters entry (folder_of options entry to)
+  seen_in : (chain : List Folder) (entry : DirEntry) (to : Option Node) → is_directory entry.kind ≡ true
+      → seen_by manner chain entry to ≡ enters entry (folder_of options entry to)
   seen_in chain entry to there = rw (how.no_links, there, how.all_devices) refl
 
   -- an entry that is no directory, and isn't the root's or no link
-  seen_past : (chain : List Folder) (entry : DirEntry) (to : Option Node) → (is_link entry.kind && nat_eq entry.depth 0 && options.follow_root_links) ≡ false → is_directory entry.kind ≡ false
+  seen_past : (chain : List Folder) (entry : DirEntry) (to : Option Node)
+      → (is_link entry.kind && nat_eq entry.depth 0 && options.follow_root_links) ≡ false → is_directory entry.kind ≡ false
       → seen_by manner chain entry to ≡ stays entry
   seen_past chain entry to no_root_link no_folder = rw (how.no_links, no_folder, no_root_link) refl
 
@@ -205,8 +211,9 @@ module _ (tree : Tree) (is : IsTree tree) (top : NameList) (options : Options) (
   Walked place raws items = ListsOf tree top (StandsUnder tree place (names_of raws)) items
 
   -- an entry, what stands below it, and the entries after it
-  walked_on : (place : NameList) (folder : Folder) (raw : RawEntry) (raws : List RawEntry) (inner items : List Item) → IsFolder place folder → Tells tree place raw.name raw
-      → AllByRecursion (λ next. name_cmp raw.name next ≡ Less) (names_of raws) → ListsOf tree top (StandsBelow tree (place ++ raw.name ∷ [])) inner → Walked place raws items
+  walked_on : (place : NameList) (folder : Folder) (raw : RawEntry) (raws : List RawEntry) (inner items : List Item)
+      → IsFolder place folder → Tells tree place raw.name raw → AllByRecursion (λ next. name_cmp raw.name next ≡ Less) (names_of raws)
+      → ListsOf tree top (StandsBelow tree (place ++ raw.name ∷ [])) inner → Walked place raws items
       → Walked place (raw ∷ raws) (Ok (entry_below folder raw) ∷ (inner ++ items))
   walked_on place folder raw raws inner items at told first below rest =
       listed_under tree top place raw.name (names_of raws) (Ok (entry_below folder raw) ∷ inner) items first
@@ -222,7 +229,8 @@ module _ (tree : Tree) (is : IsTree tree) (top : NameList) (options : Options) (
   contents_walked place folder chain inner contents at few (inr l) planned onward =
       let o = in_order_by_name tree place folder inner l.listed is at.there at.path_is l.names l.ordered in
       listed_as tree top (λ q (name, rest, i, e, stands). (name, rest, e, stands))
-      (λ q (name, rest, e, stands). (name, rest, o.all name (above tree is place name rest (subst (λ (q : NameList). IsSome (node_at tree q)) e stands)), e, stands))
+      (λ q (name, rest, e, stands).
+      (name, rest, o.all name (above tree is place name rest (subst (λ (q : NameList). IsSome (node_at tree q)) e stands)), e, stands))
       (onward o.raws o.each o.up (subst (λ (entries : List DirEntry). IsPlan tree manner chain entries contents) o.entries_are planned))
 
   walked : (plan : Plan) (chain : List Folder) (folder : Folder) (place : NameList) (raws : List RawEntry) → IsFolder place folder
@@ -240,7 +248,8 @@ module _ (tree : Tree) (is : IsTree tree) (top : NameList) (options : Options) (
         | inl d ↦ absurd (subst (λ (s : Seen). IsPast manner s item) (seen_in chain entry node d.1) planned.1)
         | inr d ↦
             (let given : item ≡ Some (Ok entry) =
-            subst (λ (s : Seen). IsPast manner s item) (seen_past chain entry node (not_root (is_link raw.kind) options.follow_root_links folder.depth) d.1) planned.1
+            subst (λ (s : Seen). IsPast manner s item)
+            (seen_past chain entry node (not_root (is_link raw.kind) options.follow_root_links folder.depth) d.1) planned.1
             ∙ ap (λ b. item_where b entry) (shown_at (folder.depth + 1) (omega (arith, few))) in
             let nothing = none_listed tree top (StandsBelow tree (place ++ raw.name ∷ []))
             (nothing_below tree is (place ++ raw.name ∷ []) told.0.node told.0.stands (λ e. d.0 (told.0.kind_is ∙ e))) in
@@ -254,7 +263,8 @@ module _ (tree : Tree) (is : IsTree tree) (top : NameList) (options : Options) (
       let here = place ++ raw.name ∷ [] in
       let node = node_to tree entry.path true in
       elim (kinds raw.kind) [
-        | inr d ↦ absurd (subst (λ (s : Seen). IsInto manner s f before after) (seen_past chain entry node (not_root (is_link raw.kind) options.follow_root_links folder.depth) d.1) planned.0)
+        | inr d ↦ absurd (subst (λ (s : Seen). IsInto manner s f before after)
+            (seen_past chain entry node (not_root (is_link raw.kind) options.follow_root_links folder.depth) d.1) planned.0)
         | inl d ↦
             (let entered = subst (λ (s : Seen). IsInto manner s f before after) (seen_in chain entry node d.1) planned.0 in
             let shown = shown_at (folder.depth + 1) (omega (arith, few)) in
@@ -292,7 +302,8 @@ module _ (tree : Tree) (is : IsTree tree) (top : NameList) (options : Options) (
     root_at : IsEntryAt tree top top root
     root_at = record { node = node; stands = stands; kind_is = refl; path_is = refl; depth_is = omega arith; not_followed = refl }
 
-    root_walked : (plan : Plan) → length (items_in plan) ≤ options.max_depth → IsPlan tree manner [] (root ∷ []) plan → ListsOf tree top (StandsIn tree top) (items_in plan)
+    root_walked : (plan : Plan) → length (items_in plan) ≤ options.max_depth → IsPlan tree manner [] (root ∷ []) plan
+        → ListsOf tree top (StandsIn tree top) (items_in plan)
     root_walked done few planned = absurd planned
     root_walked (past path item plan) few planned =
         let to = node_to tree root.path true in
@@ -300,7 +311,8 @@ module _ (tree : Tree) (is : IsTree tree) (top : NameList) (options : Options) (
           | inl d ↦ absurd (subst (λ (s : Seen). IsPast manner s item) (seen_in [] root to d.1) planned.1)
           | inr d ↦
               (let given : item ≡ Some (Ok root) =
-              subst (λ (s : Seen). IsPast manner s item) (seen_past [] root to (ap (λ b. b && nat_eq 0 0 && options.follow_root_links) (no_link_kind node.content no_link)) d.1) planned.1
+              subst (λ (s : Seen). IsPast manner s item)
+              (seen_past [] root to (ap (λ b. b && nat_eq 0 0 && options.follow_root_links) (no_link_kind node.content no_link)) d.1) planned.1
               ∙ ap (λ b. item_where b root) (shown_at 0 (omega arith)) in
               let same : items_of item ++ items_in plan ≡ Ok root ∷ [] = λ i. items_of (given i) ++ nothing_left plan [] planned.2 i in
               let nothing = none_listed tree top (StandsBelow tree top) (nothing_below tree is top node stands d.0) in
@@ -309,7 +321,8 @@ module _ (tree : Tree) (is : IsTree tree) (top : NameList) (options : Options) (
     root_walked (into f before contents after plan) few planned =
         let to = node_to tree root.path true in
         elim (kinds root.kind) [
-          | inr d ↦ absurd (subst (λ (s : Seen). IsInto manner s f before after) (seen_past [] root to (ap (λ b. b && nat_eq 0 0 && options.follow_root_links) (no_link_kind node.content no_link)) d.1) planned.0)
+          | inr d ↦ absurd (subst (λ (s : Seen). IsInto manner s f before after)
+              (seen_past [] root to (ap (λ b. b && nat_eq 0 0 && options.follow_root_links) (no_link_kind node.content no_link)) d.1) planned.0)
           | inl d ↦
               (let entered = subst (λ (s : Seen). IsInto manner s f before after) (seen_in [] root to d.1) planned.0 in
               let given : before ≡ Some (Ok root) = entered.1 ∙ rw (how.contents_last, shown_at 0 (omega arith)) refl in
@@ -326,7 +339,8 @@ module _ (tree : Tree) (is : IsTree tree) (top : NameList) (options : Options) (
               } in
               let inside = contents_walked top f (f ∷ []) planned.1.0 contents below (omega (arith, few, many, depth)) planned.1.1 planned.1.2
               (λ raws told up planned'. walked contents (f ∷ []) f top raws below (omega (arith, few, many, depth)) told up planned') in
-              subst (λ (items : List Item). ListsOf tree top (StandsIn tree top) items) (sym same) (listed_within tree top top root (items_in contents) root_at inside))
+              subst (λ (items : List Item). ListsOf tree top (StandsIn tree top) items) (sym same)
+              (listed_within tree top top root (items_in contents) root_at inside))
         ]
 
 -- a walk of the text of a place begins with its node
@@ -337,8 +351,9 @@ begins_there tree top options node is how stands =
     let leads : node_to tree text false ≡ Some node = ap (option_and_then (node_at tree)) (text_not_followed tree top node is stands) ∙ stands in
     rw how.all_devices (ap (begins_with text) leads)
 
-pub all_listed : (tree : Tree) (top : NameList) (options : Options) (node : Node) (items : List Item) → IsTree tree → IsPlainWalk options → node_at tree top ≡ Some node
-    → ((target : List ℕ) → node.content ≢ link target) → IsListing tree options true by_file_name (path_text top) items → length items ≤ options.max_depth → ListsAllIn tree top items
+all_listed : (tree : Tree) (top : NameList) (options : Options) (node : Node) (items : List Item) → IsTree tree → IsPlainWalk options
+    → node_at tree top ≡ Some node → ((target : List ℕ) → node.content ≢ link target)
+    → IsListing tree options true by_file_name (path_text top) items → length items ≤ options.max_depth → ListsAllIn tree top items
 all_listed tree top options node items is how stands no_link listing few =
     let root = path_text top in
     let manner = manner_of tree options true by_file_name root in
@@ -348,20 +363,33 @@ all_listed tree top options node items is how stands no_link listing few =
     subst (λ (items : List Item). ListsAllIn tree top items) (sym listing.same)
     (record {
       places = l.places;
-      all = record { in_order = l.in_order; these = λ q. ((λ c. (l.these q).0 (in_from_contains l.places q c)), λ s. contains_from_in l.places q ((l.these q).1 s)) };
+      all = record {
+        in_order = l.in_order;
+        these = λ q. ((λ c. (l.these q).0 (in_from_contains l.places q c)), λ s. contains_from_in l.places q ((l.these q).1 s));
+      };
       entries = l.entries;
     })
 
 -- a walk of a path that leads nowhere gives an error alone
-pub nowhere_listed : (tree : Tree) (options : Options) (sorts : Bool) (compare : Comparison) (root : List ℕ) (items : List Item) → reached tree root false ≡ None
-    → IsListing tree options sorts compare root items → items ≡ Err (error.Absent root 0) ∷ []
+pub nowhere_listed : (tree : Tree) (options : Options) (sorts : Bool) (compare : Comparison) (root : List ℕ) (items : List Item)
+    → reached tree root false ≡ None → IsListing tree options sorts compare root items → items ≡ Err (error.Absent root 0) ∷ []
 nowhere_listed tree options sorts compare root items nowhere listing =
     let manner = manner_of tree options sorts compare root in
-    let ended = ap (beginning_by options root (node_to tree root true)) (ap (option_and_then (node_at tree)) nowhere) ∙ by options.same_file_system (node_to tree root true) in
+    let ended =
+    ap (beginning_by options root (node_to tree root true)) (ap (option_and_then (node_at tree)) nowhere)
+    ∙ by options.same_file_system (node_to tree root true) in
     listing.same ∙ ap items_in (subst (λ (b : Beginning). IsBegun tree manner root b listing.plan) ended listing.planned)
   where
     by : (b : Bool) (followed : Option Node)
-        → cond b (option_map_or (λ (node : Node). begins_with root None) followed (ends (error.Absent root 0))) (begins_with root None) ≡ ends (error.Absent root 0)
+        → cond b (option_map_or (λ (node : Node). begins_with root None) followed (ends (error.Absent root 0))) (begins_with root None)
+        ≡ ends (error.Absent root 0)
     by true None = refl
     by true (Some node) = refl
     by false followed = refl
+
+-- a whole walk gives all that stands at or below its place
+pub whole_listed : (tree : Tree) (options : Options) (root : List ℕ) (top : NameList) (items : List Item) → IsTree tree
+    → WalksWhole tree options root top items → ListsAllIn tree top items
+whole_listed tree options root top items is walk =
+    let at = reached_no_link tree root top is walk.leads in
+    all_listed tree top options at.node items is walk.is_plain at.stands at.no_link walk.listing walk.few

@@ -8,7 +8,8 @@ use Rattle.std.proofs.lemmas.List.{append_cancel_left}
 use Rattle.std.proofs.lemmas.Option.{same_Some}
 use Rattle.sd_edge.specs.Tree.{NameList, Node, Tree, IsTree, name_list_cmp, node_at, file_at, file_node}
 use Rattle.sd_edge.specs.Paths.{reached}
-use Rattle.sd_edge.specs.Files.{len_of, path_text}
+use Rattle.sd_edge.specs.Files.{kind_of, len_of, path_text}
+use Rattle.sd_edge.specs.declared.meta.Kind.TheVariants as kind
 use Rattle.sd_edge.proofs.PathTextLemmas.{text_not_followed}
 use Rattle.walk_rest.specs.declared.entry.DirEntry.{DirEntry}
 use Rattle.walk_rest.specs.Plan.{Item, path_below, node_to}
@@ -20,6 +21,7 @@ use Rattle.sd_core.proofs.listing.ChoiceLemmas.{nonempty_content, content_nonemp
 use Rattle.sd_core.proofs.listing.ListingLemmas.{file_stands}
 use Rattle.sd_core.proofs.listing.StackLemmas.{In, in_from_contains, contains_from_in, all_from_in, in_from_all}
 use Rattle.sd_core.proofs.laws.BelowLemmas.{below_place, same_below}
+use Rattle.sd_core.proofs.laws.ListedLemmas.{nothing_below}
 
 -- a place that is others by some names is below them where it is longer
 longer_below : (top place names : NameList) (depth : ℕ) → place ≡ top ++ names → length place ≡ length top + depth → 0 < depth → names ≢ []
@@ -90,11 +92,16 @@ module _ (tree : Tree) (is : IsTree tree) (top : NameList) (globs : List (List �
     paths_are : paths ≡ map path_text chosen
 
   one_more : (place : NameList) (entry : DirEntry) (places : List NameList) (paths more : List (List ℕ)) → IsEntryAt tree top place entry
-      → AllByRecursion (λ q. name_list_cmp place q ≡ Less) places → IsChosen tree top globs place → paths ≡ entry.path ∷ more → AreChosenOf places more → AreChosenOf (place ∷ places) paths
+      → AllByRecursion (λ q. name_list_cmp place q ≡ Less) places → IsChosen tree top globs place → paths ≡ entry.path ∷ more
+      → AreChosenOf places more → AreChosenOf (place ∷ places) paths
   unfolding IsStrictlySortedBy
   one_more place entry places paths more at first chosen are rest = record {
     chosen = place ∷ rest.chosen;
-    in_order = (all_from_in (λ q. name_list_cmp place q ≡ Less) rest.chosen (λ q i. in_from_all (λ q. name_list_cmp place q ≡ Less) places first q ((rest.these q).0 i).0), rest.in_order);
+    in_order = (
+      all_from_in (λ q. name_list_cmp place q ≡ Less) rest.chosen
+          (λ q i. in_from_all (λ q. name_list_cmp place q ≡ Less) places first q ((rest.these q).0 i).0),
+      rest.in_order,
+    );
     these = λ q. (from_in q, to_in q);
     paths_are = are ∙ (λ i. at.path_is i ∷ rest.paths_are i);
   }
@@ -107,7 +114,8 @@ module _ (tree : Tree) (is : IsTree tree) (top : NameList) (globs : List (List �
       to_in q (inl e, c) = inl e
       to_in q (inr i, c) = inr ((rest.these q).1 (i, c))
 
-  one_passed : (place : NameList) (places : List NameList) (paths : List (List ℕ)) → ¬ IsChosen tree top globs place → AreChosenOf places paths → AreChosenOf (place ∷ places) paths
+  one_passed : (place : NameList) (places : List NameList) (paths : List (List ℕ)) → ¬ IsChosen tree top globs place
+      → AreChosenOf places paths → AreChosenOf (place ∷ places) paths
   one_passed place places paths not rest = record {
     chosen = rest.chosen;
     in_order = rest.in_order;
@@ -127,7 +135,8 @@ module _ (tree : Tree) (is : IsTree tree) (top : NameList) (globs : List (List �
   picked_of (place ∷ places) [] paths at within up picks = absurd at
   picked_of (place ∷ places) (Err error ∷ items) paths at within up picks = absurd at
   picked_of (place ∷ places) (Ok entry ∷ items) paths at within up (inl (picked, (more, are, picks))) =
-      one_more place entry places paths more at.0 up.0 (picked_chosen place entry at.0 within.0 picked) are (picked_of places items more at.1 within.1 up.1 picks)
+      one_more place entry places paths more at.0 up.0 (picked_chosen place entry at.0 within.0 picked) are
+      (picked_of places items more at.1 within.1 up.1 picks)
   picked_of (place ∷ places) (Ok entry ∷ items) paths at within up (inr (not, picks)) =
       one_passed place places paths (λ chosen. not (chosen_picked place entry at.0 within.0 chosen)) (picked_of places items paths at.1 within.1 up.1 picks)
 
@@ -149,3 +158,22 @@ module _ (tree : Tree) (is : IsTree tree) (top : NameList) (globs : List (List �
     where
       stands_in : (q : NameList) → IsChosen tree top globs q → StandsIn tree top q
       stands_in q chosen = let (byte, bytes, mode, e) = chosen.is_file in ((chosen.names, chosen.below), file_stands (node_at tree q) (byte ∷ bytes, mode) e)
+
+  -- nothing is picked where the top is no directory
+  pub none_picked : (node : Node) → node_at tree top ≡ Some node → kind_of node.content ≢ kind.Directory → (items : List Item) (paths : List (List ℕ))
+      → ListsAllIn tree top items → Picks tree (path_text top) globs items paths → paths ≡ []
+  none_picked node stands no_folder items paths lists picks =
+      let chosen = picks_are_chosen items paths lists picks in
+      chosen.2 ∙ by chosen.0 chosen.1
+    where
+      nothing : (q : NameList) (names : NameList) → IsChosen tree top globs q → q ≡ top ++ names → names ≢ [] → ⊥
+      nothing q [] chosen below some = some refl
+      nothing q (name ∷ rest) chosen below some =
+          let (byte, bytes, mode, e) = chosen.is_file in
+          nothing_below tree is top node stands no_folder q (name, rest, below, file_stands (node_at tree q) (byte ∷ bytes, mode) e)
+
+      by : (places : List NameList) → Chosen tree top globs places → map path_text places ≡ []
+      by [] chosen = refl
+      by (q ∷ places) chosen =
+          let one = (chosen.these q).0 (contains_from_in (q ∷ places) q (inl refl)) in
+          absurd (nothing q one.names one one.below one.proper)
