@@ -43,7 +43,7 @@ directory_is_no_file (link target) e is = cc
 directory_is_no_file (file bytes mode) e is = cc
 directory_is_no_file other e is = cc
 
-nonempty_content : (c : Content) → kind_of c ≡ kind.File → 0 < len_of c → (byte : ℕ) × (bytes : List ℕ) × (mode : ℕ) × (file_content c ≡ Some (byte ∷ bytes, mode))
+pub nonempty_content : (c : Content) → kind_of c ≡ kind.File → 0 < len_of c → (byte : ℕ) × (bytes : List ℕ) × (mode : ℕ) × (file_content c ≡ Some (byte ∷ bytes, mode))
 nonempty_content directory is some = cc
 nonempty_content (link target) is some = cc
 nonempty_content (file [] mode) is some = absurd (omega arith)
@@ -56,7 +56,7 @@ nonempty_is_not e = cc
 none_is_not : {A : Type 0} {a : A} → ◌≡◌ {A = Option A} None (Some a) → ⊥
 none_is_not e = cc
 
-content_nonempty : (c : Content) (byte : ℕ) (bytes : List ℕ) (mode : ℕ) → file_content c ≡ Some (byte ∷ bytes, mode) → (kind_of c ≡ kind.File) × (0 < len_of c)
+pub content_nonempty : (c : Content) (byte : ℕ) (bytes : List ℕ) (mode : ℕ) → file_content c ≡ Some (byte ∷ bytes, mode) → (kind_of c ≡ kind.File) × (0 < len_of c)
 content_nonempty directory byte bytes mode e = absurd (none_is_not e)
 content_nonempty (link target) byte bytes mode e = absurd (none_is_not e)
 content_nonempty (file [] own) byte bytes mode e = absurd (nonempty_is_not (sym (some_pair_parts [] (byte ∷ bytes) own mode e).0))

@@ -39,7 +39,7 @@ kind_directory (link target) e = cc
 kind_directory (file bytes mode) e = cc
 kind_directory other e = cc
 
-file_stands : (o : Option Node) (f : List ℕ × ℕ) → file_node o ≡ Some f → IsSome o
+pub file_stands : (o : Option Node) (f : List ℕ × ℕ) → file_node o ≡ Some f → IsSome o
 file_stands None f e = cc
 file_stands (Some node) f e = refl
 

@@ -1,0 +1,29 @@
+-- A small tree, and what a walk of one of its directories gives, for the worked examples.
+use Rattle.std.specs.Prelude.{List, [], ◌∷◌, codes}
+use Rattle.sd_edge.specs.Tree.{NameList, directory, link, file, Node}
+use Rattle.sd_edge.specs.declared.meta.Kind.TheVariants as kind
+use Rattle.walk_rest.specs.Examples.{entry, item}
+use Rattle.walk_rest.specs.Plan.{Item}
+
+-- a directory `d` with a file `a`, an empty file `e`, a link `l` to `a`, and a directory `s` with a file `b`
+abbrev pub d_nodes : List (NameList × Node)
+d_nodes =
+    entry [] directory 0 1
+    ∷ entry (codes "d" ∷ []) directory 0 2
+    ∷ entry (codes "d" ∷ codes "a" ∷ []) (file (codes "hi") 420) 0 3
+    ∷ entry (codes "d" ∷ codes "e" ∷ []) (file [] 420) 0 4
+    ∷ entry (codes "d" ∷ codes "l" ∷ []) (link (codes "a")) 0 5
+    ∷ entry (codes "d" ∷ codes "s" ∷ []) directory 0 6
+    ∷ entry (codes "d" ∷ codes "s" ∷ codes "b" ∷ []) (file (codes "hi") 420) 0 7
+    ∷ []
+
+-- what a walk of `/d` gives, sorted by file name
+abbrev pub d_items : List Item
+d_items =
+    item (codes "/d") kind.Directory 0 0
+    ∷ item (codes "/d/a") kind.File 1 3
+    ∷ item (codes "/d/e") kind.File 1 4
+    ∷ item (codes "/d/l") kind.Link 1 5
+    ∷ item (codes "/d/s") kind.Directory 1 6
+    ∷ item (codes "/d/s/b") kind.File 2 7
+    ∷ []
