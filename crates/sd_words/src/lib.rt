@@ -15,6 +15,11 @@ mod options;
 #[cfg(test)]
 mod tests;
 
+pub use examples::{
+    joined_words_are_read_as_in_the_examples, mistakes_are_shown_as_in_the_examples,
+    numbers_and_exclusions_are_as_in_the_examples, options_are_read_as_in_the_examples,
+    other_words_are_read_as_in_the_examples, refused_words_are_as_in_the_examples,
+};
 pub use fault::OptionsFault;
 pub use laws::{
     file_words_ask_for_their_files, plain_words_have_the_table, tree_words_ask_for_their_tree,

@@ -3,6 +3,7 @@
 use crate::{Options, OptionsFault};
 use sd_base::{Text, Words};
 use std::alloc::Global;
+use std::process::Abort;
 use std::test::Fail;
 
 /// Shows an optional text, with a name before it.
@@ -61,7 +62,17 @@ fn outcome(alloc: Global, words: &[&str]) -> Result<String, Fail> {
 /// Words, and what comes of them.
 type Row<'a> = (&'a [&'a str], &'a str);
 
-const OPTIONS: [Row<'static>; 16] = [
+/// Asserts what comes of the words of each row.
+fn check_rows<R: Abort>(rt: &R, alloc: Global, rows: &[Row<'_>]) -> Result<(), Fail> {
+    for (words, expected) in rows {
+        let outcome = outcome(alloc, words)?;
+        assert!(rt; outcome.as_str() == *expected, "{outcome}, not {expected}");
+    }
+    Ok(())
+}
+
+const OPTIONS: [Row<'static>; 19] = [
+    (&["a", "b"], "[a] [b]"),
     (&["-p", "a", "b"], "preview [a] [b]"),
     (&["--preview", "a", "b"], "preview [a] [b]"),
     (&["-F", "a", "b"], "literal [a] [b]"),
@@ -73,6 +84,10 @@ const OPTIONS: [Row<'static>; 16] = [
     (&["--line-mode", "a", "b"], "line [a] [b]"),
     (&["-n", "5", "a", "b"], "limit 5 [a] [b]"),
     (&["--max-replacements", "007", "a", "b"], "limit 7 [a] [b]"),
+    (
+        &["-n", "18446744073709551615", "a", "b"],
+        "limit 18446744073709551615 [a] [b]",
+    ),
     (&["-f", "ix", "a", "b"], "flags [ix] [a] [b]"),
     (&["--flags", "ix", "a", "b"], "flags [ix] [a] [b]"),
     (
@@ -80,19 +95,117 @@ const OPTIONS: [Row<'static>; 16] = [
         "root [/t] [a] [b] [*]",
     ),
     (
-        &["--demo", "100000", "--", "a", "b", "*"],
-        "demo 100000 [a] [b] [*]",
+        &["--demo", "100000", "--", "a", "b", "*", "x"],
+        "demo 100000 [a] [b] [*] [x]",
     ),
     (
         &["-p", "--root", "/t", "a", "b"],
         "preview root [/t] [a] [b]",
     ),
+    (&["--", "--foo", "-w", "--", "-p"], "[--foo] [-w] [--] [-p]"),
 ];
 
 #[test]
-fn each_option_is_read_in_both_spellings(rt: HostRuntime) -> Result<(), Fail> {
-    for (words, expected) in OPTIONS {
-        assert_eq!(rt; outcome(rt.alloc(), words)?.as_str(), expected);
-    }
-    Ok(())
+fn options_are_read_in_both_spellings(rt: HostRuntime) -> Result<(), Fail> {
+    check_rows(&rt, rt.alloc(), &OPTIONS)
+}
+
+const REFUSALS: [Row<'static>; 12] = [
+    (
+        &[],
+        "error: the following required arguments were not provided:\n  <FIND>\n  <REPLACE_WITH>",
+    ),
+    (
+        &["one"],
+        "error: the following required arguments were not provided:\n  <REPLACE_WITH>",
+    ),
+    (
+        &["--", "one"],
+        "error: the following required arguments were not provided:\n  <REPLACE_WITH>",
+    ),
+    (
+        &["--nope", "a", "b"],
+        "error: unexpected argument '--nope' found",
+    ),
+    (
+        &["--roo", "/t", "a", "b"],
+        "error: unexpected argument '--roo' found",
+    ),
+    (&["-V"], "error: unexpected argument '-V' found"),
+    (
+        &["-n", "-5", "--", "a", "b"],
+        "error: unexpected argument '-5' found",
+    ),
+    (
+        &["--root", "-x", "--", "a", "b"],
+        "error: unexpected argument '-x' found",
+    ),
+    (
+        &["-p", "-p", "--", "a", "b"],
+        "error: the argument '--preview' cannot be used multiple times",
+    ),
+    (
+        &["-n", "1", "-n", "2", "a", "b"],
+        "error: the argument '--max-replacements <LIMIT>' cannot be used multiple times",
+    ),
+    (
+        &["--preview=x", "a", "b"],
+        "error: unexpected value 'x' for '--preview' found; no more were expected",
+    ),
+    (
+        &["--root"],
+        "error: a value is required for '--root <DIR>' but none was supplied",
+    ),
+];
+
+#[test]
+fn refusals_of_the_command_are_shown_up_to_their_first_empty_line(
+    rt: HostRuntime,
+) -> Result<(), Fail> {
+    check_rows(&rt, rt.alloc(), &REFUSALS)
+}
+
+/// What is shown where the command takes the words, and they ask for nothing that can be done.
+const INVALID: &str = "error: not a valid command line";
+
+const BROKEN_RULES: [Row<'static>; 8] = [
+    (&["-n", "1x", "a", "b"], INVALID),
+    (&["-n", "+1", "a", "b"], INVALID),
+    (&["-n", "", "a", "b"], INVALID),
+    (&["-n", "18446744073709551616", "a", "b"], INVALID),
+    (&["--demo", "100001", "--", "a", "b"], INVALID),
+    (&["--demo", "x", "--", "a", "b"], INVALID),
+    (&["--demo", "10", "--root", "/t", "--", "a", "b"], INVALID),
+    (&["-p", "--demo", "10", "--", "a", "b"], INVALID),
+];
+
+#[test]
+fn numbers_and_exclusions_are_tested_after_the_parse(rt: HostRuntime) -> Result<(), Fail> {
+    check_rows(&rt, rt.alloc(), &BROKEN_RULES)
+}
+
+const HELP: &str = "error: Finds and replaces text in files, directory trees and streams.
+
+Usage: sd [OPTIONS] <FIND> <REPLACE_WITH> [WORD]...
+
+Arguments:
+  <FIND>          What to find
+  <REPLACE_WITH>  What takes its place
+  [WORD]...       Files, or with --root or --demo globs
+
+Options:
+  -p, --preview                   Write what would change, and change nothing
+  -F, --fixed-strings             Take FIND and REPLACE_WITH as they stand
+  -s, --string-mode               The same as --fixed-strings
+  -l, --line-mode                 Search each line by itself
+  -n, --max-replacements <LIMIT>  Replace at most LIMIT matches, 0 for all
+  -f, --flags <FLAGS>             Flags of the search
+      --root <DIR>                Change the files below DIR that fit a glob
+      --demo <N>                  Change a tree of N files in memory
+  -h, --help                      Print help
+";
+
+#[test]
+fn help_is_shown_whole(rt: HostRuntime) -> Result<(), Fail> {
+    check_rows(&rt, rt.alloc(), &[(&["-h"], HELP), (&["--help"], HELP)])
 }
