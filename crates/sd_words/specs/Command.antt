@@ -34,6 +34,7 @@ options =
     ∷ option (codes "demo") None
     ∷ []
 
+-- the two texts that must be there
 abbrev pub find : Rule
 find = record (word (codes "find")) { required = true }
 
@@ -44,6 +45,7 @@ replace_with = record (word (codes "replace-with")) { required = true }
 abbrev pub rest : Rule
 rest = record (word (codes "words")) { action = Some Append }
 
+-- what comes after the options
 abbrev pub words : List Rule
 words = find ∷ replace_with ∷ rest ∷ []
 

@@ -6,6 +6,7 @@ use Rattle.clap.specs.Words.{Row, Text, all_of, fault_of, first_of, matches_of}
 use Rattle.clap.specs.Walk.{is_empty}
 use Rattle.sd_words.specs.Command.{command}
 
+-- the texts of a command line, as they stand in the words
 pub record Texts : Type 0 where
   pub preview : Bool
   pub fixed_strings : Bool
@@ -23,9 +24,11 @@ pub record Texts : Type 0 where
 abbrev pub is_set : Text → List Row → Bool
 is_set name rows = option_map_or (λ text. bytes_eq text (codes "true")) (first_of name rows) false
 
+-- all texts of a word that may stand several times
 abbrev pub values_of : Text → List Row → List Text
 values_of name rows = unwrap_or (all_of name rows) []
 
+-- the texts in the rows of the matches
 abbrev pub texts_in : List Row → Texts
 texts_in rows = record {
   preview = is_set (codes "preview") rows;

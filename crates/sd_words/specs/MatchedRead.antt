@@ -5,12 +5,14 @@ use Rattle.std.specs.Borrow.{Bor}
 use Rattle.sd_words.specs.Matched.{Texts}
 use Rattle.sd_words.specs.declared.matched.Matched.{Matched}
 
+-- a text that may be there, and texts that may be there
 abbrev pub text_of : Option (Bor (List ℕ)) → Option (List ℕ)
 text_of = option_map (λ s. s.now)
 
 abbrev pub texts_lent : Option (Bor (List (Bor (List ℕ)))) → List (List ℕ)
 texts_lent texts = option_map_or (λ s. map (λ v. v.now) s.now) texts []
 
+-- all texts that were read
 abbrev pub texts_read : Matched → Texts
 texts_read m = record {
   preview = m.preview;

@@ -14,10 +14,11 @@ demo_max = 100000
 abbrev pub limit_of : Option Text → Option ℕ
 limit_of text = option_map_or number_of text (Some 0)
 
--- the number of a demo, where it is given
+-- the number that is written for a demo
 abbrev pub demo_number : Text → Option (Option ℕ)
 demo_number text = option_and_then (λ n. if nat_le n demo_max then Some (Some n) else None) (number_of text)
 
+-- the number of a demo, or that none is given
 abbrev pub demo_of : Option Text → Option (Option ℕ)
 demo_of text = option_map_or demo_number text (Some None)
 
@@ -50,3 +51,7 @@ order_by t =
 -- the record of the words, or none; it opens only where a proof asks for it
 unfoldable pub order_of : List Text → Option Options
 order_of words = option_and_then order_by (texts_of words)
+
+-- a tree command: an order with a root and without preview
+abbrev pub is_tree_command : Options → Bool
+is_tree_command order = is_some order.root && not order.preview

@@ -12,10 +12,10 @@ abbrev pub Refuses : Option Options → OptionsFault → Type 0
 Refuses order (fault.Usage text) = order ≡ None
 Refuses order fault.NoMemory = ⊤
 
--- want of memory, at least where the parse had none
-abbrev pub IsRefusedOnly : Error → OptionsFault → Type 0
-IsRefusedOnly error (fault.Usage text) = kind_of error ≡ OutOfMemory → ⊥
-IsRefusedOnly error fault.NoMemory = ⊤
+-- want of memory exactly where the parse had none
+abbrev pub IsRefusalOf : Error → OptionsFault → Type 0
+IsRefusalOf error (fault.Usage text) = kind_of error ≡ OutOfMemory → ⊥
+IsRefusalOf error fault.NoMemory = kind_of error ≡ OutOfMemory
 
 -- a number, or `Usage` without a text where there is none
 abbrev pub or_usage : {A : Type 0} → Option A → Result A OptionsFault

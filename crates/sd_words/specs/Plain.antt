@@ -26,6 +26,7 @@ pub data Spelling : Type 0 where
   short : Spelling
   long : Spelling
 
+-- the names of the options
 abbrev pub flag_name : Flag → Text
 flag_name preview = codes "preview"
 flag_name fixed_strings = codes "fixed-strings"
@@ -49,7 +50,7 @@ flag_word string_mode long = codes "--string-mode"
 flag_word line_mode short = codes "-l"
 flag_word line_mode long = codes "--line-mode"
 
--- the word of an option; two have a long form alone
+-- the word of an option with a value; two have a long form alone
 abbrev pub key_word : Key → Spelling → Text
 key_word limit short = codes "-n"
 key_word limit long = codes "--max-replacements"
@@ -63,50 +64,54 @@ pub data Part : Type 0 where
   on : Flag → Spelling → Part
   given : Key → Spelling → Text → Part
 
+-- the name of an option as it stands there, its value where it has one, and its words
 abbrev pub part_name : Part → Text
-part_name (on f spelling) = flag_name f
-part_name (given k spelling v) = key_name k
+part_name (on flag spelling) = flag_name flag
+part_name (given key spelling value) = key_name key
 
 abbrev pub part_value : Part → Option Text
-part_value (on f spelling) = None
-part_value (given k spelling v) = Some v
+part_value (on flag spelling) = None
+part_value (given key spelling value) = Some value
 
 abbrev pub part_words : Part → List Text
-part_words (on f spelling) = flag_word f spelling ∷ []
-part_words (given k spelling v) = key_word k spelling ∷ v ∷ []
+part_words (on flag spelling) = flag_word flag spelling ∷ []
+part_words (given key spelling value) = key_word key spelling ∷ value ∷ []
 
+-- the words of all options
 abbrev pub option_words : List Part → List Text
 option_words [] = []
-option_words (p ∷ ps) = part_words p ++ option_words ps
+option_words (part ∷ parts) = part_words part ++ option_words parts
 
 -- a word that may be the value of an option: it is nonempty and doesn't begin with `-`
 abbrev pub is_value : Text → Bool
 is_value [] = false
 is_value (c ∷ word) = not (c == 45)
 
+-- the value of an option may be one
 abbrev pub is_plain_part : Part → Bool
-is_plain_part (on f spelling) = true
-is_plain_part (given k spelling v) = is_value v
+is_plain_part (on flag spelling) = true
+is_plain_part (given key spelling value) = is_value value
 
 -- none of the options has this name
 abbrev pub is_new : Text → List Part → Bool
-is_new name ps = not (list_any (λ p. bytes_eq name (part_name p)) ps)
+is_new name parts = not (list_any (λ part. bytes_eq name (part_name part)) parts)
 
 -- each option stands once, and each value may be one
 abbrev pub are_plain : List Part → Bool
 are_plain [] = true
-are_plain (p ∷ ps) = is_plain_part p && (is_new (part_name p) ps && are_plain ps)
+are_plain (part ∷ parts) = is_plain_part part && (is_new (part_name part) parts && are_plain parts)
 
+-- the options, `--`, and the words after it
 abbrev pub plain_words : List Part → Text → Text → List Text → List Text
 plain_words parts find_word replace_word rest = option_words parts ++ codes "--" ∷ find_word ∷ replace_word ∷ rest
 
 -- whether a flag stands among the options
 abbrev pub is_on : Flag → List Part → Bool
-is_on f parts = list_any (λ p. bytes_eq (part_name p) (flag_name f)) parts
+is_on flag parts = list_any (λ part. bytes_eq (part_name part) (flag_name flag)) parts
 
 -- the value of an option, where it stands there
 abbrev pub value_of : Key → List Part → Option Text
-value_of k parts = option_and_then part_value (find (λ p. bytes_eq (part_name p) (key_name k)) parts)
+value_of key parts = option_and_then part_value (find (λ part. bytes_eq (part_name part) (key_name key)) parts)
 
 -- the table: each option with its field
 abbrev pub table : List Part → Text → Text → List Text → Texts
@@ -129,7 +134,7 @@ abbrev pub PlainWordsHaveTheTable : Type 0
 PlainWordsHaveTheTable = (parts : List Part) (find_word replace_word : Text) (rest : List Text) → are_plain parts ≡ true
     → order_of (plain_words parts find_word replace_word rest) ≡ order_by (table parts find_word replace_word rest)
 
--- no options but these, and these texts
+-- these texts, and no option but maybe a root
 abbrev pub options_of : Option Text → Text → Text → List Text → Options
 options_of dir find_word replace_word rest = record {
   preview = false;
@@ -144,10 +149,10 @@ options_of dir find_word replace_word rest = record {
   words = rest;
 }
 
--- `--root DIR -- FIND REPLACE_WITH GLOB`, for any texts with DIR nonempty and not begun by `-`
+-- `--root DIR -- FIND REPLACE_WITH GLOB...`, for any texts with DIR nonempty and not begun by `-`
 abbrev pub TreeWordsAskForTheirTree : Type 0
-TreeWordsAskForTheirTree = (dir find_word replace_word glob : Text) → is_value dir ≡ true
-    → order_of (codes "--root" ∷ dir ∷ codes "--" ∷ find_word ∷ replace_word ∷ glob ∷ []) ≡ Some (options_of (Some dir) find_word replace_word (glob ∷ []))
+TreeWordsAskForTheirTree = (dir find_word replace_word : Text) (globs : List Text) → is_value dir ≡ true
+    → order_of (codes "--root" ∷ dir ∷ codes "--" ∷ find_word ∷ replace_word ∷ globs) ≡ Some (options_of (Some dir) find_word replace_word globs)
 
 -- `-- FIND REPLACE_WITH FILE...`, for any texts
 abbrev pub FileWordsAskForTheirFiles : Type 0

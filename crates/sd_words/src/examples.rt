@@ -1,9 +1,9 @@
 //! Worked examples of command lines.
 
-ghost use Rattle.std.specs.Prelude.{◌≡◌, ◌∷◌, [], codes, true, None, Some};
+ghost use Rattle.std.specs.Prelude.{◌≡◌, ◌∷◌, [], codes, false, true, None, Some};
 ghost use Rattle.sd_words.specs.Examples.{AsksFor, AsksForNothing, a_by_b};
 ghost use Rattle.sd_words.specs.Number.{number_of};
-ghost use Rattle.sd_words.specs.Order.{order_of};
+ghost use Rattle.sd_words.specs.Order.{is_tree_command, order_of};
 ghost use Rattle.sd_words.specs.Plain.{options_of};
 ghost use Rattle.sd_words.specs.Refusal.{mistake_shown};
 
@@ -99,6 +99,14 @@ pub fn numbers_and_exclusions_are_as_in_the_examples()
 
     // the wide digit U+FF11
     ensures other_digits { number_of (239 ∷ 188 ∷ 145 ∷ []) ≡ None }
+{}
+
+/// Which orders are tree commands.
+pub fn tree_commands_are_as_in_the_examples()
+    ensures root { is_tree_command (options_of (Some (codes "/t")) (codes "a") (codes "b") []) ≡ true }
+    ensures empty_root { is_tree_command (options_of (Some []) (codes "a") (codes "b") []) ≡ true }
+    ensures no_root { is_tree_command (a_by_b []) ≡ false }
+    ensures preview { is_tree_command (record (a_by_b []) { preview = true; root = Some (codes "/t") }) ≡ false }
 {}
 
 /// What is shown of the text of a mistake.

@@ -1,7 +1,7 @@
 //! Why words ask for nothing that can be done.
 
 ghost use Rattle.std.specs.Prelude.{◌≡◌};
-ghost use Rattle.sd_words.specs.OrderRead.{IsRefusedOnly};
+ghost use Rattle.sd_words.specs.OrderRead.{IsRefusalOf};
 ghost use Rattle.sd_words.specs.Refusal as form;
 
 use clap::error::ErrorKind;
@@ -60,7 +60,7 @@ fn usage_text(text: &Option<Text>) -> &str {
 
 /// What a parse's error comes to. Where there is no memory for its text, it has none.
 pub fn refusal(alloc: Global, error: &clap::Error) -> OptionsFault
-    ensures { IsRefusedOnly error.now result }
+    ensures { IsRefusalOf error.now result }
 {
     if error.kind() == ErrorKind::OutOfMemory {
         OptionsFault::NoMemory

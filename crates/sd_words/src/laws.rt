@@ -7,7 +7,7 @@ pub fn plain_words_have_the_table()
     ensures { PlainWordsHaveTheTable }
 {}
 
-/// `--root DIR -- FIND REPLACE_WITH GLOB` asks for the change of a tree, where `DIR` is nonempty and doesn't begin with
+/// `--root DIR -- FIND REPLACE_WITH GLOB...` asks for the change of a tree, where `DIR` is nonempty and doesn't begin with
 /// `-`.
 pub fn tree_words_ask_for_their_tree()
     ensures { TreeWordsAskForTheirTree }

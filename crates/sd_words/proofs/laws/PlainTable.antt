@@ -294,7 +294,7 @@ plain_words_read parts first second rest are =
     ap (option_and_then order_by) texts
 
 pub tree_words_read : TreeWordsAskForTheirTree
-tree_words_read dir first second glob e = plain_words_read (given plain.root plain.long dir ∷ []) first second (glob ∷ []) (ap (λ b. b && true) e)
+tree_words_read dir first second globs e = plain_words_read (given plain.root plain.long dir ∷ []) first second globs (ap (λ b. b && true) e)
 
 pub file_words_read : FileWordsAskForTheirFiles
 file_words_read first second files = plain_words_read [] first second files refl

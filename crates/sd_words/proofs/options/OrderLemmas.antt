@@ -9,7 +9,7 @@ use Rattle.clap.specs.declared.error.kind.ErrorKind.TheVariants.{OutOfMemory}
 use Rattle.sd_words.specs.Command.{command}
 use Rattle.sd_words.specs.Matched.{Texts, texts_in, texts_of}
 use Rattle.sd_words.specs.Order.{order_by, order_of}
-use Rattle.sd_words.specs.OrderRead.{IsRefusedOnly, Refuses}
+use Rattle.sd_words.specs.OrderRead.{IsRefusalOf, Refuses}
 use Rattle.sd_words.specs.declared.options.Options.{Options}
 use Rattle.sd_words.specs.declared.fault.OptionsFault.{OptionsFault}
 use Rattle.sd_words.specs.declared.fault.OptionsFault.TheVariants as fault
@@ -47,6 +47,6 @@ no_order app given words e is same refused kind =
     go (inl oom) = absurd (kind oom)
     go (inr h) = among (kind_of e) (fault_of app given) h
 
-pub refusal_of : (order : Option Options) (e : Error) (f : OptionsFault) → IsRefusedOnly e f → ((kind_of e ≡ OutOfMemory → ⊥) → order ≡ None) → Refuses order f
+pub refusal_of : (order : Option Options) (e : Error) (f : OptionsFault) → IsRefusalOf e f → ((kind_of e ≡ OutOfMemory → ⊥) → order ≡ None) → Refuses order f
 refusal_of order e (fault.Usage text) h none = none h
 refusal_of order e fault.NoMemory h none = tt
