@@ -1,6 +1,6 @@
 //! The texts that a parse gives to the flags, the options and the words.
 
-ghost use Rattle.std.specs.Prelude.{◌≡◌, List, ℕ, option_map, map};
+ghost use Rattle.std.specs.Prelude.{◌≡◌, map, option_map};
 ghost use Rattle.clap.specs.Words.{all_of, first_of, found_of, rows_of};
 ghost use Rattle.sd_words.specs.Matched as form;
 ghost use Rattle.sd_words.specs.MatchedRead.{texts_read};

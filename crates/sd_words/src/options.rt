@@ -1,6 +1,6 @@
 //! What the words of a command line ask for.
 
-ghost use Rattle.std.specs.Prelude.{◌≡◌, MatchResult, IfOk, Some, map, option_map};
+ghost use Rattle.std.specs.Prelude.{◌≡◌, IfOk, MatchResult, Some, map};
 ghost use Rattle.sd_words.specs.Order as form;
 ghost use Rattle.sd_words.specs.OrderRead.{Refuses, or_usage};
 ghost use Rattle.sd_words.specs.MatchedRead.{text_of, texts_lent, texts_read};
