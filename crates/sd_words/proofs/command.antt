@@ -1,0 +1,2 @@
+-- What the proofs about the command use.
+pub mod CommandLemmas

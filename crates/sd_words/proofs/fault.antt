@@ -1,0 +1,2 @@
+-- What the proofs about refusals use.
+pub mod RefusalLemmas

@@ -1,0 +1,2 @@
+-- What the proof about numbers uses.
+pub mod NumberLemmas

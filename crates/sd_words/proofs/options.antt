@@ -1,0 +1,3 @@
+-- What the proofs about options use.
+pub mod OrderLemmas
+pub mod TextLemmas

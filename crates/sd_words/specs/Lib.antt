@@ -1,0 +1,9 @@
+pub mod Command
+pub mod Number
+pub mod Matched
+pub mod Order
+pub mod Refusal
+pub mod OrderRead
+pub mod MatchedRead
+pub mod Plain
+pub mod Examples

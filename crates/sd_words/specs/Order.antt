@@ -1,0 +1,57 @@
+-- What the words of a command line ask for.
+use Rattle.std.specs.Prelude.{◌&&◌, ◌||◌, ℕ, Bool, not, List, Option, Some, None, is_some, if◌then◌else◌, nat_le, option_and_then, option_map}
+use Rattle.std.specs.Option.{option_map_or}
+use Rattle.clap.specs.Words.{Text}
+use Rattle.sd_words.specs.Number.{number_of}
+use Rattle.sd_words.specs.Matched.{Texts, texts_of}
+use Rattle.sd_words.specs.declared.options.Options.{Options}
+
+-- the greatest number of a demo
+abbrev pub demo_max : ℕ
+demo_max = 100000
+
+-- the limit: 0, which is none, where it isn't given
+abbrev pub limit_of : Option Text → Option ℕ
+limit_of text = option_map_or number_of text (Some 0)
+
+-- the number that is written for a demo
+abbrev pub demo_number : Text → Option (Option ℕ)
+demo_number text = option_and_then (λ n. if nat_le n demo_max then Some (Some n) else None) (number_of text)
+
+-- the number of a demo, or that none is given
+abbrev pub demo_of : Option Text → Option (Option ℕ)
+demo_of text = option_map_or demo_number text (Some None)
+
+-- no options exclude each other: a demo stands without a root and without preview
+abbrev pub stand_together : Texts → Bool
+stand_together t = not (is_some t.demo) || (not (is_some t.root) && not t.preview)
+
+-- the record of the texts, with their numbers
+abbrev pub options_with : Texts → ℕ → Option ℕ → Options
+options_with t limit demo = record {
+  preview = t.preview;
+  literal_mode = t.fixed_strings || t.string_mode;
+  line_mode = t.line_mode;
+  replacements = limit;
+  flags = t.flags;
+  root = t.root;
+  demo = demo;
+  find = t.find;
+  replace_with = t.replace_with;
+  words = t.words;
+}
+
+-- the record of the texts, or none where they break the rules on numbers or on what stands together
+abbrev pub order_by : Texts → Option Options
+order_by t =
+    if stand_together t
+    then option_and_then (λ limit. option_map (λ demo. options_with t limit demo) (demo_of t.demo)) (limit_of t.limit)
+    else None
+
+-- the record of the words, or none; it opens only where a proof asks for it
+unfoldable pub order_of : List Text → Option Options
+order_of words = option_and_then order_by (texts_of words)
+
+-- a tree command: an order with a root and without preview
+abbrev pub is_tree_command : Options → Bool
+is_tree_command order = is_some order.root && not order.preview
