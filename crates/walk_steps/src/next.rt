@@ -7,7 +7,7 @@ ghost use Rattle.walk_rest.specs.declared.entry.DirEntry as entry_type;
 ghost use Rattle.walk_rest.specs.declared.error.Error.TheVariants as error;
 ghost use Rattle.walk_rest.specs.Rest.{Rest};
 ghost use Rattle.walk_steps.specs.Inside.{HasRest, IsRead, SameWalk, levels_of, with_top};
-ghost use Rattle.walk_steps.specs.Sound.{IsSound, KeepsWalk, StaysWithin, depth_below, open_limit};
+ghost use Rattle.walk_steps.specs.Sound.{IsSound, KeepsWalk, SameOthers, StaysWithin, depth_below, open_limit};
 ghost use Rattle.walk_steps.specs.Steps.{HasTaken, StepsTo, TurnsTo};
 ghost use Rattle.walk_steps.specs.Work.{left_to_do};
 
@@ -36,6 +36,7 @@ pub fn next_item<D: Disk, S: Order>(
     ensures ended { IfNone result (levels_of inside.new ≡ []) }
     ensures gave_up { result ≡ Some (Err error.NoMemory) → levels_of inside.new ≡ [] }
     ensures within { StaysWithin (open_limit inside.old.options) (D.state disk.old) (levels_of inside.old) (D.state disk.new) (levels_of inside.new) }
+    ensures others { SameOthers (D.state disk.old) (levels_of inside.old) (D.state disk.new) (levels_of inside.new) }
     ensures tree { SameTree (D.state disk.old) (D.state disk.new) }
     ensures faults { (D.state disk.old).faults ≤ (D.state disk.new).faults }
 {

@@ -12,7 +12,7 @@ ghost use Rattle.walk_rest.specs.Plan.{ListsNames};
 ghost use Rattle.walk_rest.specs.Rest.{Rest};
 ghost use Rattle.walk_steps.specs.Inside.{HasRest, IsRead, with_top};
 ghost use Rattle.walk_steps.specs.Lists.{OpensFolder};
-ghost use Rattle.walk_steps.specs.Sound.{AreRead, AreSound, IsApart, IsReadable, IsSound, IsSoundBelow, KeepsWalk, SameOtherThan, StaysWithin, open_in, open_limit, opens};
+ghost use Rattle.walk_steps.specs.Sound.{AreRead, AreShallow, AreSound, IsApart, IsReadable, IsSound, IsSoundBelow, KeepsWalk, SameOtherThan, SameOthers, StaysWithin, open_in, open_limit, opens};
 ghost use Rattle.walk_steps.specs.Steps.{LiesUnread, MovesTo, TurnsTo};
 ghost use Rattle.walk_steps.specs.Work.{left_to_do, weight_in, work_in};
 
@@ -160,6 +160,8 @@ fn make_room<D: Disk, S: Order>(disk: &mut D, inside: &mut Inside<S>) -> Result<
     ensures lists { AreSound (D.state disk.new) inside.new.stack.items }
     ensures read { AreRead inside.new.stack.items }
     ensures within { StaysWithin 0 (D.state disk.old) inside.old.stack.items (D.state disk.new) inside.new.stack.items }
+    ensures others { SameOthers (D.state disk.old) inside.old.stack.items (D.state disk.new) inside.new.stack.items }
+    ensures shallow { (deepest : ℕ) → AreShallow deepest inside.old.stack.items → AreShallow deepest inside.new.stack.items }
     ensures same { inside.new ≡ record inside.old { stack = inside.new.stack } }
     ensures tree { SameTree (D.state disk.old) (D.state disk.new) }
     ensures faults { (D.state disk.old).faults ≤ (D.state disk.new).faults }

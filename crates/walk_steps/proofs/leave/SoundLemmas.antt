@@ -27,11 +27,11 @@ IsFree state Unread = Unit {0}
 IsFree state (Open list) = state.open_list list.number ≡ None
 IsFree state (Kept kept) = Unit {0}
 
-apart_front : (k : ℕ) (xs : List Level) (x : Level) → AreApart k (xs ++ x ∷ []) → AreApart k xs × IsApart k x.entries
+pub apart_front : (k : ℕ) (xs : List Level) (x : Level) → AreApart k (xs ++ x ∷ []) → AreApart k xs × IsApart k x.entries
 apart_front k [] x h = (tt, h.0)
 apart_front k (y ∷ xs) x h = let r = apart_front k xs x h.1 in ((h.0, r.0), r.1)
 
-apart_snoc : (k : ℕ) (xs : List Level) (x : Level) → AreApart k xs → IsApart k x.entries → AreApart k (xs ++ x ∷ [])
+pub apart_snoc : (k : ℕ) (xs : List Level) (x : Level) → AreApart k xs → IsApart k x.entries → AreApart k (xs ++ x ∷ [])
 apart_snoc k [] x h i = (i, tt)
 apart_snoc k (y ∷ xs) x h i = (h.0, apart_snoc k xs x h.1 i)
 

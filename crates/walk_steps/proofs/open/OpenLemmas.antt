@@ -28,11 +28,13 @@ use Rattle.walk_rest.proofs.MoveLemmas.{list_kept, part_read}
 use Rattle.walk_steps.specs.declared.inside.Inside.{Inside}
 use Rattle.walk_steps.specs.Inside.{HasRest, IsRead, IsUnbegun, KnowsDevice, SameWalk, entries_in, levels_of, top_levels, with_top}
 use Rattle.walk_steps.specs.Lists.{KeepsOldest, OpensFolder}
-use Rattle.walk_steps.specs.Sound.{AreSound, AreRead, IsApart, IsReadable, IsSound, IsSoundBelow, KeepsWalk, SameOtherThan, StaysWithin, held_limit, open_in, open_limit, opens}
+use Rattle.walk_steps.specs.Sound.{AreSound, AreRead, AreShallow, IsApart, IsReadable, IsShallow, IsSound, IsSoundBelow, KeepsWalk, SameOtherThan, SameOthers, StaysWithin, held_limit, open_in, open_limit, opens}
 use Rattle.walk_steps.specs.Steps.{LiesUnread, MovesTo}
 use Rattle.walk_steps.specs.Work.{left_to_do, weight_first, weight_in, weight_of, weight_root, work_in}
 use Rattle.walk_steps.proofs.leave.SoundLemmas.{Clear, Differ, clear_unread, opens_snoc, sound_join, sound_kept, sound_unread, weight_kept}
 use Rattle.walk_steps.proofs.leave.WithinLemmas.{work_snoc}
+use Rattle.walk_steps.proofs.leave.OthersLemmas.{apart_same, apart_unread, fresh_read, others_lists, others_on, others_levels, others_top, shallow_join}
+use Rattle.walk_steps.proofs.leave.SoundLemmas.{apart_front}
 use Rattle.walk_steps.proofs.next.StepLemmas.{parts_later, rest_of, top_parts, top_rest}
 
 -- ---- how many are open
@@ -218,25 +220,28 @@ sound_top s now levels level h clear same readable = sound_join now levels level
 
 module _ {S : Type 0} where
   pub is_sound_top : (now : DiskState) (sorts : Bool) (inside : Inside S) (level : Level) → AreSound now (inside.stack.items ++ level ∷ []) → AreRead inside.stack.items → opens inside.stack.items + open_in level.entries ≤ held_limit sorts inside.options
-      → IsSound now sorts (with_top inside level)
-  is_sound_top now sorts inside level lists read few = record {
+      → AreShallow inside.options.max_depth inside.stack.items → IsShallow inside.options.max_depth level.folder level.entries → IsRead level.entries → IsSound now sorts (with_top inside level)
+  is_sound_top now sorts inside level lists read few below top is_read = record {
     lists = lists;
     read = read;
     rooted = λ none. absurd (cc none);
     few = let a = opens_snoc inside.stack.items level in omega (arith, a, few);
+    shallow = shallow_join inside.options.max_depth inside.stack.items level below top;
+    fresh = fresh_read level.entries level.first level.faults.items is_read;
   }
 
   -- a list more was open at most
   pub keeps_top : (s now : DiskState) (inside : Inside S) (lying level : Level) (more : ℕ) → lying.entries ≡ Unread → AreSound now (inside.stack.items ++ level ∷ []) → now.open_count ≡ s.open_count + open_in level.entries
       → now.open_most ≤ max s.open_most (s.open_count + more) → opens inside.stack.items + more ≤ open_limit inside.options → SameTree s now → s.faults ≤ now.faults → s.listed ≤ now.listed
-      → KeepsWalk s (with_top inside lying) now (with_top inside level)
-  keeps_top s now inside lying level more unread lists count most room tree faults later =
+      → SameOtherThan s level.entries now → ((number : ℕ) → IsOpen s number → IsApart number level.entries) → KeepsWalk s (with_top inside lying) now (with_top inside level)
+  keeps_top s now inside lying level more unread lists count most room tree faults later same apart =
       let a = opens_snoc inside.stack.items lying in
       let b = opens_snoc inside.stack.items level in
       let none = ap open_in unread in
       record {
         lists = lists;
         within = λ others e. (omega (arith, a, b, none, e, count), omega (arith, a, none, e, most, room));
+        others = others_top s now inside.stack.items lying level same apart;
         same = record { options = refl; order = refl; root = refl };
         tree = tree;
         faults = faults;
@@ -246,14 +251,15 @@ module _ {S : Type 0} where
   -- the same, where nothing came on top
   pub keeps_none : (s now : DiskState) (inside new : Inside S) (lying : Level) (more : ℕ) → lying.entries ≡ Unread → SameWalk inside new → levels_of new ≡ inside.stack.items → AreSound now inside.stack.items → now.open_count ≡ s.open_count
       → now.open_most ≤ max s.open_most (s.open_count + more) → opens inside.stack.items + more ≤ open_limit inside.options → SameTree s now → s.faults ≤ now.faults → s.listed ≤ now.listed
-      → KeepsWalk s (with_top inside lying) now new
-  keeps_none s now inside new lying more unread same levels lists count most room tree faults later =
+      → ((number : ℕ) → now.open_list number ≡ s.open_list number) → KeepsWalk s (with_top inside lying) now new
+  keeps_none s now inside new lying more unread same levels lists count most room tree faults later kept =
       let a = opens_snoc inside.stack.items lying in
       let b = ap opens levels in
       let none = ap open_in unread in
       record {
         lists = rw levels lists;
         within = λ others e. (omega (arith, a, b, none, e, count), omega (arith, a, none, e, most, room));
+        others = others_lists s now (inside.stack.items ++ lying ∷ []) (levels_of new) kept (λ number apart. apart_same number inside.stack.items (levels_of new) levels (apart_front number inside.stack.items lying apart).0);
         same = record { options = same.options; order = same.order; root = same.root };
         tree = tree;
         faults = faults;
@@ -326,23 +332,25 @@ module _ {S : Type 0} where
   still_taken inside new same taken = ap (λ (i : Inside S). i.top) same ∙ taken
 
   pub room_sound : (now : DiskState) (sorts by_now : Bool) (inside new : Inside S) → SameWalk inside new → by_now ≡ sorts → AreSound now new.stack.items → AreRead new.stack.items → opens new.stack.items ≤ opens inside.stack.items
-      → opens inside.stack.items ≤ held_limit sorts inside.options → IsSoundBelow now by_now new
-  room_sound now sorts by_now inside new same e lists read fewer few = record {
+      → opens inside.stack.items ≤ held_limit sorts inside.options → AreShallow inside.options.max_depth new.stack.items → IsSoundBelow now by_now new
+  room_sound now sorts by_now inside new same e lists read fewer few shallow = record {
     lists = lists;
     read = read;
     few = let a = ap (held_limit sorts) same.options in let b = ap (λ (s : Bool). held_limit s new.options) e in omega (arith, a, b, fewer, few);
+    shallow = rw same.options shallow;
   }
 
   -- a directory that lies unread stays on top
   pub keeps_room : (s now : DiskState) (inside new : Inside S) (lying : Level) → lying.entries ≡ Unread → SameWalk inside new → AreSound now new.stack.items → StaysWithin 0 s inside.stack.items now new.stack.items
-      → SameTree s now → s.faults ≤ now.faults → s.listed ≤ now.listed → KeepsWalk s (with_top inside lying) now (with_top new lying)
-  keeps_room s now inside new lying unread same lists within tree faults later =
+      → SameTree s now → s.faults ≤ now.faults → s.listed ≤ now.listed → SameOthers s inside.stack.items now new.stack.items → KeepsWalk s (with_top inside lying) now (with_top new lying)
+  keeps_room s now inside new lying unread same lists within tree faults later kept =
       let a = opens_snoc inside.stack.items lying in
       let b = opens_snoc new.stack.items lying in
       let none = ap open_in unread in
       record {
         lists = sound_unread now new.stack.items lying lists unread;
         within = λ others e. let w = within others (omega (arith, a, none, e)) in let count = w.0 in let most = w.1 in (omega (arith, b, none, count), omega (arith, most));
+        others = λ number apart is. let k = kept number (apart_front number inside.stack.items lying apart).0 is in (k.0, apart_unread number new.stack.items lying unread k.1);
         same = record { options = same.options; order = same.order; root = same.root };
         tree = tree;
         faults = faults;
@@ -351,14 +359,15 @@ module _ {S : Type 0} where
 
   -- nothing came on top
   pub keeps_refused : (s now : DiskState) (inside new : Inside S) (lying : Level) → lying.entries ≡ Unread → SameWalk inside new → levels_of new ≡ new.stack.items → AreSound now new.stack.items
-      → StaysWithin 0 s inside.stack.items now new.stack.items → SameTree s now → s.faults ≤ now.faults → s.listed ≤ now.listed → KeepsWalk s (with_top inside lying) now new
-  keeps_refused s now inside new lying unread same levels lists within tree faults later =
+      → StaysWithin 0 s inside.stack.items now new.stack.items → SameTree s now → s.faults ≤ now.faults → s.listed ≤ now.listed → SameOthers s inside.stack.items now new.stack.items → KeepsWalk s (with_top inside lying) now new
+  keeps_refused s now inside new lying unread same levels lists within tree faults later kept =
       let a = opens_snoc inside.stack.items lying in
       let b = ap opens levels in
       let none = ap open_in unread in
       record {
         lists = subst (AreSound now) (sym levels) lists;
         within = λ others e. let w = within others (omega (arith, a, none, e)) in let count = w.0 in let most = w.1 in (omega (arith, b, count), omega (arith, most));
+        others = λ number apart is. let k = kept number (apart_front number inside.stack.items lying apart).0 is in (k.0, apart_same number new.stack.items (levels_of new) levels k.1);
         same = record { options = same.options; order = same.order; root = same.root };
         tree = tree;
         faults = faults;

@@ -21,7 +21,7 @@ use Rattle.walk_rest.specs.Level.{HasPart, HasParts, IsDue, chain_above, with_fo
 use Rattle.walk_rest.proofs.MoveLemmas.{parts_snoc}
 use Rattle.walk_steps.specs.declared.inside.Inside.{Inside}
 use Rattle.walk_steps.specs.Inside.{HasRest, IsRead, IsUnbegun, IsUntaken, SameWalk, entries_in, levels_of, with_top}
-use Rattle.walk_steps.specs.Sound.{AreSound, AllAt, IsApart, IsReadable, IsSound, IsSoundBelow, KeepsWalk, held_limit, open_in, open_limit}
+use Rattle.walk_steps.specs.Sound.{AreSound, AllAt, IsApart, IsReadable, IsShallow, IsSound, IsSoundBelow, KeepsWalk, held_limit, open_in, open_limit}
 use Rattle.walk_steps.specs.Work.{left_to_do, weight_first, weight_in, weight_root}
 use Rattle.walk_steps.specs.Steps.{CannotBegin, LiesUnread, MovesTo, StepsTo, TurnsTo}
 use Rattle.walk_steps.proofs.leave.SoundLemmas.{clear_unread, weight_kept}
@@ -104,6 +104,11 @@ come_past below part path item plan first is =
     let P : Option Item → Type 0 = λ f. ComesIn below part f part.left item (below ++ record part { left = plan } ∷ []) in
     let Q : Plan → Type 0 = λ x. ComesIn below part None x item (below ++ record part { left = plan } ∷ []) in
     subst P (sym first) (subst Q (sym is) (refl, refl))
+
+unheld_shallow : (n : ℕ) (folder : Option Folder) (e : Entries) → open_in e ≡ 0 → IsShallow n folder e
+unheld_shallow n folder Unread shut = tt
+unheld_shallow n folder (Open list) shut = absurd (omega (arith, shut))
+unheld_shallow n folder (Kept kept) shut = tt
 
 module _ {S : Type 0} where
   -- the root's level lies on top, and its entry, if it has one, is to come
@@ -255,11 +260,11 @@ module _ {S : Type 0} where
       sound_top s now inside.stack.items level sound.lists (clear_from s level.entries inside.stack.items sound.lists (λ number is. apart number)) (λ number a. ap (λ (o : ℕ → _). o number) lists.open_list) readable
 
   pub root_sound : (s now : DiskState) (sorts : S → Bool) (inside begun : Inside S) (level : Level) → begun ≡ record inside { device = begun.device } → IsSoundBelow s (sorts inside.order) inside → SameLists s now
-      → ((number : ℕ) → IsApart number level.entries) → open_in level.entries ≡ 0 → IsReadable now level.folder level.entries → IsSound now (sorts begun.order) (with_top begun level)
-  root_sound s now sorts inside begun level same sound lists apart unheld readable =
+      → ((number : ℕ) → IsApart number level.entries) → open_in level.entries ≡ 0 → IsReadable now level.folder level.entries → IsRead level.entries → IsSound now (sorts begun.order) (with_top begun level)
+  root_sound s now sorts inside begun level same sound lists apart unheld readable read =
       let few = sound.few in
       let P : Inside S → Type 0 = λ i. IsSound now (sorts i.order) (with_top i level) in
-      subst P (sym same) (is_sound_top now (sorts inside.order) (record inside { device = begun.device }) level (root_lists s now (sorts inside.order) inside level sound lists apart readable) sound.read (omega (arith, unheld, few)))
+      subst P (sym same) (is_sound_top now (sorts inside.order) (record inside { device = begun.device }) level (root_lists s now (sorts inside.order) inside level sound lists apart readable) sound.read (omega (arith, unheld, few)) sound.shallow (unheld_shallow inside.options.max_depth level.folder level.entries unheld) read)
 
   pub root_keeps : (s now : DiskState) (sorts : Bool) (inside begun : Inside S) (lying level : Level) → begun ≡ record inside { device = begun.device } → lying.entries ≡ Unread → IsSoundBelow s sorts inside → SameLists s now
       → ((number : ℕ) → IsApart number level.entries) → open_in level.entries ≡ 0 → IsReadable now level.folder level.entries → SameTree s now → s.faults ≤ now.faults → KeepsWalk s (with_top inside lying) now (with_top begun level)
@@ -269,9 +274,9 @@ module _ {S : Type 0} where
       let count = lists.open_count in
       let most = lists.open_most in
       let listed = lists.listed in
-      let k = keeps_top s now inside lying level 0 unread (root_lists s now sorts inside level sound lists apart readable) (omega (arith, count, unheld)) (omega (arith, most)) (omega (arith, few, held)) tree faults (omega (arith, listed)) in
+      let k = keeps_top s now inside lying level 0 unread (root_lists s now sorts inside level sound lists apart readable) (omega (arith, count, unheld)) (omega (arith, most)) (omega (arith, few, held)) tree faults (omega (arith, listed)) (λ number a. ap (λ (o : ℕ → _). o number) lists.open_list) (λ number is. apart number) in
       let P : Inside S → Type 0 = λ i. KeepsWalk s (with_top inside lying) now (with_top i level) in
-      subst P (sym same) (record { lists = k.lists; within = k.within; same = record { options = refl; order = refl; root = refl }; tree = tree; faults = faults; later = k.later })
+      subst P (sym same) (record { lists = k.lists; within = k.within; others = k.others; same = record { options = refl; order = refl; root = refl }; tree = tree; faults = faults; later = k.later })
 
   pub root_refused : (s now : DiskState) (sorts : Bool) (inside begun : Inside S) (lying : Level) → begun ≡ record inside { device = begun.device } → inside.top ≡ None → lying.entries ≡ Unread → IsSoundBelow s sorts inside → SameLists s now
       → SameTree s now → s.faults ≤ now.faults → KeepsWalk s (with_top inside lying) now begun
@@ -282,7 +287,7 @@ module _ {S : Type 0} where
       let listed = lists.listed in
       keeps_none s now inside begun lying 0 unread (record { options = ap (λ (i : Inside S). i.options) same; order = ap (λ (i : Inside S). i.order) same; root = ap (λ (i : Inside S). i.root) same })
       (ap levels_of same ∙ no_top inside top)
-      (sound_on s now inside.stack.items sound.lists (λ number. ap (λ (o : ℕ → _). o number) lists.open_list)) lists.open_count (omega (arith, most)) (omega (arith, few, held)) tree faults (omega (arith, listed))
+      (sound_on s now inside.stack.items sound.lists (λ number. ap (λ (o : ℕ → _). o number) lists.open_list)) lists.open_count (omega (arith, most)) (omega (arith, few, held)) tree faults (omega (arith, listed)) (λ number. ap (λ (o : ℕ → _). o number) lists.open_list)
 
   -- ---- the work that is left
 

@@ -3,8 +3,9 @@ use Rattle.walk_rest.specs.declared.level.Level.{Level}
 use Rattle.walk_rest.specs.Plan.{Item}
 use Rattle.walk_steps.specs.Inside.{HasRest, levels_of, top_levels, with_top}
 use Rattle.walk_steps.specs.Steps.{MovesTo, StepsTo, TurnsTo}
-use Rattle.walk_steps.specs.Sound.{IsSound, opens, open_limit}
+use Rattle.walk_steps.specs.Sound.{AreApart, IsSound, opens, open_limit}
 use Rattle.walk_steps.specs.Work.{left_to_do, work_in}
+use Rattle.walk_steps.proofs.leave.OthersLemmas.{others_on}
 use Rattle.walk_steps.proofs.leave.WithinLemmas.{keeps_on, keeps_same, retop_levels, is_sound_retop, within_on, within_more, within_fewer, gone_lighter}
 use Rattle.walk_steps.proofs.next.StepLemmas.{moves_none, moves_more, moves_last, none_left, rest_retop}
 use Rattle.walk_steps.proofs.next.next_item.Goals as goal
@@ -116,3 +117,37 @@ returns-clause-within g c =
     let top = sym c.take.ensures.value ∙ c.in_default.is in
     let after = ap (λ (t : Option Level). opens (c.loop-level.inside.stack.items ++ top_levels t)) (c.take.ensures.after ∙ sym top) in
     λ others e. let w = inv.keeps.within others e in (let a = w.0 in omega (arith, a, after), w.1)
+
+-- ---- lists of others
+
+pub returns-in-Ok-Some-clause-others : goal.returns-in-Ok-Some-clause-others
+returns-in-Ok-Some-clause-others g c =
+    let s0 = g.D.Disk.state c.args.disk.now in
+    let s = g.D.Disk.state c.loop-level.disk in
+    let now = g.D.Disk.state c.turn.new.disk in
+    let inv = c.loop-level.invariant in
+    let top = sym c.take.ensures.value ∙ c.in-Some.is in
+    let mid = with_top c.loop-level.inside c.in-Some.level in
+    let put = keeps_same s c.loop-level.inside mid (record { options = refl; order = refl; root = refl }) (retop_levels c.loop-level.inside c.loop-level.inside c.in-Some.level top refl) inv.sound.lists in
+    (keeps_on s0 s now c.args.inside.now c.loop-level.inside c.turn.new.inside inv.keeps (keeps_on s s now c.loop-level.inside mid c.turn.new.inside put c.turn.ensures.keeps)).others
+
+pub returns-in-Err-clause-others : goal.returns-in-Err-clause-others
+returns-in-Err-clause-others g c =
+    let s0 = g.D.Disk.state c.args.disk.now in
+    let s = g.D.Disk.state c.loop-level.disk in
+    let now = g.D.Disk.state c.turn.new.disk in
+    let last = g.D.Disk.state c.give_up.new.disk in
+    let inv = c.loop-level.invariant in
+    let top = sym c.take.ensures.value ∙ c.in-Some.is in
+    let mid = with_top c.loop-level.inside c.in-Some.level in
+    let put = keeps_same s c.loop-level.inside mid (record { options = refl; order = refl; root = refl }) (retop_levels c.loop-level.inside c.loop-level.inside c.in-Some.level top refl) inv.sound.lists in
+    let so_far = (keeps_on s0 s now c.args.inside.now c.loop-level.inside c.turn.new.inside inv.keeps (keeps_on s s now c.loop-level.inside mid c.turn.new.inside put c.turn.ensures.keeps)).others in
+    let all = others_on s0 now last (levels_of c.args.inside.now) (levels_of c.turn.new.inside) [] so_far c.give_up.ensures.others in
+    λ number apart is. let k = all number apart is in (k.0, subst (AreApart number) (sym c.give_up.ensures.gone) k.1)
+
+pub returns-clause-others : goal.returns-clause-others
+returns-clause-others g c =
+    let inv = c.loop-level.invariant in
+    let top = sym c.take.ensures.value ∙ c.in_default.is in
+    λ number apart is. let k = inv.keeps.others number apart is in
+    (k.0, (let P : Option Level → Type 0 = λ t. AreApart number (c.loop-level.inside.stack.items ++ top_levels t) in subst P (sym (c.take.ensures.after ∙ sym top)) k.1))

@@ -4,6 +4,7 @@ use Rattle.walk_rest.specs.declared.level.Level.{Level}
 use Rattle.walk_steps.specs.Inside.{with_top}
 use Rattle.walk_steps.specs.Work.{left_to_do}
 use Rattle.walk_steps.specs.Steps.{LiesUnread}
+use Rattle.walk_steps.proofs.leave.OthersLemmas.{fresh_first, fresh_given, fresh_read}
 use Rattle.walk_steps.proofs.leave.WithinLemmas.{keeps_on, keeps_relevel, is_sound_relevel, below_of, fault_lighter, first_lighter, weight_relevel}
 use Rattle.walk_steps.proofs.next.StepLemmas.{fault_turn, first_turn, rest_relevel, no_items, unread_of}
 use Rattle.walk_steps.proofs.next.turn.Goals as goal
@@ -13,7 +14,9 @@ returns-in-Some-clause-turns g c = λ tells by rest same h.
     fault_turn (g.D.Disk.state c.args.disk.now) (g.S.Order.sorts c.args.inside.now.order) by c.args.inside.now c.args.level _ c.in-Some.due rest h c.in-Some.ensures.items refl refl refl
 
 pub returns-in-Some-clause-sound : goal.returns-in-Some-clause-sound
-returns-in-Some-clause-sound g c = is_sound_relevel (g.D.Disk.state c.args.disk.now) (g.S.Order.sorts c.args.inside.now.order) c.args.inside.now c.args.level _ refl refl c.requires.sound
+returns-in-Some-clause-sound g c =
+    is_sound_relevel (g.D.Disk.state c.args.disk.now) (g.S.Order.sorts c.args.inside.now.order) c.args.inside.now c.args.level (record c.args.level { faults = c.pop.new.self }) refl refl
+    (fresh_given c.args.level.entries c.args.level.first c.args.level.faults.items c.pop.new.self.items c.in-Some.due c.requires.sound.fresh c.in-Some.ensures.items) c.requires.sound
 
 pub returns-in-Some-clause-keeps : goal.returns-in-Some-clause-keeps
 returns-in-Some-clause-keeps g c = keeps_relevel (g.D.Disk.state c.args.disk.now) c.args.inside.now c.args.level _ refl refl c.requires.sound.lists
@@ -29,7 +32,9 @@ returns-in-Some-take-clause-turns g c = λ tells by rest same h.
     (sym c.take.ensures.value ∙ c.in-Some-take.is) refl c.take.ensures.after refl popped
 
 pub returns-in-Some-take-clause-sound : goal.returns-in-Some-take-clause-sound
-returns-in-Some-take-clause-sound g c = is_sound_relevel (g.D.Disk.state c.args.disk.now) (g.S.Order.sorts c.args.inside.now.order) c.args.inside.now c.args.level _ refl refl c.requires.sound
+returns-in-Some-take-clause-sound g c =
+    is_sound_relevel (g.D.Disk.state c.args.disk.now) (g.S.Order.sorts c.args.inside.now.order) c.args.inside.now c.args.level (record c.args.level { first = c.take.new.self; faults = c.pop.new.self }) refl refl
+    (fresh_first c.args.level.entries c.args.level.first c.take.new.self c.in-Some-take.entry c.args.level.faults.items c.pop.new.self.items c.requires.sound.fresh (sym c.take.ensures.value ∙ c.in-Some-take.is)) c.requires.sound
 
 pub returns-in-Some-take-clause-keeps : goal.returns-in-Some-take-clause-keeps
 returns-in-Some-take-clause-keeps g c = keeps_relevel (g.D.Disk.state c.args.disk.now) c.args.inside.now c.args.level _ refl refl c.requires.sound.lists
@@ -41,7 +46,9 @@ returns-in-Some-take-clause-less g c =
     first_lighter (g.D.Disk.state c.args.disk.now) c.args.inside.now c.args.level _ c.in-Some-take.entry refl refl (sym c.take.ensures.value ∙ c.in-Some-take.is) c.take.ensures.after (popped ∙ sym faultless)
 
 pub take_next-requires-clause-sound : goal.take_next-requires-clause-sound
-take_next-requires-clause-sound g c = is_sound_relevel (g.D.Disk.state c.args.disk.now) (g.S.Order.sorts c.args.inside.now.order) c.args.inside.now c.args.level _ refl refl c.requires.sound
+take_next-requires-clause-sound g c =
+    is_sound_relevel (g.D.Disk.state c.args.disk.now) (g.S.Order.sorts c.args.inside.now.order) c.args.inside.now c.args.level (record c.args.level { first = c.take.new.self; faults = c.pop.new.self }) refl refl
+    (fresh_read c.args.level.entries c.take.new.self c.pop.new.self.items (c.is_read.ensures.0 c.if-is_read.true)) c.requires.sound
 
 pub returns-then-is_read-clause-turns : goal.returns-then-is_read-clause-turns
 returns-then-is_read-clause-turns g c = λ tells by rest same h.

@@ -27,7 +27,7 @@ returns-in_err-make_room-clause-keeps g c = λ lying lies.
     let inside = c.args.inside.now in
     let mid = c.make_room.new.inside in
     keeps_refused (g.D.Disk.state c.args.disk.now) (g.D.Disk.state c.make_room.new.disk) inside mid lying lies.unread (same_walk inside mid r.same)
-    (no_top mid (still_taken inside mid r.same c.requires.taken)) r.lists r.within r.tree r.faults r.later
+    (no_top mid (still_taken inside mid r.same c.requires.taken)) r.lists r.within r.tree r.faults r.later r.others
 
 pub open_level-requires-clause-sound : goal.open_level-requires-clause-sound
 open_level-requires-clause-sound g c =
@@ -35,7 +35,7 @@ open_level-requires-clause-sound g c =
     let inside = c.args.inside.now in
     let mid = c.make_room.new.inside in
     let walk = same_walk inside mid r.same in
-    room_sound (g.D.Disk.state c.make_room.new.disk) (g.S.Order.sorts inside.order) (g.S.Order.sorts mid.order) inside mid walk (ap g.S.Order.sorts walk.order) r.lists r.read r.not_more c.requires.sound.few
+    room_sound (g.D.Disk.state c.make_room.new.disk) (g.S.Order.sorts inside.order) (g.S.Order.sorts mid.order) inside mid walk (ap g.S.Order.sorts walk.order) r.lists r.read r.not_more c.requires.sound.few (r.shallow inside.options.max_depth c.requires.sound.shallow)
 
 pub open_level-requires-clause-taken : goal.open_level-requires-clause-taken
 open_level-requires-clause-taken g c = still_taken c.args.inside.now c.make_room.new.inside c.make_room.ensures.same c.requires.taken
@@ -83,7 +83,7 @@ returns-clause-keeps g c = λ lying lies.
     let mid = c.make_room.new.inside in
     let r = c.make_room.ensures in
     keeps_on s now (g.D.Disk.state c.open_level.new.disk) (with_top inside lying) (with_top mid lying) c.open_level.new.inside
-    (keeps_room s now inside mid lying lies.unread (same_walk inside mid r.same) r.lists r.within r.tree r.faults r.later) (c.open_level.ensures.keeps lying lies)
+    (keeps_room s now inside mid lying lies.unread (same_walk inside mid r.same) r.lists r.within r.tree r.faults r.later r.others) (c.open_level.ensures.keeps lying lies)
 
 pub returns-clause-less : goal.returns-clause-less
 returns-clause-less g c = λ lying lies.

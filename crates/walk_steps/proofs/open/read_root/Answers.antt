@@ -62,7 +62,7 @@ pub returns-clause-sound : goal.returns-clause-sound
 returns-clause-sound g c =
     let b = c.begin.ensures in
     let level : Level = record { folder = None; first = None; entries = Kept c.match-begin.kept; faults = c.new.result } in
-    root_sound (g.D.Disk.state c.args.disk.now) (g.D.Disk.state c.begin.new.disk) g.S.Order.sorts c.args.inside.now c.begin.new.inside level b.same c.requires.sound b.lists (λ number. tt) refl (all_at g c)
+    root_sound (g.D.Disk.state c.args.disk.now) (g.D.Disk.state c.begin.new.disk) g.S.Order.sorts c.args.inside.now c.begin.new.inside level b.same c.requires.sound b.lists (λ number. tt) refl (all_at g c) tt
 
 pub returns-clause-keeps : goal.returns-clause-keeps
 returns-clause-keeps g c = λ lying lies.

@@ -28,7 +28,7 @@ returns-in_err-entries-clause-keeps g c = λ lying lies.
     let sorts = g.S.Order.sorts inside.order in
     let k = most_open s now c.args.folder.depth sorts inside.options (opens inside.stack.items) r.unopened r.lists c.requires.whole c.requires.sound.few in
     keeps_none s now inside inside lying k.0 lies.unread (record { options = refl; order = refl; root = refl }) (no_top inside c.requires.taken)
-    (sound_on s now inside.stack.items c.requires.sound.lists r.lists.open_list) r.lists.open_count k.1 k.2 r.tree r.faults r.later
+    (sound_on s now inside.stack.items c.requires.sound.lists r.lists.open_list) r.lists.open_count k.1 k.2 r.tree r.faults r.later r.lists.open_list
 
 pub returns-clause-moves : goal.returns-clause-moves
 returns-clause-moves g c = λ tells by lying rest compares lies h.
@@ -57,7 +57,7 @@ returns-clause-sound g c =
     let level : Level = record { folder = Some c.args.folder; first = None; entries = Kept c.in_ok-entries.entries; faults = c.read_folder.new.faults } in
     is_sound_top now (g.S.Order.sorts inside.order) inside level
     (sound_top s now inside.stack.items level c.requires.sound.lists (clear_from s level.entries inside.stack.items c.requires.sound.lists (λ number is. tt)) (λ number apart. r.lists.open_list number) r.depth)
-    c.requires.sound.read (omega (arith, few))
+    c.requires.sound.read (omega (arith, few)) c.requires.sound.shallow tt tt
 
 pub returns-clause-keeps : goal.returns-clause-keeps
 returns-clause-keeps g c = λ lying lies.
@@ -70,7 +70,7 @@ returns-clause-keeps g c = λ lying lies.
     let count = r.lists.open_count in
     keeps_top s now inside lying level k.0 lies.unread
     (sound_top s now inside.stack.items level c.requires.sound.lists (clear_from s level.entries inside.stack.items c.requires.sound.lists (λ number is. tt)) (λ number apart. r.lists.open_list number) r.depth)
-    (omega (arith, count)) k.1 k.2 r.tree r.faults r.later
+    (omega (arith, count)) k.1 k.2 r.tree r.faults r.later (λ number apart. r.lists.open_list number) (λ number is. tt)
 
 pub returns-clause-less : goal.returns-clause-less
 returns-clause-less g c = λ lying lies.
