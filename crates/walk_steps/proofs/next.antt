@@ -2,3 +2,4 @@
 pub mod StepLemmas
 pub mod MeetLemmas
 pub mod TakeStepLemmas
+pub mod CauseLemmas

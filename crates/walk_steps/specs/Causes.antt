@@ -1,7 +1,8 @@
 -- Why a walk gives its items.
-use Rattle.std.specs.Prelude.{◌≡◌, ◌⊎◌, ◌+◌, ◌≤◌, ℕ, Bool, true, false, not, if◌then◌else◌, IsTrue, List, [], ◌∷◌, length, Option, Some, None, Ok, Err}
+use Rattle.std.specs.Prelude.{◌≡◌, ◌⊎◌, ◌+◌, ◌≤◌, ◌<◌, ℕ, Bool, true, false, not, if◌then◌else◌, IsTrue, List, [], ◌∷◌, length, Option, Some, None, Ok, Err}
 use Rattle.sd_edge.specs.Count.{IsAtLast}
 use Rattle.sd_edge.specs.Disk.{DiskState}
+use Rattle.sd_edge.specs.declared.meta.Ident.{Ident}
 use Rattle.walk_rest.specs.declared.entry.DirEntry.{DirEntry}
 use Rattle.walk_rest.specs.declared.error.Error.{Error}
 use Rattle.walk_rest.specs.declared.error.Error.TheVariants.{Disk, Absent, Loop, NoMemory, TooMany}
@@ -14,7 +15,8 @@ use Rattle.walk_rest.specs.Rest.{Rest}
 use Rattle.walk_steps.specs.declared.inside.Inside.{Inside}
 use Rattle.walk_steps.specs.declared.see.Sight.{Sight}
 use Rattle.walk_steps.specs.declared.see.Sight.TheVariants.{Stays, Enters}
-use Rattle.walk_steps.specs.Inside.{HasRest}
+use Rattle.walk_steps.specs.Inside.{HasRest, chain_of}
+use Rattle.walk_steps.specs.Seen.{IsLoopIn}
 
 -- ---- counted faults
 
@@ -46,6 +48,16 @@ module _ {S : Type 0} where
   abbrev pub FitsTree : Bool → (S → Comparison → Type 0) → DiskState → Bool → Inside S → Type 0
   FitsTree tells compares_by state sorts inside = IsTrue tells → (by : Comparison) × (rest : Rest) × compares_by inside.order by × HasRest state sorts by inside rest
 
+-- ---- errors
+
+-- an item `Absent` on a disk that doesn't tell its tree comes only where the count of faults rose
+abbrev pub CountsAbsent : Bool → DiskState → Option Item → DiskState → Type 0
+CountsAbsent tells old answer new = tells ≡ false → (path : List ℕ) (depth : ℕ) → answer ≡ Some (Err (Absent path depth)) → old.faults < new.faults
+
+-- the identity that an item `Loop` carries is the one that is kept for the directory of the chain that it names
+abbrev pub IsLoopOf : List Folder → Option Item → Type 0
+IsLoopOf chain answer = (path : List ℕ) (depth : ℕ) (ancestor : List ℕ) (ident : Ident) → answer ≡ Some (Err (Loop path depth ancestor ident)) → IsLoopIn chain (Loop path depth ancestor ident)
+
 -- ---- what was entered
 
 -- the directory that an entry leads to
@@ -58,7 +70,16 @@ abbrev pub IsEnteredBy : Option Item → Option Level → Type 0
 IsEnteredBy answer top = (level : Level) (folder : Folder) → top ≡ Some level → level.entries ≡ Unread → level.folder ≡ Some folder
     → (entry : DirEntry) × (answer ≡ Some (Ok entry)) × IsFolderOf entry folder
 
+-- ---- parts of it
+
 -- what the walk makes of an entry has its depth, and a directory is entered by its entry's path and depth
 abbrev pub IsSightOf : DirEntry → Sight → Type 0
 IsSightOf entry (Stays seen) = seen.depth ≡ entry.depth
 IsSightOf entry (Enters seen folder) = (seen.depth ≡ entry.depth) × IsFolderOf seen folder
+
+-- an answer, if one came, came for these causes
+module _ {S : Type 0} where
+  pub record IsCaused (tells : Bool) (old new : DiskState) (answer : Option Item) (now : Inside S) : Type 0 where
+    pub absent : CountsAbsent tells old answer new
+    pub looped : IsLoopOf (chain_of now) answer
+    pub entered : (answer ≡ None → ⊥) → IsEnteredBy answer now.top

@@ -1,5 +1,5 @@
 -- What the parts of a step do to what is left of a walk.
-use Rattle.std.specs.Prelude.{◌≡◌, ◌⊎◌, ℕ, Bool, true, IsTrue, List, [], ◌∷◌, ◌++◌, Option, Some, None, Err, option_map}
+use Rattle.std.specs.Prelude.{◌≡◌, ◌⊎◌, ◌<◌, ℕ, Bool, true, false, IsTrue, List, [], ◌∷◌, ◌++◌, Option, Some, None, Err, option_map}
 use Rattle.std.specs.declared.cmp.Ordering.{Ordering}
 use Rattle.sd_edge.specs.Count.{HasRisen}
 use Rattle.sd_edge.specs.Tree.{Tree}
@@ -20,11 +20,11 @@ use Rattle.walk_steps.specs.Inside.{HasRest, entries_due, manner_in, levels_of, 
 
 -- ---- the root
 
--- a call on the root failed, and was counted; or it leads nowhere, as the tree has it
+-- a call on the root failed, and was counted; or it leads nowhere, as the tree has it, or as the disk counted where it doesn't tell its tree
 abbrev pub CannotBegin : Bool → DiskState → DiskState → Options → List ℕ → Error → Type 0
 CannotBegin tells old new options root failed =
     (failed ≡ error.NoMemory) ⊎ (((failed ≡ error.Disk (Some root) 0) × HasRisen old.faults new.faults)
-    ⊎ ((failed ≡ error.Absent root 0) × (IsTrue tells → beginning old.tree options root ≡ ends failed)))
+    ⊎ ((failed ≡ error.Absent root 0) × (IsTrue tells → beginning old.tree options root ≡ ends failed) × (tells ≡ false → old.faults < new.faults)))
 
 module _ {S : Type 0} where
   -- ---- steps

@@ -6,7 +6,8 @@ ghost use Rattle.sd_edge.specs.Disk.{SameTree};
 ghost use Rattle.walk_rest.specs.declared.entry.DirEntry as entry_type;
 ghost use Rattle.walk_rest.specs.declared.error.Error.TheVariants as error;
 ghost use Rattle.walk_rest.specs.Rest.{Rest};
-ghost use Rattle.walk_steps.specs.Inside.{HasRest, IsRead, SameWalk, levels_of, with_top};
+ghost use Rattle.walk_steps.specs.Causes.{CountsAbsent, CountsFaults, FitsTree, IsCaused, IsEnteredBy, IsLoopOf, faults_told};
+ghost use Rattle.walk_steps.specs.Inside.{HasRest, IsRead, SameWalk, chain_of, levels_of, with_top};
 ghost use Rattle.walk_steps.specs.Sound.{IsSound, KeepsWalk, SameOthers, StaysWithin, depth_below, open_limit};
 ghost use Rattle.walk_steps.specs.Steps.{HasTaken, StepsTo, TurnsTo};
 ghost use Rattle.walk_steps.specs.Work.{left_to_do};
@@ -37,6 +38,11 @@ pub fn next_item<D: Disk, S: Order>(
     ensures gave_up { result ≡ Some (Err error.NoMemory) → levels_of inside.new ≡ [] }
     ensures within { StaysWithin (open_limit inside.old.options) (D.state disk.old) (levels_of inside.old) (D.state disk.new) (levels_of inside.new) }
     ensures others { SameOthers (D.state disk.old) (levels_of inside.old) (D.state disk.new) (levels_of inside.new) }
+    ensures counted { FitsTree D.tells S.compares_by (D.state disk.old) (S.sorts inside.old.order) inside.old
+        → CountsFaults (faults_told D.tells result) (D.state disk.old) (levels_of inside.old) (D.state disk.new) (levels_of inside.new) }
+    ensures absent { CountsAbsent D.tells (D.state disk.old) result (D.state disk.new) }
+    ensures looped { IsLoopOf (chain_of inside.new) result }
+    ensures entered { IsEnteredBy result inside.new.top }
     ensures tree { SameTree (D.state disk.old) (D.state disk.new) }
     ensures faults { (D.state disk.old).faults ≤ (D.state disk.new).faults }
 {
@@ -69,6 +75,9 @@ fn turn<D: Disk, S: Order>(
     ensures named { IfOk result (λ answer. answer ≢ Some (Err error.NoMemory)) }
     ensures sound { OnOk result (IsSound (D.state disk.new) (S.sorts inside.new.order) inside.new) }
     ensures keeps { KeepsWalk (D.state disk.old) (with_top inside.old level) (D.state disk.new) inside.new }
+    ensures counted { FitsTree D.tells S.compares_by (D.state disk.old) (S.sorts inside.old.order) (with_top inside.old level)
+        → IfOk result (λ answer. CountsFaults (faults_told D.tells answer) (D.state disk.old) (levels_of (with_top inside.old level)) (D.state disk.new) (levels_of inside.new)) }
+    ensures caused { IfOk result (λ answer. IsCaused D.tells (D.state disk.old) (D.state disk.new) answer inside.new) }
     ensures less { OnOk result (left_to_do (D.state disk.new) inside.new < left_to_do (D.state disk.old) (with_top inside.old level)) }
 {
     let mut level = level;
@@ -128,6 +137,8 @@ fn take_next<D: Disk, S: Order>(
     ensures named { IfOk result (λ answer. answer ≢ Some (Err error.NoMemory)) }
     ensures sound { OnOk result (IsSound (D.state disk.new) (S.sorts inside.new.order) inside.new) }
     ensures keeps { KeepsWalk (D.state disk.old) (with_top inside.old level) (D.state disk.new) inside.new }
+    ensures counted { IfOk result (λ answer. CountsFaults (faults_told D.tells answer) (D.state disk.old) (levels_of (with_top inside.old level)) (D.state disk.new) (levels_of inside.new)) }
+    ensures caused { IfOk result (λ answer. IsCaused D.tells (D.state disk.old) (D.state disk.new) answer inside.new) }
     ensures less { OnOk result (left_to_do (D.state disk.new) inside.new < left_to_do (D.state disk.old) (with_top inside.old level)) }
 {
     let mut level = level;
@@ -180,6 +191,8 @@ fn meet<D: Disk, S: Order>(
     ensures named { IfOk result (λ answer. answer ≢ Some (Err error.NoMemory)) }
     ensures sound { OnOk result (IsSound (D.state disk.new) (S.sorts inside.new.order) inside.new) }
     ensures keeps { KeepsWalk (D.state disk.old) (with_top inside.old level) (D.state disk.new) inside.new }
+    ensures counted { IfOk result (λ answer. CountsFaults (faults_told D.tells answer) (D.state disk.old) (levels_of (with_top inside.old level)) (D.state disk.new) (levels_of inside.new)) }
+    ensures caused { IfOk result (λ answer. IsCaused D.tells (D.state disk.old) (D.state disk.new) answer inside.new) }
     ensures listed { (D.state disk.new).listed ≡ (D.state disk.old).listed }
     ensures little { OnOk result (left_to_do (D.state disk.new) inside.new ≤ left_to_do (D.state disk.old) (with_top inside.old level) + 4) }
 {

@@ -7,6 +7,7 @@ ghost use Rattle.sd_edge.specs.Disk.{SameTree, SameLists};
 ghost use Rattle.walk_rest.specs.Plan.{Manner, ident_of, node_to, seen, seen_by, seen_directory, seen_link, seen_root_link};
 ghost use Rattle.walk_rest.specs.Level.{with_folder};
 ghost use Rattle.walk_steps.specs.Inside.{chain_of, with_top};
+ghost use Rattle.walk_steps.specs.Causes.{IsSightOf};
 ghost use Rattle.walk_steps.specs.Seen.{seen_of, refusal_of, ancestor_path, GoesBy, KnowsIdent, LoopsTo, FailsAsSeen, FailsCounted, HasCauseAt};
 
 use crate::Inside;
@@ -35,6 +36,7 @@ pub fn see<D: Disk, S>(
     ensures failed { IsTrue D.tells → (manner : Manner) → GoesBy inside.now manner
         → IfErr result (FailsAsSeen (D.state disk.old).faults (D.state disk.new).faults entry (seen (D.state disk.old).tree manner (chain_of (with_top inside.now level.now)) entry)) }
     ensures cause { D.tells ≡ false → IfErr result (HasCauseAt (D.state disk.old).faults (D.state disk.new).faults entry (chain_of (with_top inside.now level.now))) }
+    ensures sight { IfOk result (IsSightOf entry) }
     ensures lists { SameLists (D.state disk.old) (D.state disk.new) }
     ensures tree { SameTree (D.state disk.old) (D.state disk.new) }
     ensures faults { (D.state disk.old).faults ≤ (D.state disk.new).faults }
@@ -66,6 +68,7 @@ fn see_link<D: Disk, S>(
     ensures failed { IsTrue D.tells → (manner : Manner) → GoesBy inside.now manner
         → IfErr result (FailsAsSeen (D.state disk.old).faults (D.state disk.new).faults entry (seen_link manner (chain_of (with_top inside.now level.now)) entry (node_to (D.state disk.old).tree entry.path true))) }
     ensures cause { D.tells ≡ false → IfErr result (HasCauseAt (D.state disk.old).faults (D.state disk.new).faults entry (chain_of (with_top inside.now level.now))) }
+    ensures sight { IfOk result (IsSightOf entry) }
     ensures lists { SameLists (D.state disk.old) (D.state disk.new) }
     ensures tree { SameTree (D.state disk.old) (D.state disk.new) }
     ensures faults { (D.state disk.old).faults ≤ (D.state disk.new).faults }
@@ -116,6 +119,7 @@ fn see_root_link<D: Disk, S>(
     ensures seen { IsTrue D.tells → (manner : Manner) → GoesBy inside.now manner → IfOk result (λ sight. seen_of sight ≡ seen_root_link manner entry (node_to (D.state disk.old).tree entry.path true)) }
     ensures failed { IsTrue D.tells → (manner : Manner) → IfErr result (FailsAsSeen (D.state disk.old).faults (D.state disk.new).faults entry (seen_root_link manner entry (node_to (D.state disk.old).tree entry.path true))) }
     ensures cause { D.tells ≡ false → IfErr result (λ failed. FailsCounted (D.state disk.old).faults (D.state disk.new).faults entry failed ⊎ ((failed ≡ Error.Absent entry.path entry.depth) × ((D.state disk.old).faults < (D.state disk.new).faults))) }
+    ensures sight { IfOk result (IsSightOf entry) }
     ensures lists { SameLists (D.state disk.old) (D.state disk.new) }
     ensures tree { SameTree (D.state disk.old) (D.state disk.new) }
     ensures faults { (D.state disk.old).faults ≤ (D.state disk.new).faults }
@@ -139,6 +143,7 @@ fn see_directory<D: Disk, S>(
 ) -> Result<Sight, Error>
     ensures seen { IsTrue D.tells → (manner : Manner) → GoesBy inside.now manner → IfOk result (λ sight. seen_of sight ≡ seen_directory manner entry (node_to (D.state disk.old).tree entry.path true)) }
     ensures failed { IfErr result (FailsCounted (D.state disk.old).faults (D.state disk.new).faults entry) }
+    ensures sight { IfOk result (IsSightOf entry) }
     ensures lists { SameLists (D.state disk.old) (D.state disk.new) }
     ensures tree { SameTree (D.state disk.old) (D.state disk.new) }
     ensures faults { (D.state disk.old).faults ≤ (D.state disk.new).faults }
@@ -164,7 +169,8 @@ fn directory<S>(
     entry: DirEntry,
     ident: Option<Ident>,
 ) -> Result<Sight, NoMemory>
-    ensures { (manner : Manner) (node : Option Node) → GoesBy inside.now manner → KnowsIdent inside.now.options entry ident node → IfOk result (λ sight. seen_of sight ≡ seen_directory manner entry node) }
+    ensures seen { (manner : Manner) (node : Option Node) → GoesBy inside.now manner → KnowsIdent inside.now.options entry ident node → IfOk result (λ sight. seen_of sight ≡ seen_directory manner entry node) }
+    ensures sight { IfOk result (IsSightOf entry) }
 {
     let is_foreign = match ident {
         None => true,

@@ -1,5 +1,5 @@
 -- One list of several levels is kept.
-use Rattle.std.proofs.Common.{◌≡◌, ◌⊎◌, ◌+◌, ◌<◌, ◌≤◌, ℕ, zero, suc, List, [], ◌∷◌, ◌++◌, length, get_or, Option, Some, refl, sym, ◌∙◌, ap, inl, inr, arith}
+use Rattle.std.proofs.Common.{◌≡◌, ◌⊎◌, ◌+◌, ◌<◌, ◌≤◌, ℕ, zero, suc, List, [], ◌∷◌, ◌++◌, length, get_or, Option, Some, refl, sym, ◌∙◌, ap, inl, inr, arith, length-append}
 use Rattle.std.specs.Prelude.{slice_set}
 use Rattle.std.specs.List.{AllWithin, HoldsAt}
 use Rattle.std.proofs.Math.Seq.{get_or-append_seam, set-append_seam}
@@ -10,10 +10,11 @@ use Rattle.walk_rest.specs.declared.level.Folder.{Folder}
 use Rattle.walk_rest.specs.declared.level.Entries.{Entries}
 use Rattle.walk_rest.specs.declared.level.Entries.TheVariants.{Unread, Open, Kept}
 use Rattle.walk_rest.specs.declared.level.Level.{Level}
-use Rattle.walk_rest.specs.Level.{AllSameReads, HasKept, IsOpenEntries}
+use Rattle.walk_rest.specs.Level.{AddsFaults, AllSameReads, HasKept, IsAllowed, IsOpenEntries}
 use Rattle.walk_rest.specs.Read.{ReadsList}
 use Rattle.walk_steps.specs.Inside.{IsRead}
 use Rattle.walk_steps.specs.Sound.{IsReadable, IsApart, AreApart, AreApartFrom, AreSound, AreRead, IsShallow, AreShallow, SameOtherThan, StaysWithin, opens, open_in}
+use Rattle.walk_steps.specs.Causes.{faults_due, CountsFaults}
 use Rattle.walk_steps.specs.Lists.{IsOldestOpen, KeepsLevel, KeepsOldest}
 use Rattle.walk_steps.specs.Work.{weight_of, weight_all, work_in, work_of}
 use Rattle.walk_steps.proofs.leave.WithinLemmas.{within_fewer}
@@ -272,3 +273,26 @@ pub open_one : (e : Entries) → IsOpenEntries e → open_in e ≡ 1
 open_one Unread is = absurd is
 open_one (Open list) is = refl
 open_one (Kept kept) is = absurd is
+
+-- ---- faults that are due
+
+due_at : (lower upper : List Level) (x : Level) → faults_due (lower ++ x ∷ upper) ≡ faults_due lower + (length x.faults.items + faults_due upper)
+due_at [] upper x = omega arith
+due_at (l ∷ lower) upper x = let e = due_at lower upper x in omega (arith, e)
+
+pub kept_counted : (old new : DiskState) (levels : List Level) (place : ℕ) (was now : Level) → StandsAmong levels place was → AddsFaults old was.faults.items new now.faults.items → CountsFaults 0 old levels new (slice_set levels place now)
+kept_counted old new levels place was now at adds = by adds.allowed
+  where
+    more : faults_due (slice_set levels place now) ≡ faults_due levels + length adds.more
+    more =
+        let e = ap faults_due (level_set levels at.lower at.upper was now place at.are at.at) in
+        let a = due_at at.lower at.upper now in
+        let b = due_at at.lower at.upper was in
+        let c = ap faults_due at.are in
+        let d = ap length adds.now_are in
+        let f = length-append was.faults.items adds.more in
+        omega (arith, e, a, b, c, d, f)
+
+    by : IsAllowed (length adds.more) old.faults new.faults → CountsFaults 0 old levels new (slice_set levels place now)
+    by (inl h) = let e = more in inl (omega (arith, e, h))
+    by (inr h) = inr h

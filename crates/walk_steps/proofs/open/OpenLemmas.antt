@@ -1,13 +1,13 @@
 -- A directory is read for the first time.
 use Rattle.std.proofs.Common.{◌≡◌, ◌⊎◌, ◌+◌, ◌<◌, ◌≤◌, ℕ, max, Bool, true, false, cond, List, [], ◌∷◌, ◌++◌, length, map, reverse, Option, Some, None, Result, Ok, Err, refl, sym, subst, ap, ◌∙◌, inl, inr, arith, append-nil, append_assoc}
-use Rattle.std.specs.Prelude.{IsErr, IsTrue, OnOk, option_map}
+use Rattle.std.specs.Prelude.{IsErr, IsSome, IsTrue, OnOk, option_map}
 use Rattle.std.proofs.lemmas.Bool.{cases_order}
 use Rattle.std.specs.List.{filter}
 use Rattle.std.specs.declared.cmp.Ordering.{Ordering}
 use Rattle.sd_edge.specs.Count.{HasRisen}
 use Rattle.sd_edge.specs.Tree.{Tree}
 use Rattle.sd_edge.specs.Disk.{DiskState, SameLists, SameTree}
-use Rattle.sd_edge.specs.Lists.{IsOpen, ListsDirectory}
+use Rattle.sd_edge.specs.Lists.{IsOpen, ListsDirectory, directory_of}
 use Rattle.sd_edge.specs.declared.meta.RawEntry.{RawEntry}
 use Rattle.walk_rest.specs.declared.entry.DirEntry.{DirEntry}
 use Rattle.walk_rest.specs.declared.options.Options.{Options}
@@ -22,7 +22,7 @@ use Rattle.walk_rest.specs.Rest.{Moves, Part, Rest}
 use Rattle.walk_rest.specs.Level.{AllSameReads, HasParts, IsDue, LeavesLists, SameReads, ReadsFolder, TakesEntries, TakesWithFaults, chain_above, fault_of, item_of, left_in, read_part, with_folder}
 use Rattle.walk_rest.specs.Sorting.{IsSublist}
 use Rattle.walk_rest.proofs.ReadLemmas.{sublist_same}
-use Rattle.walk_rest.proofs.FolderLemmas.{read_not_opened}
+use Rattle.walk_rest.proofs.FolderLemmas.{is_there, read_not_opened}
 use Rattle.walk_rest.proofs.PlanLemmas.{names_same}
 use Rattle.walk_rest.proofs.MoveLemmas.{list_kept, part_read}
 use Rattle.walk_steps.specs.declared.inside.Inside.{Inside}
@@ -166,6 +166,16 @@ module _ {S : Type 0} where
         }) (λ on. inr (device_known s.tree inside lying folder lies.folder_is h.device on ∙ ap (λ (t : Tree). device_to t root) (sym tree)));
         allowed = rw to.same at r.allowed;
       }
+
+-- a directory that lies unread is there, where it is to be read
+module _ {S : Type 0} where
+  pub unread_there : (s : DiskState) (sorts : Bool) (by : DirEntry → DirEntry → Ordering) (inside : Inside S) (lying : Level) (folder : Folder) (rest : Rest) → LiesUnread lying (Some folder) → HasRest s sorts by (with_top inside lying) rest
+      → folder.depth < inside.options.max_depth → IsSome (directory_of s.tree folder.path)
+  unread_there s sorts by inside lying folder rest lies h shallow =
+      let m = manner_of s.tree inside.options sorts by inside.root in
+      let p = top_parts s sorts by inside lying rest h in
+      let due = unread_due s m inside.root (chain_above [] inside.stack.items) lying.folder lying.entries folder p.part.left lies.folder_is lies.unread p.top.due in
+      is_there s.tree m folder due.0 shallow due.1
 
 -- a list was opened, or it couldn't be
 pub opened_to : (s now : DiskState) (m : Manner) (folder : Folder) (inner : List DirEntry) (due : List Due) (level : Level) → m.sorts ≡ false → folder.depth < m.options.max_depth → due ≡ [] → s.faults ≤ now.faults

@@ -1,11 +1,13 @@
-use Rattle.std.proofs.Common.{◌≡◌, ◌+◌, ◌≤◌, ◌∷◌, ◌++◌, [], None, Some, Option, Bool, refl, sym, subst, ◌∙◌, ap, arith}
+use Rattle.std.proofs.Common.{◌≡◌, ◌+◌, ◌≤◌, ◌∷◌, ◌++◌, [], None, Some, Ok, Err, Option, Bool, true, false, inl, refl, sym, subst, ◌∙◌, ap, arith}
 use Rattle.std.specs.Prelude.{option_map}
 use Rattle.walk_rest.specs.declared.entry.DirEntry.{DirEntry}
 use Rattle.walk_rest.specs.Level.{item_of}
 use Rattle.walk_rest.specs.declared.error.Error.{Error}
 use Rattle.walk_rest.specs.declared.error.Error.TheVariants as error
-use Rattle.walk_rest.specs.Plan.{Seen, seen, enters, item_where}
-use Rattle.walk_steps.specs.Seen.{FailsAsSeen}
+use Rattle.walk_rest.specs.Names.{by_file_name}
+use Rattle.walk_rest.specs.Plan.{Manner, Seen, seen, enters, item_where, node_to}
+use Rattle.walk_steps.specs.Seen.{FailsAsSeen, HasCauseAt}
+use Rattle.walk_steps.specs.Causes.{faults_told}
 use Rattle.walk_rest.specs.Listing.{manner_of}
 use Rattle.walk_steps.specs.Inside.{chain_of, levels_of, with_top}
 use Rattle.walk_steps.specs.Sound.{IsSound}
@@ -14,6 +16,8 @@ use Rattle.walk_steps.specs.Work.{left_to_do}
 use Rattle.walk_steps.proofs.leave.SoundLemmas.{sound_split}
 use Rattle.walk_steps.proofs.leave.WithinLemmas.{keeps_on}
 use Rattle.walk_steps.proofs.next.MeetLemmas.{PutsBack, met_stays, met_error, met_enters, back_sound, back_keeps, back_work, seen_here, enters_sound, enters_keeps, enters_work, refused_keeps}
+use Rattle.walk_steps.proofs.next.CauseLemmas.{FailsFor, caused_met, caused_none, caused_ok, counts_same, entered_by, enters_due, error_allowed, read_not, seen_rightly, top_not}
+use Rattle.walk_steps.proofs.next.meet.Given as given
 use Rattle.walk_steps.proofs.next.meet.Goals as goal
 
 pub returns-in_err-entry-in-Ok-Enters-clause-keeps : goal.returns-in_err-entry-in-Ok-Enters-clause-keeps
@@ -227,3 +231,72 @@ returns-in_ok-named-in-Err-clause-keeps g c =
 
 pub returns-in_ok-named-in-Err-clause-little : goal.returns-in_ok-named-in-Err-clause-little
 returns-in_ok-named-in-Err-clause-little g c = let e = back_work (g.D.Disk.state c.args.disk.now) (g.D.Disk.state c.see.new.disk) (with_top c.args.inside.now c.args.level) c.see.ensures.lists in omega (arith, e)
+
+-- ---- causes and counts
+
+pub returns-then-is_shown-clause-caused : goal.returns-then-is_shown-clause-caused
+returns-then-is_shown-clause-caused g c =
+    caused_ok g.D.Disk.tells (g.D.Disk.state c.args.disk.now) (g.D.Disk.state c.see.new.disk) c.in-Ok-Stays.entry (with_top c.args.inside.now c.args.level)
+    (top_not (Some (Ok c.in-Ok-Stays.entry)) c.args.level (read_not c.args.level.entries c.requires.read))
+
+pub returns-then-is_shown-clause-counted : goal.returns-then-is_shown-clause-counted
+returns-then-is_shown-clause-counted g c = let later = c.see.ensures.faults in inl (omega (arith, later))
+
+pub returns-else-is_shown-clause-caused : goal.returns-else-is_shown-clause-caused
+returns-else-is_shown-clause-caused g c = caused_none g.D.Disk.tells (g.D.Disk.state c.args.disk.now) (g.D.Disk.state c.see.new.disk) (with_top c.args.inside.now c.args.level)
+
+pub returns-else-is_shown-clause-counted : goal.returns-else-is_shown-clause-counted
+returns-else-is_shown-clause-counted g c = let later = c.see.ensures.faults in inl (omega (arith, later))
+
+pub returns-in-Some-clause-caused : goal.returns-in-Some-clause-caused
+returns-in-Some-clause-caused g c =
+    caused_ok g.D.Disk.tells (g.D.Disk.state c.args.disk.now) (g.D.Disk.state c.see.new.disk) c.in-Some.entry c.enter.new.inside
+    (entered_by c.args.inside.now c.enter.new.inside c.args.level c.in-Ok-Enters.entry c.in-Ok-Enters.folder c.in_ok-entry-in-Ok-Enters.field-0 c.in-Some.entry c.in_ok-entry-in-Ok-Enters.ensures.entered c.in-Some.is
+    (rw c.in-Ok-Enters.field-0-is at c.in-Ok-Enters.ensures.sight).1)
+
+pub returns-in-Some-clause-counted : goal.returns-in-Some-clause-counted
+returns-in-Some-clause-counted g c =
+    let later = c.see.ensures.faults in
+    counts_same 0 (g.D.Disk.state c.args.disk.now) (g.D.Disk.state c.see.new.disk) (levels_of (with_top c.args.inside.now c.args.level)) (levels_of c.enter.new.inside)
+    (enters_due c.args.inside.now c.enter.new.inside c.args.level c.in-Ok-Enters.entry c.in-Ok-Enters.folder c.in_ok-entry-in-Ok-Enters.field-0 c.in_ok-entry-in-Ok-Enters.ensures.entered) (inl (omega (arith, later)))
+
+pub returns-in-None-clause-caused : goal.returns-in-None-clause-caused
+returns-in-None-clause-caused g c = caused_none g.D.Disk.tells (g.D.Disk.state c.args.disk.now) (g.D.Disk.state c.see.new.disk) c.enter.new.inside
+
+pub returns-in-None-clause-counted : goal.returns-in-None-clause-counted
+returns-in-None-clause-counted g c =
+    let later = c.see.ensures.faults in
+    counts_same 0 (g.D.Disk.state c.args.disk.now) (g.D.Disk.state c.see.new.disk) (levels_of (with_top c.args.inside.now c.args.level)) (levels_of c.enter.new.inside)
+    (enters_due c.args.inside.now c.enter.new.inside c.args.level c.in-Ok-Enters.entry c.in-Ok-Enters.folder c.in_ok-entry-in-Ok-Enters.field-0 c.in_ok-entry-in-Ok-Enters.ensures.entered) (inl (omega (arith, later)))
+
+-- what stands in place of the entry, and why
+failed_for : (g : given.Over) (c : goal.In_ok-named-in-Err g) → FailsFor g.D.Disk.tells (g.D.Disk.state c.args.disk.now).faults (g.D.Disk.state c.see.new.disk).faults c.args.entry (chain_of (with_top c.args.inside.now c.args.level)) c.in_ok-named-in-Err.field-0
+failed_for g c =
+    let s = g.D.Disk.state c.args.disk.now in
+    let now = g.D.Disk.state c.see.new.disk in
+    let inside = c.args.inside.now in
+    let chain = chain_of (with_top inside c.args.level) in
+    let m : Manner = record { options = inside.options; sorts = false; compare = by_file_name; device = inside.device } in
+    let same = c.in_ok-named-in-Err.ensures.same in
+    let F : Error → Type 0 = FailsAsSeen s.faults now.faults c.args.entry (seen s.tree m chain c.args.entry) in
+    let U : Error → Type 0 = HasCauseAt s.faults now.faults c.args.entry chain in
+    record {
+      later = c.see.ensures.faults;
+      untold = λ untold. subst U (sym same) (c.in-Err.ensures.cause untold);
+      at = seen s.tree m chain c.args.entry;
+      told = λ tells. subst F (sym same) (c.in-Err.ensures.failed tells m (record { options = refl; device = λ on. refl }));
+      rightly = seen_rightly chain m c.args.entry (node_to s.tree c.args.entry.path true);
+    }
+
+pub returns-in_ok-named-in-Err-clause-caused : goal.returns-in_ok-named-in-Err-clause-caused
+returns-in_ok-named-in-Err-clause-caused g c =
+    caused_met g.D.Disk.tells (g.D.Disk.state c.args.disk.now) (g.D.Disk.state c.see.new.disk) c.args.entry c.in_ok-named-in-Err.field-0 (with_top c.args.inside.now c.args.level) (failed_for g c)
+    (top_not (Some (Err c.in_ok-named-in-Err.field-0)) c.args.level (read_not c.args.level.entries c.requires.read))
+
+pub returns-in_ok-named-in-Err-clause-counted : goal.returns-in_ok-named-in-Err-clause-counted
+returns-in_ok-named-in-Err-clause-counted g c =
+    let s = g.D.Disk.state c.args.disk.now in
+    let now = g.D.Disk.state c.see.new.disk in
+    let inside = with_top c.args.inside.now c.args.level in
+    counts_same (faults_told g.D.Disk.tells (Some (Err c.in_ok-named-in-Err.field-0))) s now (levels_of inside) (levels_of inside) refl
+    (error_allowed g.D.Disk.tells s.faults now.faults c.args.entry (chain_of inside) c.in_ok-named-in-Err.field-0 (failed_for g c))

@@ -1,6 +1,7 @@
 use Rattle.std.proofs.Common.{◌≡◌, ◌+◌, ◌≤◌, ◌<◌, ◌++◌, [], Some, None, Bool, ℕ, List, Option, refl, sym, subst, ◌∙◌, ap, arith, inl, inr, append-nil}
 use Rattle.walk_rest.specs.declared.level.Level.{Level}
 use Rattle.walk_rest.specs.Plan.{Item}
+use Rattle.walk_steps.specs.Causes.{CountsFaults, FitsTree, IsCaused, faults_due, faults_told}
 use Rattle.walk_steps.specs.Inside.{HasRest, levels_of, top_levels, with_top}
 use Rattle.walk_steps.specs.Steps.{MovesTo, StepsTo, TurnsTo}
 use Rattle.walk_steps.specs.Sound.{AreApart, IsSound, opens, open_limit}
@@ -8,6 +9,8 @@ use Rattle.walk_steps.specs.Work.{left_to_do, work_in}
 use Rattle.walk_steps.proofs.leave.OthersLemmas.{others_on}
 use Rattle.walk_steps.proofs.leave.WithinLemmas.{keeps_on, keeps_same, retop_levels, is_sound_retop, within_on, within_more, within_fewer, gone_lighter}
 use Rattle.walk_steps.proofs.next.StepLemmas.{moves_none, moves_more, moves_last, none_left, rest_retop}
+use Rattle.walk_steps.proofs.next.CauseLemmas.{caused_later, counts_from, counts_on, no_level, still_fits}
+use Rattle.walk_steps.proofs.next.next_item.Given as given
 use Rattle.walk_steps.proofs.next.next_item.Goals as goal
 
 pub loop-level-init : goal.loop-level-init
@@ -16,6 +19,7 @@ loop-level-init g c = record {
   keeps = keeps_same (g.D.Disk.state c.args.disk.now) c.args.inside.now c.args.inside.now (record { options = refl; order = refl; root = refl }) refl c.requires.sound.lists;
   less = omega arith;
   moved = λ tells by rest same h. moves_none (g.D.Disk.state c.args.disk.now) (g.S.Order.sorts c.args.inside.now.order) by c.args.inside.now rest h;
+  counted = λ fits. inl (omega arith);
 }
 
 pub loop-level-preserved : goal.loop-level-preserved
@@ -46,6 +50,11 @@ loop-level-preserved g c =
           let turned = subst T c.in-Ok-None.field-0-is (c.in-Ok-None.ensures.turns tells by m.new (subst C (sym inv.keeps.same.order) same) (subst H (sym order) has)) in
           let M : Bool → Type 0 = λ b. MovesTo s b by m.new now c.turn.new.inside in
           moves_more s0 s now (g.S.Order.sorts c.args.inside.now.order) by c.loop-level.inside c.turn.new.inside rest inv.keeps.faults k.faults m (subst M order turned));
+      counted = λ fits.
+          (let T : Option Item → Type 0 = λ a. CountsFaults (faults_told g.D.Disk.tells a) s (levels_of mid) now (levels_of c.turn.new.inside) in
+          counts_on 0 s0 s now (levels_of c.args.inside.now) (levels_of c.loop-level.inside) (levels_of c.turn.new.inside) k.faults (inv.counted fits)
+          (counts_from 0 s s now (levels_of c.loop-level.inside) (levels_of mid) (levels_of c.turn.new.inside) (omega arith) (ap faults_due levels)
+          (subst T c.in-Ok-None.field-0-is (c.in-Ok-None.ensures.counted (still_fits g.D.Disk.tells g.S.Order.compares_by g.S.Order.sorts s0 s c.args.inside.now c.loop-level.inside c.in-Some.level fits inv.moved inv.keeps.same (sym c.take.ensures.value ∙ c.in-Some.is))))));
     }
 
 pub returns-in-Ok-Some-clause-step : goal.returns-in-Ok-Some-clause-step
@@ -151,3 +160,68 @@ returns-clause-others g c =
     let top = sym c.take.ensures.value ∙ c.in_default.is in
     λ number apart is. let k = inv.keeps.others number apart is in
     (k.0, (let P : Option Level → Type 0 = λ t. AreApart number (c.loop-level.inside.stack.items ++ top_levels t) in subst P (sym (c.take.ensures.after ∙ sym top)) k.1))
+
+-- ---- causes and counts
+
+pub returns-in-Ok-Some-clause-counted : goal.returns-in-Ok-Some-clause-counted
+returns-in-Ok-Some-clause-counted g c = λ fits.
+    let s0 = g.D.Disk.state c.args.disk.now in
+    let s = g.D.Disk.state c.loop-level.disk in
+    let now = g.D.Disk.state c.turn.new.disk in
+    let inv = c.loop-level.invariant in
+    let told = faults_told g.D.Disk.tells (Some c.in-Ok-Some.item) in
+    let mid = with_top c.loop-level.inside c.in-Some.level in
+    let levels = retop_levels c.loop-level.inside c.loop-level.inside c.in-Some.level (sym c.take.ensures.value ∙ c.in-Some.is) refl in
+    let T : Option Item → Type 0 = λ a. CountsFaults (faults_told g.D.Disk.tells a) s (levels_of mid) now (levels_of c.turn.new.inside) in
+    counts_on told s0 s now (levels_of c.args.inside.now) (levels_of c.loop-level.inside) (levels_of c.turn.new.inside) c.turn.ensures.keeps.faults (inv.counted fits)
+    (counts_from told s s now (levels_of c.loop-level.inside) (levels_of mid) (levels_of c.turn.new.inside) (omega arith) (ap faults_due levels)
+    (subst T c.in-Ok-Some.field-0-is (c.in-Ok-Some.ensures.counted (still_fits g.D.Disk.tells g.S.Order.compares_by g.S.Order.sorts s0 s c.args.inside.now c.loop-level.inside c.in-Some.level fits inv.moved inv.keeps.same (sym c.take.ensures.value ∙ c.in-Some.is)))))
+
+-- why the answer came
+caused : (g : given.Over) (c : goal.In-Ok-Some g) → IsCaused g.D.Disk.tells (g.D.Disk.state c.args.disk.now) (g.D.Disk.state c.turn.new.disk) (Some c.in-Ok-Some.item) c.turn.new.inside
+caused g c =
+    let T : Option Item → Type 0 = λ a. IsCaused g.D.Disk.tells (g.D.Disk.state c.loop-level.disk) (g.D.Disk.state c.turn.new.disk) a c.turn.new.inside in
+    caused_later g.D.Disk.tells (g.D.Disk.state c.args.disk.now) (g.D.Disk.state c.loop-level.disk) (g.D.Disk.state c.turn.new.disk) (Some c.in-Ok-Some.item) c.turn.new.inside c.loop-level.invariant.keeps.faults
+    (subst T c.in-Ok-Some.field-0-is c.in-Ok-Some.ensures.caused)
+
+pub returns-in-Ok-Some-clause-absent : goal.returns-in-Ok-Some-clause-absent
+returns-in-Ok-Some-clause-absent g c = (caused g c).absent
+
+pub returns-in-Ok-Some-clause-looped : goal.returns-in-Ok-Some-clause-looped
+returns-in-Ok-Some-clause-looped g c = (caused g c).looped
+
+pub returns-in-Ok-Some-clause-entered : goal.returns-in-Ok-Some-clause-entered
+returns-in-Ok-Some-clause-entered g c = (caused g c).entered (λ e. cc e)
+
+pub returns-in-Err-clause-counted : goal.returns-in-Err-clause-counted
+returns-in-Err-clause-counted g c = λ fits.
+    let a = c.loop-level.invariant.keeps.faults in
+    let b = c.turn.ensures.keeps.faults in
+    let d = c.give_up.ensures.faults in
+    let none = ap faults_due c.give_up.ensures.gone in
+    inl (omega (arith, a, b, d, none))
+
+pub returns-in-Err-clause-absent : goal.returns-in-Err-clause-absent
+returns-in-Err-clause-absent g c = λ untold path depth e. absurd (cc e)
+
+pub returns-in-Err-clause-looped : goal.returns-in-Err-clause-looped
+returns-in-Err-clause-looped g c = λ path depth ancestor ident e. absurd (cc e)
+
+pub returns-in-Err-clause-entered : goal.returns-in-Err-clause-entered
+returns-in-Err-clause-entered g c = λ level folder top unread in_it. absurd (no_level c.give_up.new.inside level c.give_up.ensures.gone top)
+
+pub returns-clause-counted : goal.returns-clause-counted
+returns-clause-counted g c = λ fits.
+    let inv = c.loop-level.invariant in
+    let top = sym c.take.ensures.value ∙ c.in_default.is in
+    let after = ap (λ (t : Option Level). faults_due (c.loop-level.inside.stack.items ++ top_levels t)) (c.take.ensures.after ∙ sym top) in
+    elim (inv.counted fits) [ inl h ↦ inl (omega (arith, h, after)) | inr h ↦ inr h ]
+
+pub returns-clause-absent : goal.returns-clause-absent
+returns-clause-absent g c = λ untold path depth e. absurd (cc e)
+
+pub returns-clause-looped : goal.returns-clause-looped
+returns-clause-looped g c = λ path depth ancestor ident e. absurd (cc e)
+
+pub returns-clause-entered : goal.returns-clause-entered
+returns-clause-entered g c = λ level folder top unread in_it. absurd (let none = c.take.ensures.after in cc (none, top))

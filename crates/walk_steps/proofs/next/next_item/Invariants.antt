@@ -3,7 +3,8 @@ use Rattle.std.specs.Prelude.{IsTrue}
 use Rattle.std.specs.declared.cmp.Ordering.{Ordering}
 use Rattle.walk_rest.specs.declared.entry.DirEntry.{DirEntry}
 use Rattle.walk_rest.specs.Rest.{Rest}
-use Rattle.walk_steps.specs.Inside.{HasRest}
+use Rattle.walk_steps.specs.Causes.{CountsFaults, FitsTree}
+use Rattle.walk_steps.specs.Inside.{HasRest, levels_of}
 use Rattle.walk_steps.specs.Sound.{IsSound, KeepsWalk}
 use Rattle.walk_steps.specs.Steps.{MovesTo}
 use Rattle.walk_steps.specs.Work.{left_to_do}
@@ -17,6 +18,8 @@ invariant-loop-level g l = record {
   moved : IsTrue g.D.Disk.tells → (by : DirEntry → DirEntry → Ordering) → (rest : Rest) → g.S.Order.compares_by l.fn.inside.order by
       → HasRest (g.D.Disk.state l.fn.disk) (g.S.Order.sorts l.fn.inside.order) by l.fn.inside rest
       → MovesTo (g.D.Disk.state l.fn.disk) (g.S.Order.sorts l.fn.inside.order) by rest (g.D.Disk.state l.disk) l.inside;
+  counted : FitsTree g.D.Disk.tells g.S.Order.compares_by (g.D.Disk.state l.fn.disk) (g.S.Order.sorts l.fn.inside.order) l.fn.inside
+      → CountsFaults 0 (g.D.Disk.state l.fn.disk) (levels_of l.fn.inside) (g.D.Disk.state l.disk) (levels_of l.inside);
 }
 
 abbrev pub decreases-loop-level : goal.decreases-loop-level

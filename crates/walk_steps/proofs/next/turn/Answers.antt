@@ -1,12 +1,15 @@
-use Rattle.std.proofs.Common.{◌≡◌, ◌<◌, [], None, Some, ℕ, refl, sym, subst, ◌∙◌, ap, arith}
+use Rattle.std.proofs.Common.{◌≡◌, ◌+◌, ◌≤◌, ◌<◌, ◌∷◌, [], None, Some, ℕ, inl, length, length-append, refl, sym, subst, ◌∙◌, ap, arith}
 use Rattle.std.specs.Prelude.{OnOk}
 use Rattle.walk_rest.specs.declared.level.Level.{Level}
-use Rattle.walk_steps.specs.Inside.{with_top}
+use Rattle.walk_steps.specs.Causes.{faults_due}
+use Rattle.walk_steps.specs.Inside.{levels_of, with_top}
 use Rattle.walk_steps.specs.Work.{left_to_do}
 use Rattle.walk_steps.specs.Steps.{LiesUnread}
 use Rattle.walk_steps.proofs.leave.OthersLemmas.{fresh_first, fresh_given, fresh_read}
 use Rattle.walk_steps.proofs.leave.WithinLemmas.{keeps_on, keeps_relevel, is_sound_relevel, below_of, fault_lighter, first_lighter, weight_relevel}
 use Rattle.walk_steps.proofs.next.StepLemmas.{fault_turn, first_turn, rest_relevel, no_items, unread_of}
+use Rattle.walk_steps.proofs.open.OpenLemmas.{unread_there}
+use Rattle.walk_steps.proofs.next.CauseLemmas.{caused_disk, caused_none, caused_ok, counts_from, counts_result, due_cleared, due_snoc, first_not, given_not, top_not}
 use Rattle.walk_steps.proofs.next.turn.Goals as goal
 
 pub returns-in-Some-clause-turns : goal.returns-in-Some-clause-turns
@@ -129,3 +132,76 @@ returns-clause-keeps g c =
       faultless = no_items c.args.level.faults.items (let z = c.in_default.ensures.cases.0 in omega (arith, z, c.args.level.faults.ok.0));
     } in
     c.read_directory.ensures.keeps c.args.level lying
+
+-- ---- causes and counts
+
+pub returns-in-Some-clause-caused : goal.returns-in-Some-clause-caused
+returns-in-Some-clause-caused g c =
+    let s = g.D.Disk.state c.args.disk.now in
+    let level : Level = record c.args.level { faults = c.pop.new.self } in
+    caused_disk g.D.Disk.tells s s c.in-Some.due.path c.in-Some.due.depth (with_top c.args.inside.now level)
+    (top_not _ level (given_not c.args.level.entries c.args.level.first c.args.level.faults.items c.pop.new.self.items c.in-Some.due c.requires.sound.fresh c.in-Some.ensures.items))
+
+pub returns-in-Some-clause-counted : goal.returns-in-Some-clause-counted
+returns-in-Some-clause-counted g c = λ fits.
+    let xs = c.args.inside.now.stack.items in
+    let level : Level = record c.args.level { faults = c.pop.new.self } in
+    let a = due_snoc xs c.args.level in
+    let b = due_snoc xs level in
+    let d = ap length c.in-Some.ensures.items in
+    let e = length-append c.pop.new.self.items (c.in-Some.due ∷ []) in
+    inl (omega (arith, a, b, d, e))
+
+pub returns-in-Some-take-clause-caused : goal.returns-in-Some-take-clause-caused
+returns-in-Some-take-clause-caused g c =
+    let s = g.D.Disk.state c.args.disk.now in
+    let level : Level = record c.args.level { first = c.take.new.self; faults = c.pop.new.self } in
+    caused_ok g.D.Disk.tells s s c.in-Some-take.entry (with_top c.args.inside.now level)
+    (top_not _ level (first_not c.args.level.entries c.args.level.first c.args.level.faults.items c.in-Some-take.entry c.requires.sound.fresh (sym c.take.ensures.value ∙ c.in-Some-take.is)))
+
+pub returns-in-Some-take-clause-counted : goal.returns-in-Some-take-clause-counted
+returns-in-Some-take-clause-counted g c = λ fits.
+    let faultless = no_items c.args.level.faults.items (let z = c.in_default.ensures.cases.0 in omega (arith, z, c.args.level.faults.ok.0)) in
+    let popped = no_items c.pop.new.self.items (let z = c.in_default.ensures.cases.1 in omega (arith, z, c.pop.new.self.ok.0)) in
+    let level : Level = record c.args.level { first = c.take.new.self; faults = c.pop.new.self } in
+    let e = due_cleared c.args.inside.now.stack.items c.args.level level faultless popped in
+    inl (omega (arith, e))
+
+pub returns-then-is_read-clause-counted : goal.returns-then-is_read-clause-counted
+returns-then-is_read-clause-counted g c = λ fits.
+    let s = g.D.Disk.state c.args.disk.now in
+    let faultless = no_items c.args.level.faults.items (let z = c.in_default.ensures.cases.0 in omega (arith, z, c.args.level.faults.ok.0)) in
+    let popped = no_items c.pop.new.self.items (let z = c.in_default.ensures.cases.1 in omega (arith, z, c.pop.new.self.ok.0)) in
+    let level : Level = record c.args.level { first = c.take.new.self; faults = c.pop.new.self } in
+    counts_result g.D.Disk.tells s s (g.D.Disk.state c.take_next.new.disk) (levels_of (with_top c.args.inside.now c.args.level)) (levels_of (with_top c.args.inside.now level)) (levels_of c.take_next.new.inside) c.take_next.result
+    (omega arith) (due_cleared c.args.inside.now.stack.items c.args.level level faultless popped) c.take_next.ensures.counted
+
+pub returns-in-None-clause-counted : goal.returns-in-None-clause-counted
+returns-in-None-clause-counted g c = λ fits.
+    let s = g.D.Disk.state c.args.disk.now in
+    let xs = c.args.inside.now.stack.items in
+    let a = due_snoc xs c.args.level in
+    let e = c.in_default.ensures.cases.0 in
+    let h = c.args.level.faults.ok.0 in
+    counts_result g.D.Disk.tells s s (g.D.Disk.state c.read_root.new.disk) (levels_of (with_top c.args.inside.now c.args.level)) xs (levels_of c.read_root.new.inside) c.read_root.result
+    (omega arith) (omega (arith, a, e, h)) c.read_root.ensures.counted
+
+pub returns-clause-caused : goal.returns-clause-caused
+returns-clause-caused g c = caused_none g.D.Disk.tells (g.D.Disk.state c.args.disk.now) (g.D.Disk.state c.read_directory.new.disk) c.read_directory.new.inside
+
+pub returns-clause-counted : goal.returns-clause-counted
+returns-clause-counted g c = λ fits.
+    let s = g.D.Disk.state c.args.disk.now in
+    let now = g.D.Disk.state c.read_directory.new.disk in
+    let xs = c.args.inside.now.stack.items in
+    let lying : LiesUnread c.args.level (Some c.in-Some-folder.folder) = record {
+      folder_is = c.in-Some-folder.is;
+      first = sym c.take.ensures.value ∙ c.in_default-take.is;
+      unread = unread_of c.args.level.entries (λ r. let e = sym c.if-is_read.false ∙ c.is_read.ensures.1 r in cc e);
+      faultless = no_items c.args.level.faults.items (let z = c.in_default.ensures.cases.0 in omega (arith, z, c.args.level.faults.ok.0));
+    } in
+    let a = due_snoc xs c.args.level in
+    let e = ap length lying.faultless in
+    counts_from 0 s s now (levels_of (with_top c.args.inside.now c.args.level)) xs (levels_of c.read_directory.new.inside) (omega arith) (omega (arith, a, e))
+    (c.in_ok-read_directory-in-Some-folder.ensures.counted c.args.level lying
+    (λ tells shallow. let f = fits tells in unread_there s (g.S.Order.sorts c.args.inside.now.order) f.0 c.args.inside.now c.args.level c.in-Some-folder.folder f.1 lying f.3 shallow))

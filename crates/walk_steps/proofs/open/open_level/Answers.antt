@@ -7,6 +7,7 @@ use Rattle.walk_rest.specs.Listing.{manner_of}
 use Rattle.walk_steps.specs.Sound.{IsShallow, held_limit, open_in}
 use Rattle.walk_steps.proofs.leave.SoundLemmas.{all_same_reads}
 use Rattle.walk_steps.proofs.open.OpenLemmas.{clear_from, is_sound_top, keeps_none, keeps_top, known_folder, less_top, no_top, not_ok, opened_to, read_moves, sound_on, sound_top}
+use Rattle.walk_steps.proofs.next.CauseLemmas.{counts_read}
 use Rattle.walk_steps.proofs.open.open_level.Goals as goal
 
 one_at_most : (e : Entries) → open_in e ≤ 1
@@ -97,3 +98,11 @@ returns-clause-less g c = λ lying lies.
     let none = c.new-faults.ensures.len in
     let n = c.open_list.new.faults.ok.0 in
     less_top s now inside lying level (Some c.args.folder) lies clear r.others refl (known_folder c.in_ok-entries.entries c.args.folder) (omega (arith, light, later, none, n))
+
+pub returns-in_err-entries-clause-counted : goal.returns-in_err-entries-clause-counted
+returns-in_err-entries-clause-counted g c = λ there. not_ok _ c.from_residual.result c.from_residual.ensures.0
+
+pub returns-clause-counted : goal.returns-clause-counted
+returns-clause-counted g c = λ there.
+    let level : Level = record { folder = Some c.args.folder; first = None; entries = c.in_ok-entries.entries; faults = c.open_list.new.faults } in
+    counts_read (g.D.Disk.state c.args.disk.now) (g.D.Disk.state c.open_list.new.disk) c.args.inside.now.stack.items level c.new-faults.result.items c.new-faults.ensures.items (c.in_ok-entries.ensures.counted there)

@@ -1,11 +1,14 @@
 use Rattle.std.proofs.Common.{Some, sym, subst, ◌∙◌, ap, arith}
-use Rattle.std.specs.Prelude.{OnOk}
-use Rattle.walk_steps.specs.Inside.{HasRest, with_top}
+use Rattle.std.specs.Prelude.{IsSome, OnOk}
+use Rattle.sd_edge.specs.Tree.{Tree}
+use Rattle.sd_edge.specs.Lists.{directory_of}
+use Rattle.walk_steps.specs.Inside.{HasRest, levels_of, with_top}
 use Rattle.walk_steps.specs.Steps.{LiesUnread, MovesTo}
 use Rattle.walk_steps.specs.Sound.{open_limit}
 use Rattle.walk_steps.proofs.leave.WithinLemmas.{keeps_on}
 use Rattle.walk_steps.proofs.next.StepLemmas.{moves_more}
 use Rattle.walk_steps.proofs.open.OpenLemmas.{keeps_refused, keeps_room, less_room, no_top, not_ok, on_ok, room_sound, same_walk, still_taken}
+use Rattle.walk_steps.proofs.next.CauseLemmas.{counts_on}
 use Rattle.walk_steps.proofs.open.read_directory.Goals as goal
 use Rattle.walk_steps.proofs.open.read_directory.Goals.{then-inside-folder-via-then-inside-folder, then-inside-folder-via-else-inside-folder+then-sorts}
 
@@ -90,3 +93,17 @@ returns-clause-less g c = λ lying lies.
     let s = g.D.Disk.state c.args.disk.now in
     let now = g.D.Disk.state c.make_room.new.disk in
     on_ok c.open_level.result (less_room s now c.args.inside.now c.make_room.new.inside lying _ lies.unread c.in_ok-make_room.ensures.work) (c.open_level.ensures.less lying lies)
+
+pub returns-in_err-make_room-clause-counted : goal.returns-in_err-make_room-clause-counted
+returns-in_err-make_room-clause-counted g c = λ lying lies there. not_ok _ c.from_residual.result c.from_residual.ensures.0
+
+pub returns-clause-counted : goal.returns-clause-counted
+returns-clause-counted g c = λ lying lies there.
+    let s = g.D.Disk.state c.args.disk.now in
+    let now = g.D.Disk.state c.make_room.new.disk in
+    let last = g.D.Disk.state c.open_level.new.disk in
+    let r = c.in_ok-make_room.ensures in
+    let P : Tree → Type 0 = λ t. IsSome (directory_of t c.args.folder.path) in
+    on_ok c.open_level.result
+    (counts_on 0 s now last c.args.inside.now.stack.items c.make_room.new.inside.stack.items (levels_of c.open_level.new.inside) (c.open_level.ensures.keeps lying lies).faults r.counted)
+    (c.open_level.ensures.counted (λ tells. subst P (sym r.tree.tree) (there tells c.if-inside-folder.false)))

@@ -5,6 +5,7 @@ use Rattle.walk_rest.specs.Listing.{device_to}
 use Rattle.walk_steps.specs.Sound.{AreSound, opens}
 use Rattle.walk_steps.proofs.leave.SoundLemmas.{all_same_reads, clear_unread}
 use Rattle.walk_steps.proofs.open.OpenLemmas.{clear_from, is_sound_top, keeps_none, keeps_top, less_top, most_open, no_top, not_ok, read_moves, sound_on, sound_top}
+use Rattle.walk_steps.proofs.next.CauseLemmas.{counts_read}
 use Rattle.walk_steps.proofs.open.read_whole.Goals as goal
 
 pub read_folder-requires : goal.read_folder-requires
@@ -85,3 +86,11 @@ returns-clause-less g c = λ lying lies.
     let n = c.in_ok-entries.entries.ok.0 in
     less_top s now inside lying level (Some c.args.folder) lies (clear_from s level.entries inside.stack.items c.requires.sound.lists (λ number is. tt)) (λ number apart. r.lists.open_list number) refl refl
     (omega (arith, taken, passed, none, n))
+
+pub returns-in_err-entries-clause-counted : goal.returns-in_err-entries-clause-counted
+returns-in_err-entries-clause-counted g c = λ there. not_ok _ c.from_residual.result c.from_residual.ensures.0
+
+pub returns-clause-counted : goal.returns-clause-counted
+returns-clause-counted g c = λ there.
+    let level : Level = record { folder = Some c.args.folder; first = None; entries = Kept c.in_ok-entries.entries; faults = c.read_folder.new.faults } in
+    counts_read (g.D.Disk.state c.args.disk.now) (g.D.Disk.state c.read_folder.new.disk) c.args.inside.now.stack.items level c.new-faults.result.items c.new-faults.ensures.items (c.in_ok-entries.ensures.due there)
