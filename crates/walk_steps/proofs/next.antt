@@ -3,3 +3,4 @@ pub mod StepLemmas
 pub mod MeetLemmas
 pub mod TakeStepLemmas
 pub mod CauseLemmas
+pub mod ListedLemmas

@@ -1,13 +1,19 @@
 -- How many entries a step lists.
-use Rattle.std.specs.Prelude.{◌≡◌, ◌⊎◌, ◌+◌, ◌≤◌, ◌<◌, ℕ, List, [], ◌∷◌, length, Option, Some, None}
+use Rattle.std.specs.Prelude.{◌≡◌, ◌⊎◌, ◌+◌, ◌≤◌, ◌<◌, ℕ, false, List, [], ◌∷◌, length, Option, Some, None}
 use Rattle.sd_edge.specs.Tree.{Tree}
 use Rattle.sd_edge.specs.declared.meta.RawEntry.{RawEntry}
 use Rattle.walk_rest.specs.declared.level.Folder.{Folder}
 use Rattle.walk_rest.specs.declared.level.Entries.{Entries}
 use Rattle.walk_rest.specs.declared.level.Entries.TheVariants.{Unread, Open, Kept}
 use Rattle.walk_rest.specs.declared.level.Level.{Level}
+use Rattle.walk_rest.specs.declared.options.Options.{Options}
 use Rattle.walk_rest.specs.Plan.{ListsNames}
 use Rattle.walk_steps.specs.Sound.{opens}
+
+-- each entry is given as it comes: there is no least depth, and a directory comes before its contents
+pub record GivesAtOnce (options : Options) : Type 0 where
+  pub least : options.min_depth ≡ 0
+  pub before : options.contents_first ≡ false
 
 -- ---- directories that are entered at once
 

@@ -1,18 +1,21 @@
 //! Reading what was entered for the first time.
 
-ghost use Rattle.std.specs.Prelude.{◌≡◌, ◌≢◌, ◌+◌, ◌<◌, ◌≤◌, ◌^◌, ℕ, max, vec_len, List, true, false, None, Some, Err, IsTrue, IsSome, IfOk, OnOk, OnErr};
+ghost use Rattle.std.specs.Prelude.{◌≡◌, ◌≢◌, ◌⊎◌, ◌+◌, ◌<◌, ◌≤◌, ◌^◌, ℕ, max, vec_len, List, true, false, None, Some, Err, IsTrue, IsSome, IfOk, OnOk, OnErr};
 ghost use Rattle.std.specs.declared.cmp.Ordering as ordering;
 ghost use Rattle.sd_edge.specs.declared.meta.RawEntry as raw;
 ghost use Rattle.sd_edge.specs.Disk.{SameLists, SameTree};
+ghost use Rattle.sd_edge.specs.Count.{HasRisen};
 ghost use Rattle.sd_edge.specs.Lists.{IsOpen, directory_of};
 ghost use Rattle.walk_rest.specs.declared.entry.DirEntry as entry;
 ghost use Rattle.walk_rest.specs.declared.level.Folder as folder;
 ghost use Rattle.walk_rest.specs.declared.level.Level as level;
+ghost use Rattle.walk_rest.specs.declared.level.Entries.TheVariants.{Unread};
 ghost use Rattle.walk_rest.specs.Level.{AddsFaults};
 ghost use Rattle.walk_rest.specs.Plan.{ListsNames};
 ghost use Rattle.walk_rest.specs.Rest.{Rest};
 ghost use Rattle.walk_steps.specs.Causes.{CountsFaults, IsCaused, faults_told};
 ghost use Rattle.walk_steps.specs.Inside.{HasRest, IsRead, levels_of, with_top};
+ghost use Rattle.walk_steps.specs.Listed.{IsToList, IsTopSettled};
 ghost use Rattle.walk_steps.specs.Lists.{OpensFolder};
 ghost use Rattle.walk_steps.specs.Sound.{AreRead, AreShallow, AreSound, IsApart, IsReadable, IsSound, IsSoundBelow, KeepsWalk, SameOtherThan, SameOthers, StaysWithin, open_in, open_limit, opens};
 ghost use Rattle.walk_steps.specs.Steps.{LiesUnread, MovesTo, TurnsTo};
@@ -42,6 +45,8 @@ pub fn read_root<D: Disk, S: Order>(
     ensures keeps { (lying : level.Level) → LiesUnread lying None → KeepsWalk (D.state disk.old) (with_top inside.old lying) (D.state disk.new) inside.new }
     ensures counted { IfOk result (λ answer. CountsFaults (faults_told D.tells answer) (D.state disk.old) inside.old.stack.items (D.state disk.new) (levels_of inside.new)) }
     ensures caused { IfOk result (λ answer. IsCaused D.tells (D.state disk.old) (D.state disk.new) answer inside.new) }
+    ensures settled { OnOk result (IsTopSettled inside.old.options.max_depth inside.new.top) }
+    ensures unlisted { (D.state disk.new).listed ≡ (D.state disk.old).listed }
     ensures less { (lying : level.Level) → LiesUnread lying None → OnOk result (left_to_do (D.state disk.new) inside.new < left_to_do (D.state disk.old) (with_top inside.old lying)) }
 {
     let mut kept = Vec::new(inside.alloc);
@@ -78,6 +83,12 @@ pub fn read_directory<D: Disk, S: Order>(
     ensures keeps { (lying : level.Level) → LiesUnread lying (Some folder) → KeepsWalk (D.state disk.old) (with_top inside.old lying) (D.state disk.new) inside.new }
     ensures counted { (lying : level.Level) → LiesUnread lying (Some folder) → (IsTrue D.tells → folder.depth < inside.old.options.max_depth → IsSome (directory_of (D.state disk.old).tree folder.path))
         → OnOk result (CountsFaults 0 (D.state disk.old) inside.old.stack.items (D.state disk.new) (levels_of inside.new)) }
+    ensures settled { OnOk result (IsTopSettled inside.old.options.max_depth inside.new.top) }
+    ensures unlisted { S.sorts inside.old.order ≡ false → (inside.old.options.max_depth ≤ folder.depth) ⊎ (opens inside.old.stack.items < open_limit inside.old.options)
+        → (D.state disk.new).listed ≡ (D.state disk.old).listed }
+    ensures listed_whole { IsTrue D.tells → (by : entry.DirEntry → entry.DirEntry → ordering.Ordering) (count : ℕ) → S.compares_by inside.old.order by → S.sorts inside.old.order ≡ true
+        → IsToList (D.state disk.old).tree inside.old.options.max_depth (Some folder) Unread count → ¬ HasRisen (D.state disk.old).faults (D.state disk.new).faults
+        → OnOk result ((D.state disk.new).listed ≡ (D.state disk.old).listed + count) }
     ensures less { (lying : level.Level) → LiesUnread lying (Some folder) → OnOk result (left_to_do (D.state disk.new) inside.new < left_to_do (D.state disk.old) (with_top inside.old lying)) }
 {
     if inside.options.max_depth <= folder.depth || inside.order.sorts() {
@@ -105,6 +116,11 @@ fn read_whole<D: Disk, S: Order>(
     ensures keeps { (lying : level.Level) → LiesUnread lying (Some folder) → KeepsWalk (D.state disk.old) (with_top inside.old lying) (D.state disk.new) inside.new }
     ensures counted { (IsTrue D.tells → folder.depth < inside.old.options.max_depth → IsSome (directory_of (D.state disk.old).tree folder.path))
         → OnOk result (CountsFaults 0 (D.state disk.old) inside.old.stack.items (D.state disk.new) (levels_of inside.new)) }
+    ensures settled { OnOk result (IsTopSettled inside.old.options.max_depth inside.new.top) }
+    ensures unlisted { inside.old.options.max_depth ≤ folder.depth → (D.state disk.new).listed ≡ (D.state disk.old).listed }
+    ensures listed_whole { IsTrue D.tells → (by : entry.DirEntry → entry.DirEntry → ordering.Ordering) (count : ℕ) → S.compares_by inside.old.order by
+        → IsToList (D.state disk.old).tree inside.old.options.max_depth (Some folder) Unread count → ¬ HasRisen (D.state disk.old).faults (D.state disk.new).faults
+        → OnOk result ((D.state disk.new).listed ≡ (D.state disk.old).listed + count) }
     ensures less { (lying : level.Level) → LiesUnread lying (Some folder) → OnOk result (left_to_do (D.state disk.new) inside.new < left_to_do (D.state disk.old) (with_top inside.old lying)) }
 {
     let mut faults = Vec::new(inside.alloc);
@@ -145,6 +161,8 @@ fn open_level<D: Disk, S: Order>(
     ensures keeps { (lying : level.Level) → LiesUnread lying (Some folder) → KeepsWalk (D.state disk.old) (with_top inside.old lying) (D.state disk.new) inside.new }
     ensures counted { (IsTrue D.tells → IsSome (directory_of (D.state disk.old).tree folder.path))
         → OnOk result (CountsFaults 0 (D.state disk.old) inside.old.stack.items (D.state disk.new) (levels_of inside.new)) }
+    ensures settled { OnOk result (IsTopSettled inside.old.options.max_depth inside.new.top) }
+    ensures unlisted { (D.state disk.new).listed ≡ (D.state disk.old).listed }
     ensures less { (lying : level.Level) → LiesUnread lying (Some folder) → OnOk result (left_to_do (D.state disk.new) inside.new < left_to_do (D.state disk.old) (with_top inside.old lying)) }
 {
     let mut faults = Vec::new(inside.alloc);
@@ -177,6 +195,7 @@ fn make_room<D: Disk, S: Order>(disk: &mut D, inside: &mut Inside<S>) -> Result<
     ensures faults { (D.state disk.old).faults ≤ (D.state disk.new).faults }
     ensures later { (D.state disk.old).listed ≤ (D.state disk.new).listed }
     ensures counted { OnOk result (CountsFaults 0 (D.state disk.old) inside.old.stack.items (D.state disk.new) inside.new.stack.items) }
+    ensures roomy { opens inside.old.stack.items < open_limit inside.old.options → (D.state disk.new).listed ≡ (D.state disk.old).listed }
     ensures work { OnOk result (work_in (D.state disk.new) inside.new.stack.items ≤ work_in (D.state disk.old) inside.old.stack.items) }
 {
     if count_open(inside.stack.as_slice()) < inside.options.max_open.max(1) {

@@ -41,6 +41,7 @@ pub fn take_entry<D: Disk>(
     ensures cause { IsErrOf result DiskFault.Failed → HasRisen (D.state disk.old).faults (D.state disk.new).faults }
     ensures later { (D.state disk.old).listed ≤ (D.state disk.new).listed }
     ensures at_most_one { (D.state disk.new).listed ≤ (D.state disk.old).listed + open_in level.old.entries }
+    ensures none_listed { IfOk result (λ given. IfNone given ((D.state disk.new).listed ≡ (D.state disk.old).listed)) }
     ensures worked { IfOk result (λ given. IfSome given (λ entry. work_of (D.state disk.new) level.new + 5 ≤ work_of (D.state disk.old) level.old)) }
     ensures not_more { OnOk result (work_of (D.state disk.new) level.new ≤ work_of (D.state disk.old) level.old) }
     ensures wasted { IsErrOf result DiskFault.Failed → work_of (D.state disk.new) level.new < work_of (D.state disk.old) level.old }

@@ -156,3 +156,17 @@ pub sound_relevel : (s : DiskState) (xs : List Level) (old new : Level) → new.
 sound_relevel s xs old new folder entries h =
     let p = sound_split s xs old h in
     sound_join s xs new p.0 (rw (folder, entries) p.1) (rw entries p.2)
+
+apart_before : (k : ℕ) (xs ys : List Level) → AreApart k (xs ++ ys) → AreApart k xs
+apart_before k [] ys h = tt
+apart_before k (x ∷ xs) ys h = (h.0, apart_before k xs ys h.1)
+
+from_before : (e : Entries) (xs ys : List Level) → AreApartFrom e (xs ++ ys) → AreApartFrom e xs
+from_before Unread xs ys h = tt
+from_before (Open list) xs ys h = apart_before list.number xs ys h
+from_before (Kept kept) xs ys h = tt
+
+-- the levels below others
+pub sound_front : (s : DiskState) (xs ys : List Level) → AreSound s (xs ++ ys) → AreSound s xs
+sound_front s [] ys h = tt
+sound_front s (x ∷ xs) ys h = (h.0, from_before x.entries xs ys h.1, sound_front s xs ys h.2)

@@ -1,4 +1,4 @@
-use Rattle.std.proofs.Common.{◌≡◌, ◌+◌, ◌≤◌, ◌∷◌, ◌++◌, [], None, Some, Ok, Err, Option, Bool, true, false, inl, refl, sym, subst, ◌∙◌, ap, arith}
+use Rattle.std.proofs.Common.{◌≡◌, ◌+◌, ◌≤◌, ◌<◌, ◌∷◌, ◌++◌, [], None, Some, Ok, Err, Option, Bool, true, false, inl, refl, sym, subst, ◌∙◌, ap, arith}
 use Rattle.std.specs.Prelude.{option_map}
 use Rattle.walk_rest.specs.declared.entry.DirEntry.{DirEntry}
 use Rattle.walk_rest.specs.Level.{item_of}
@@ -18,6 +18,7 @@ use Rattle.walk_steps.proofs.leave.WithinLemmas.{keeps_on}
 use Rattle.walk_steps.proofs.next.MeetLemmas.{PutsBack, met_stays, met_error, met_enters, back_sound, back_keeps, back_work, seen_here, enters_sound, enters_keeps, enters_work, refused_keeps}
 use Rattle.walk_steps.proofs.next.CauseLemmas.{FailsFor, caused_met, caused_none, caused_ok, counts_same, entered_by, enters_due, error_allowed, read_not, seen_rightly, top_not}
 use Rattle.walk_steps.proofs.next.meet.Given as given
+use Rattle.walk_steps.proofs.next.ListedLemmas.{enters_hidden, enters_settled, hidden_deep, settled_read}
 use Rattle.walk_steps.proofs.next.meet.Goals as goal
 
 pub returns-in_err-entry-in-Ok-Enters-clause-keeps : goal.returns-in_err-entry-in-Ok-Enters-clause-keeps
@@ -300,3 +301,26 @@ returns-in_ok-named-in-Err-clause-counted g c =
     let inside = with_top c.args.inside.now c.args.level in
     counts_same (faults_told g.D.Disk.tells (Some (Err c.in_ok-named-in-Err.field-0))) s now (levels_of inside) (levels_of inside) refl
     (error_allowed g.D.Disk.tells s.faults now.faults c.args.entry (chain_of inside) c.in_ok-named-in-Err.field-0 (failed_for g c))
+
+-- ---- what is passed over
+
+pub returns-else-is_shown-clause-hides : goal.returns-else-is_shown-clause-hides
+returns-else-is_shown-clause-hides g c = λ gives.
+    let deep = hidden_deep c.args.inside.now.options c.in-Ok-Stays.entry.depth gives (sym c.is_shown.ensures ∙ c.if-is_shown.false) in
+    let same = rw c.in-Ok-Stays.field-0-is at c.in-Ok-Stays.ensures.sight in
+    omega (arith, deep, same)
+
+pub returns-else-is_shown-clause-settles : goal.returns-else-is_shown-clause-settles
+returns-else-is_shown-clause-settles g c = λ gives. settled_read c.args.inside.now.options.max_depth c.args.level.folder c.args.level.entries c.requires.read
+
+pub returns-in-None-clause-hides : goal.returns-in-None-clause-hides
+returns-in-None-clause-hides g c = λ gives.
+    let deep = enters_hidden c.args.inside.now c.enter.new.inside c.args.level c.in-Ok-Enters.entry c.in-Ok-Enters.folder c.in_ok-entry-in-Ok-Enters.field-0 c.in_ok-entry-in-Ok-Enters.ensures.entered c.in-None.is gives in
+    let same = (rw c.in-Ok-Enters.field-0-is at c.in-Ok-Enters.ensures.sight).0 in
+    omega (arith, deep, same)
+
+pub returns-in-None-clause-settles : goal.returns-in-None-clause-settles
+returns-in-None-clause-settles g c = λ gives.
+    let entered = c.in_ok-entry-in-Ok-Enters.ensures.entered in
+    enters_settled c.args.inside.now c.enter.new.inside c.args.level c.in-Ok-Enters.entry c.in-Ok-Enters.folder c.in_ok-entry-in-Ok-Enters.field-0 c.args.inside.now.options.max_depth entered (rw c.in-Ok-Enters.field-0-is at c.in-Ok-Enters.ensures.sight).1
+    (enters_hidden c.args.inside.now c.enter.new.inside c.args.level c.in-Ok-Enters.entry c.in-Ok-Enters.folder c.in_ok-entry-in-Ok-Enters.field-0 entered c.in-None.is gives)

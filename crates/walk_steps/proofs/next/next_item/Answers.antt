@@ -1,4 +1,7 @@
-use Rattle.std.proofs.Common.{◌≡◌, ◌+◌, ◌≤◌, ◌<◌, ◌++◌, [], Some, None, Bool, ℕ, List, Option, refl, sym, subst, ◌∙◌, ap, arith, inl, inr, append-nil}
+use Rattle.std.proofs.Common.{◌≡◌, ◌+◌, ◌≤◌, ◌<◌, ◌++◌, [], Some, None, Bool, false, ℕ, List, Option, refl, sym, subst, ◌∙◌, ap, arith, inl, inr, append-nil}
+use Rattle.std.specs.declared.cmp.Ordering.{Ordering}
+use Rattle.walk_rest.specs.declared.entry.DirEntry.{DirEntry}
+use Rattle.walk_rest.specs.declared.options.Options.{Options}
 use Rattle.walk_rest.specs.declared.level.Level.{Level}
 use Rattle.walk_rest.specs.Plan.{Item}
 use Rattle.walk_steps.specs.Causes.{CountsFaults, FitsTree, IsCaused, faults_due, faults_told}
@@ -11,6 +14,9 @@ use Rattle.walk_steps.proofs.leave.WithinLemmas.{keeps_on, keeps_same, retop_lev
 use Rattle.walk_steps.proofs.next.StepLemmas.{moves_none, moves_more, moves_last, none_left, rest_retop}
 use Rattle.walk_steps.proofs.next.CauseLemmas.{caused_later, counts_from, counts_on, no_level, still_fits}
 use Rattle.walk_steps.proofs.next.next_item.Given as given
+use Rattle.walk_steps.proofs.leave.SoundLemmas.{sound_front}
+use Rattle.walk_steps.proofs.next.ListedLemmas.{risen_from, risen_on, room_at, room_entered, settled_at, to_list_at, to_list_none}
+use Rattle.walk_steps.specs.Listed.{GivesAtOnce, IsToListOnTop}
 use Rattle.walk_steps.proofs.next.next_item.Goals as goal
 
 pub loop-level-init : goal.loop-level-init
@@ -20,6 +26,12 @@ loop-level-init g c = record {
   less = omega arith;
   moved = λ tells by rest same h. moves_none (g.D.Disk.state c.args.disk.now) (g.S.Order.sorts c.args.inside.now.order) by c.args.inside.now rest h;
   counted = λ fits. inl (omega arith);
+  once = λ unsorted gives few. (
+    refl,
+    room_entered (g.D.Disk.state c.args.disk.now) (open_limit c.args.inside.now.options) c.args.inside.now.options.max_depth c.args.inside.now.stack.items c.args.inside.now.top
+        (sound_front (g.D.Disk.state c.args.disk.now) c.args.inside.now.stack.items (top_levels c.args.inside.now.top) c.requires.sound.lists) few,
+  );
+  whole = λ tells by count compares sorts gives to_list none. (count, to_list, refl);
 }
 
 pub loop-level-preserved : goal.loop-level-preserved
@@ -55,6 +67,18 @@ loop-level-preserved g c =
           counts_on 0 s0 s now (levels_of c.args.inside.now) (levels_of c.loop-level.inside) (levels_of c.turn.new.inside) k.faults (inv.counted fits)
           (counts_from 0 s s now (levels_of c.loop-level.inside) (levels_of mid) (levels_of c.turn.new.inside) (omega arith) (ap faults_due levels)
           (subst T c.in-Ok-None.field-0-is (c.in-Ok-None.ensures.counted (still_fits g.D.Disk.tells g.S.Order.compares_by g.S.Order.sorts s0 s c.args.inside.now c.loop-level.inside c.in-Some.level fits inv.moved inv.keeps.same (sym c.take.ensures.value ∙ c.in-Some.is))))));
+      once = λ unsorted gives few.
+          (let o = inv.once unsorted gives few in
+          let options = inv.keeps.same.options in
+          let given_here = subst GivesAtOnce (sym options) gives in
+          let passed = (rw c.in-Ok-None.field-0-is at c.in-Ok-None.ensures.passes) (order ∙ unsorted) given_here (room_at c.args.inside.now.options c.loop-level.inside.options c.loop-level.inside.stack.items c.loop-level.inside.top c.in-Some.level inv.keeps.same.options (sym c.take.ensures.value ∙ c.in-Some.is) o.1) in
+          (passed ∙ o.0, inr (settled_at c.args.inside.now.options c.loop-level.inside.options c.turn.new.inside.top inv.keeps.same.options ((rw c.in-Ok-None.field-0-is at c.in-Ok-None.ensures.settles) (subst GivesAtOnce (sym inv.keeps.same.options) gives)))));
+      whole = λ tells by count compares sorts gives to_list none.
+          (let a = inv.keeps.faults in
+          let w = inv.whole tells by count compares sorts gives to_list (λ risen. none (risen_on _ _ _ k.faults risen)) in
+          let e = w.2 in
+          let l = c.in-Ok-None.ensures.listed_whole tells by w.0 (let C : _ → Type 0 = λ o. g.S.Order.compares_by o by in subst C (sym inv.keeps.same.order) compares) (order ∙ sorts) (to_list_at (g.D.Disk.state c.loop-level.disk).tree c.args.inside.now.options c.loop-level.inside.options c.loop-level.inside.top c.in-Some.level w.0 inv.keeps.same.options (sym c.take.ensures.value ∙ c.in-Some.is) w.1) (λ risen. none (risen_from _ _ _ a risen)) in
+          (0, to_list_none (g.D.Disk.state c.turn.new.disk).tree c.args.inside.now.options.max_depth c.turn.new.inside.top (settled_at c.args.inside.now.options c.loop-level.inside.options c.turn.new.inside.top inv.keeps.same.options ((rw c.in-Ok-None.field-0-is at c.in-Ok-None.ensures.settles) (subst GivesAtOnce (sym inv.keeps.same.options) gives))), omega (arith, e, l)));
     }
 
 pub returns-in-Ok-Some-clause-step : goal.returns-in-Ok-Some-clause-step
@@ -225,3 +249,48 @@ returns-clause-looped g c = λ path depth ancestor ident e. absurd (cc e)
 
 pub returns-clause-entered : goal.returns-clause-entered
 returns-clause-entered g c = λ level folder top unread in_it. absurd (let none = c.take.ensures.after in cc (none, top))
+
+-- ---- what is listed
+
+pub returns-in-Ok-Some-clause-listed_once : goal.returns-in-Ok-Some-clause-listed_once
+returns-in-Ok-Some-clause-listed_once g c = λ unsorted gives few.
+    let inv = c.loop-level.invariant in
+    let o = inv.once unsorted gives few in
+    let same = o.0 in
+    let a = c.turn.ensures.listed_once (ap g.S.Order.sorts inv.keeps.same.order ∙ unsorted) (subst GivesAtOnce (sym inv.keeps.same.options) gives)
+    (room_at c.args.inside.now.options c.loop-level.inside.options c.loop-level.inside.stack.items c.loop-level.inside.top c.in-Some.level inv.keeps.same.options (sym c.take.ensures.value ∙ c.in-Some.is) o.1) in
+    omega (arith, same, a)
+
+pub returns-in-Err-clause-listed_once : goal.returns-in-Err-clause-listed_once
+returns-in-Err-clause-listed_once g c = λ unsorted gives few.
+    let inv = c.loop-level.invariant in
+    let o = inv.once unsorted gives few in
+    let same = o.0 in
+    let a = c.turn.ensures.listed_once (ap g.S.Order.sorts inv.keeps.same.order ∙ unsorted) (subst GivesAtOnce (sym inv.keeps.same.options) gives)
+    (room_at c.args.inside.now.options c.loop-level.inside.options c.loop-level.inside.stack.items c.loop-level.inside.top c.in-Some.level inv.keeps.same.options (sym c.take.ensures.value ∙ c.in-Some.is) o.1) in
+    let b = c.give_up.ensures.listed in
+    omega (arith, same, a, b)
+
+pub returns-clause-listed_once : goal.returns-clause-listed_once
+returns-clause-listed_once g c = λ unsorted gives few. let o = c.loop-level.invariant.once unsorted gives few in let a = o.0 in omega (arith, a)
+
+pub returns-in-Ok-Some-clause-listed_whole : goal.returns-in-Ok-Some-clause-listed_whole
+returns-in-Ok-Some-clause-listed_whole g c = λ tells by count compares sorts gives to_list none named.
+    let inv = c.loop-level.invariant in
+    let a = inv.keeps.faults in
+    let b = c.turn.ensures.keeps.faults in
+    let w = inv.whole tells by count compares sorts gives to_list (λ risen. none (risen_on _ _ _ b risen)) in
+    let k = w.2 in
+    let l = c.in-Ok-Some.ensures.listed_whole tells by w.0 (let C : _ → Type 0 = λ o. g.S.Order.compares_by o by in subst C (sym inv.keeps.same.order) compares) (ap g.S.Order.sorts inv.keeps.same.order ∙ sorts) (to_list_at (g.D.Disk.state c.loop-level.disk).tree c.args.inside.now.options c.loop-level.inside.options c.loop-level.inside.top c.in-Some.level w.0 inv.keeps.same.options (sym c.take.ensures.value ∙ c.in-Some.is) w.1) (λ risen. none (risen_from _ _ _ a risen)) in
+    omega (arith, k, l)
+
+pub returns-in-Err-clause-listed_whole : goal.returns-in-Err-clause-listed_whole
+returns-in-Err-clause-listed_whole g c = λ tells by count compares sorts gives to_list none named. absurd (named refl)
+
+pub returns-clause-listed_whole : goal.returns-clause-listed_whole
+returns-clause-listed_whole g c = λ tells by count compares sorts gives to_list none named.
+    let w = c.loop-level.invariant.whole tells by count compares sorts gives to_list none in
+    let T : Option Level → Type 0 = λ t. IsToListOnTop (g.D.Disk.state c.loop-level.disk).tree c.args.inside.now.options.max_depth t w.0 in
+    let zero_is : w.0 ≡ 0 = subst T (sym c.take.ensures.value ∙ c.in_default.is) w.1 in
+    let k = w.2 in
+    omega (arith, k, zero_is)

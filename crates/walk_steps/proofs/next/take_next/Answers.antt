@@ -10,6 +10,9 @@ use Rattle.walk_steps.proofs.leave.WithinLemmas.{keeps_on}
 use Rattle.walk_steps.proofs.next.CauseLemmas.{caused_disk, caused_none, caused_result, counts_result, counts_same, due_snoc, read_not, top_not}
 use Rattle.walk_steps.proofs.next.StepLemmas.{allowed_one, no_items}
 use Rattle.walk_steps.proofs.next.TakeStepLemmas.{Takes, same_read, take_sound, take_keeps, take_taken, take_left, left_sound, left_keeps, left_less, take_less, take_failed, popped_levels, turned_result, little_result}
+use Rattle.walk_steps.specs.Sound.{AreRead}
+use Rattle.walk_steps.proofs.next.ListedLemmas.{hidden_listed, settled_top}
+use Rattle.walk_steps.proofs.leave.OthersLemmas.{shallow_split}
 use Rattle.walk_steps.proofs.next.take_next.Goals as goal
 
 pub take_entry-requires-clause-readable : goal.take_entry-requires-clause-readable
@@ -200,3 +203,19 @@ returns-in-Err-Failed-clause-counted g c =
     let d = ap length c.take_entry.ensures.same.faults in
     counts_same 1 (g.D.Disk.state c.args.disk.now) (g.D.Disk.state c.take_entry.new.disk) (levels_of (with_top c.args.inside.now c.args.level)) (levels_of (with_top c.args.inside.now c.take_entry.new.level)) (omega (arith, a, b, d))
     (allowed_one _ _ (c.take_entry.ensures.cause (rw c.in-Err-Failed.field-0-is at c.in-Err-Failed.is)))
+
+-- ---- what is listed
+
+pub returns-in-Ok-None-clause-settles : goal.returns-in-Ok-None-clause-settles
+returns-in-Ok-None-clause-settles g c = λ gives.
+    settled_top c.args.inside.now.options.max_depth c.pop.new.self.items c.pop.result (subst AreRead (sym (popped_levels c.pop.new.self.items c.pop.result c.args.inside.now.stack.items c.pop.ensures.items)) c.requires.sound.read)
+
+pub returns-in-Ok-None-clause-passes : goal.returns-in-Ok-None-clause-passes
+returns-in-Ok-None-clause-passes g c = λ gives. c.close_level.ensures.listed ∙ (rw c.in-Ok-None.field-0-is at c.in-Ok-None.ensures.none_listed)
+
+pub returns-in-Ok-Some-clause-passes : goal.returns-in-Ok-Some-clause-passes
+returns-in-Ok-Some-clause-passes g c = λ gives.
+    let n = c.args.inside.now.options.max_depth in
+    let level = c.args.level in
+    hidden_listed n c.in-Ok-Some.entry.depth (g.D.Disk.state c.args.disk.now).listed (g.D.Disk.state c.take_entry.new.disk).listed (g.D.Disk.state c.meet.new.disk).listed level.folder level.entries c.meet.result
+    (shallow_split n c.args.inside.now.stack.items level c.requires.sound.shallow).1 (rw c.in-Ok-Some.field-0-is at c.in-Ok-Some.ensures.depth) c.take_entry.ensures.later c.take_entry.ensures.at_most_one c.meet.ensures.listed (c.meet.ensures.hides gives)

@@ -9,7 +9,11 @@ use Rattle.walk_steps.proofs.leave.OthersLemmas.{fresh_first, fresh_given, fresh
 use Rattle.walk_steps.proofs.leave.WithinLemmas.{keeps_on, keeps_relevel, is_sound_relevel, below_of, fault_lighter, first_lighter, weight_relevel}
 use Rattle.walk_steps.proofs.next.StepLemmas.{fault_turn, first_turn, rest_relevel, no_items, unread_of}
 use Rattle.walk_steps.proofs.open.OpenLemmas.{unread_there}
-use Rattle.walk_steps.proofs.next.CauseLemmas.{caused_disk, caused_none, caused_ok, counts_from, counts_result, due_cleared, due_snoc, first_not, given_not, top_not}
+use Rattle.walk_steps.proofs.next.CauseLemmas.{caused_disk, caused_none, caused_ok, counts_from, counts_result, due_cleared, due_snoc, first_not, given_not, read_not, top_not}
+use Rattle.walk_steps.proofs.next.ListedLemmas.{ok_result, one_list, one_result, room_unread, settled_result, to_list_not, to_list_root}
+use Rattle.walk_steps.proofs.leave.SoundLemmas.{opens_snoc}
+use Rattle.walk_steps.specs.Sound.{held_limit, open_limit}
+use Rattle.walk_steps.specs.Listed.{IsToList}
 use Rattle.walk_steps.proofs.next.turn.Goals as goal
 
 pub returns-in-Some-clause-turns : goal.returns-in-Some-clause-turns
@@ -205,3 +209,77 @@ returns-clause-counted g c = λ fits.
     counts_from 0 s s now (levels_of (with_top c.args.inside.now c.args.level)) xs (levels_of c.read_directory.new.inside) (omega arith) (omega (arith, a, e))
     (c.in_ok-read_directory-in-Some-folder.ensures.counted c.args.level lying
     (λ tells shallow. let f = fits tells in unread_there s (g.S.Order.sorts c.args.inside.now.order) f.0 c.args.inside.now c.args.level c.in-Some-folder.folder f.1 lying f.3 shallow))
+
+-- ---- what is listed
+
+pub returns-in-Some-clause-listed_whole : goal.returns-in-Some-clause-listed_whole
+returns-in-Some-clause-listed_whole g c = λ tells by count compares sorts to_list none.
+    let s = g.D.Disk.state c.args.disk.now in
+    let zero_is = to_list_not s.tree c.args.inside.now.options.max_depth c.args.level.folder c.args.level.entries count
+    (given_not c.args.level.entries c.args.level.first c.args.level.faults.items c.pop.new.self.items c.in-Some.due c.requires.sound.fresh c.in-Some.ensures.items) to_list in
+    omega (arith, zero_is)
+
+pub returns-in-Some-take-clause-listed_whole : goal.returns-in-Some-take-clause-listed_whole
+returns-in-Some-take-clause-listed_whole g c = λ tells by count compares sorts to_list none.
+    let s = g.D.Disk.state c.args.disk.now in
+    let zero_is = to_list_not s.tree c.args.inside.now.options.max_depth c.args.level.folder c.args.level.entries count
+    (first_not c.args.level.entries c.args.level.first c.args.level.faults.items c.in-Some-take.entry c.requires.sound.fresh (sym c.take.ensures.value ∙ c.in-Some-take.is)) to_list in
+    omega (arith, zero_is)
+
+pub returns-then-is_read-clause-listed_once : goal.returns-then-is_read-clause-listed_once
+returns-then-is_read-clause-listed_once g c = λ unsorted gives room. let a = c.take_next.ensures.listed_once in let b = one_list c.args.level.entries in omega (arith, a, b)
+
+pub returns-then-is_read-clause-passes : goal.returns-then-is_read-clause-passes
+returns-then-is_read-clause-passes g c = λ unsorted gives room. c.take_next.ensures.passes gives
+
+pub returns-then-is_read-clause-listed_whole : goal.returns-then-is_read-clause-listed_whole
+returns-then-is_read-clause-listed_whole g c = λ tells by count compares sorts to_list none.
+    let s = g.D.Disk.state c.args.disk.now in
+    let inside = c.args.inside.now in
+    let zero_is = to_list_not s.tree inside.options.max_depth c.args.level.folder c.args.level.entries count (read_not c.args.level.entries (c.is_read.ensures.0 c.if-is_read.true)) to_list in
+    let held = ap (λ b. held_limit b inside.options) sorts in
+    let few = c.requires.sound.few in
+    let sum = opens_snoc inside.stack.items c.args.level in
+    let most = c.take_next.ensures.listed_once in
+    let later = c.take_next.ensures.keeps.later in
+    ok_result c.take_next.result (omega (arith, zero_is, held, few, sum, most, later))
+
+pub returns-in-None-clause-listed_once : goal.returns-in-None-clause-listed_once
+returns-in-None-clause-listed_once g c = λ unsorted gives room. let a = c.read_root.ensures.unlisted in omega (arith, a)
+
+pub returns-in-None-clause-passes : goal.returns-in-None-clause-passes
+returns-in-None-clause-passes g c = λ unsorted gives room. one_result _ _ c.read_root.result c.read_root.ensures.unlisted
+
+pub returns-in-None-clause-settles : goal.returns-in-None-clause-settles
+returns-in-None-clause-settles g c = λ gives. settled_result c.args.inside.now.options.max_depth c.read_root.result c.read_root.new.inside.top c.read_root.ensures.settled
+
+pub returns-in-None-clause-listed_whole : goal.returns-in-None-clause-listed_whole
+returns-in-None-clause-listed_whole g c = λ tells by count compares sorts to_list none.
+    let s = g.D.Disk.state c.args.disk.now in
+    let zero_is = to_list_root s.tree c.args.inside.now.options.max_depth c.args.level.folder c.args.level.entries count c.in-None.is to_list in
+    let a = c.read_root.ensures.unlisted in
+    ok_result c.read_root.result (omega (arith, zero_is, a))
+
+pub returns-in_err-read_directory-in-Some-folder-clause-listed_once : goal.returns-in_err-read_directory-in-Some-folder-clause-listed_once
+returns-in_err-read_directory-in-Some-folder-clause-listed_once g c = λ unsorted gives room. let a = (c.read_directory.ensures.unlisted unsorted (room_unread (open_limit c.args.inside.now.options) c.args.inside.now.options.max_depth c.args.inside.now.stack.items c.args.level c.in-Some-folder.folder c.in-Some-folder.is
+    (unread_of c.args.level.entries (λ r. let e = sym c.if-is_read.false ∙ c.is_read.ensures.1 r in cc e)) room)) in omega (arith, a)
+
+pub returns-clause-listed_once : goal.returns-clause-listed_once
+returns-clause-listed_once g c = λ unsorted gives room. let a = (c.read_directory.ensures.unlisted unsorted (room_unread (open_limit c.args.inside.now.options) c.args.inside.now.options.max_depth c.args.inside.now.stack.items c.args.level c.in-Some-folder.folder c.in-Some-folder.is
+    (unread_of c.args.level.entries (λ r. let e = sym c.if-is_read.false ∙ c.is_read.ensures.1 r in cc e)) room)) in omega (arith, a)
+
+pub returns-clause-passes : goal.returns-clause-passes
+returns-clause-passes g c = λ unsorted gives room. (c.read_directory.ensures.unlisted unsorted (room_unread (open_limit c.args.inside.now.options) c.args.inside.now.options.max_depth c.args.inside.now.stack.items c.args.level c.in-Some-folder.folder c.in-Some-folder.is
+    (unread_of c.args.level.entries (λ r. let e = sym c.if-is_read.false ∙ c.is_read.ensures.1 r in cc e)) room))
+
+pub returns-clause-settles : goal.returns-clause-settles
+returns-clause-settles g c = λ gives. c.in_ok-read_directory-in-Some-folder.ensures.settled
+
+pub returns-clause-listed_whole : goal.returns-clause-listed_whole
+returns-clause-listed_whole g c = λ tells by count compares sorts to_list none.
+    let tree = (g.D.Disk.state c.args.disk.now).tree in
+    let n = c.args.inside.now.options.max_depth in
+    let unread = unread_of c.args.level.entries (λ r. let e = sym c.if-is_read.false ∙ c.is_read.ensures.1 r in cc e) in
+    let F : _ → Type 0 = λ f. IsToList tree n f c.args.level.entries count in
+    let E : _ → Type 0 = λ e. IsToList tree n (Some c.in-Some-folder.folder) e count in
+    c.in_ok-read_directory-in-Some-folder.ensures.listed_whole tells by count compares sorts (subst E unread (subst F c.in-Some-folder.is to_list)) none

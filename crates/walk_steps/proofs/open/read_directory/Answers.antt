@@ -1,4 +1,4 @@
-use Rattle.std.proofs.Common.{Some, sym, subst, ◌∙◌, ap, arith}
+use Rattle.std.proofs.Common.{◌≡◌, ℕ, inl, inr, Some, sym, subst, ◌∙◌, ap, arith}
 use Rattle.std.specs.Prelude.{IsSome, OnOk}
 use Rattle.sd_edge.specs.Tree.{Tree}
 use Rattle.sd_edge.specs.Lists.{directory_of}
@@ -9,6 +9,7 @@ use Rattle.walk_steps.proofs.leave.WithinLemmas.{keeps_on}
 use Rattle.walk_steps.proofs.next.StepLemmas.{moves_more}
 use Rattle.walk_steps.proofs.open.OpenLemmas.{keeps_refused, keeps_room, less_room, no_top, not_ok, on_ok, room_sound, same_walk, still_taken}
 use Rattle.walk_steps.proofs.next.CauseLemmas.{counts_on}
+use Rattle.walk_steps.specs.Listed.{IsTopSettled}
 use Rattle.walk_steps.proofs.open.read_directory.Goals as goal
 use Rattle.walk_steps.proofs.open.read_directory.Goals.{then-inside-folder-via-then-inside-folder, then-inside-folder-via-else-inside-folder+then-sorts}
 
@@ -107,3 +108,27 @@ returns-clause-counted g c = λ lying lies there.
     on_ok c.open_level.result
     (counts_on 0 s now last c.args.inside.now.stack.items c.make_room.new.inside.stack.items (levels_of c.open_level.new.inside) (c.open_level.ensures.keeps lying lies).faults r.counted)
     (c.open_level.ensures.counted (λ tells. subst P (sym r.tree.tree) (there tells c.if-inside-folder.false)))
+
+-- ---- what is listed
+
+pub returns-in_err-make_room-clause-settled : goal.returns-in_err-make_room-clause-settled
+returns-in_err-make_room-clause-settled g c = not_ok _ c.from_residual.result c.from_residual.ensures.0
+
+pub returns-in_err-make_room-clause-listed_whole : goal.returns-in_err-make_room-clause-listed_whole
+returns-in_err-make_room-clause-listed_whole g c = λ tells by count compares sorts to_list none. not_ok _ c.from_residual.result c.from_residual.ensures.0
+
+pub returns-in_err-make_room-clause-unlisted : goal.returns-in_err-make_room-clause-unlisted
+returns-in_err-make_room-clause-unlisted g c = λ unsorted room. elim room [ inl deep ↦ absurd (omega (arith, deep, c.if-inside-folder.false)) | inr few ↦ c.make_room.ensures.roomy few ]
+
+pub returns-clause-unlisted : goal.returns-clause-unlisted
+returns-clause-unlisted g c = λ unsorted room.
+    elim room [ inl deep ↦ absurd (omega (arith, deep, c.if-inside-folder.false)) | inr few ↦ c.open_level.ensures.unlisted ∙ c.make_room.ensures.roomy few ]
+
+pub returns-clause-settled : goal.returns-clause-settled
+returns-clause-settled g c =
+    let deepest = ap (λ o. o.max_depth) (same_walk c.args.inside.now c.make_room.new.inside c.make_room.ensures.same).options in
+    let P : ℕ → Type 0 = λ n. OnOk c.open_level.result (IsTopSettled n c.open_level.new.inside.top) in
+    subst P deepest c.open_level.ensures.settled
+
+pub returns-clause-listed_whole : goal.returns-clause-listed_whole
+returns-clause-listed_whole g c = λ tells by count compares sorts to_list none. absurd (let e = sym c.if-sorts.false ∙ (c.sorts.ensures ∙ sorts) in cc e)

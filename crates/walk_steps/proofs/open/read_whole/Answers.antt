@@ -6,6 +6,7 @@ use Rattle.walk_steps.specs.Sound.{AreSound, opens}
 use Rattle.walk_steps.proofs.leave.SoundLemmas.{all_same_reads, clear_unread}
 use Rattle.walk_steps.proofs.open.OpenLemmas.{clear_from, is_sound_top, keeps_none, keeps_top, less_top, most_open, no_top, not_ok, read_moves, sound_on, sound_top}
 use Rattle.walk_steps.proofs.next.CauseLemmas.{counts_read}
+use Rattle.walk_steps.proofs.next.ListedLemmas.{listed_read}
 use Rattle.walk_steps.proofs.open.read_whole.Goals as goal
 
 pub read_folder-requires : goal.read_folder-requires
@@ -94,3 +95,27 @@ pub returns-clause-counted : goal.returns-clause-counted
 returns-clause-counted g c = λ there.
     let level : Level = record { folder = Some c.args.folder; first = None; entries = Kept c.in_ok-entries.entries; faults = c.read_folder.new.faults } in
     counts_read (g.D.Disk.state c.args.disk.now) (g.D.Disk.state c.read_folder.new.disk) c.args.inside.now.stack.items level c.new-faults.result.items c.new-faults.ensures.items (c.in_ok-entries.ensures.due there)
+
+pub returns-in_err-entries-clause-settled : goal.returns-in_err-entries-clause-settled
+returns-in_err-entries-clause-settled g c = not_ok _ c.from_residual.result c.from_residual.ensures.0
+
+pub returns-in_err-entries-clause-listed_whole : goal.returns-in_err-entries-clause-listed_whole
+returns-in_err-entries-clause-listed_whole g c = λ tells by count compares to_list none. not_ok _ c.from_residual.result c.from_residual.ensures.0
+
+pub returns-in_err-entries-clause-unlisted : goal.returns-in_err-entries-clause-unlisted
+returns-in_err-entries-clause-unlisted g c = λ deep. (c.read_folder.ensures.unopened deep).listed
+
+pub returns-clause-settled : goal.returns-clause-settled
+returns-clause-settled g c = tt
+
+pub returns-clause-unlisted : goal.returns-clause-unlisted
+returns-clause-unlisted g c = λ deep. (c.read_folder.ensures.unopened deep).listed
+
+pub returns-clause-listed_whole : goal.returns-clause-listed_whole
+returns-clause-listed_whole g c = λ tells by count compares to_list none.
+    let s = g.D.Disk.state c.args.disk.now in
+    let inside = c.args.inside.now in
+    let r = c.in_ok-entries.ensures in
+    let device = device_to s.tree inside.root in
+    listed_read s (g.D.Disk.state c.read_folder.new.disk) inside.options (g.S.Order.sorts inside.order) by device c.args.folder c.new-faults.result.items c.read_folder.new.faults.items _ count
+    (λ inner contents. r.read tells by device inner compares contents) r.unopened to_list none
