@@ -42,6 +42,10 @@ module _ {S : Type 0} where
     pub options : manner.options ≡ inside.options
     pub device : IsTrue inside.options.same_file_system → inside.device ≡ manner.device
 
+  -- on a disk that tells its tree, by each manner that the walk goes by
+  abbrev pub ByEachManner : Bool → Inside S → (Manner → Type 0) → Type 0
+  ByEachManner tells inside P = IsTrue tells → (manner : Manner) → GoesBy inside manner → P manner
+
 -- ---- parts of it
 
 -- a call on what a path leads to was refused

@@ -11,7 +11,7 @@ use Rattle.walk_rest.specs.declared.level.Folder.{Folder}
 use Rattle.walk_rest.specs.declared.level.Entries.TheVariants.{Unread}
 use Rattle.walk_rest.specs.declared.level.Level.{Level}
 use Rattle.walk_rest.specs.declared.options.Options.{Options}
-use Rattle.walk_rest.specs.Plan.{Item, IsPlan, item_before, item_after}
+use Rattle.walk_rest.specs.Plan.{Comparison, Item, IsPlan, item_before, item_after}
 use Rattle.walk_rest.specs.Listing.{Beginning, ends, begins, beginning, device_to}
 use Rattle.walk_rest.specs.Rest.{Part, Rest, Moves, IsStep, Skips}
 use Rattle.walk_rest.specs.Level.{HasParts, IsAllowed, chain_above, with_folder, item_of}
@@ -49,6 +49,10 @@ module _ {S : Type 0} where
   abbrev pub TurnsTo : DiskState → Bool → (DirEntry → DirEntry → Ordering) → Rest → Option Item → DiskState → Inside S → Type 0
   TurnsTo before sorts compare rest None now inside = MovesTo before sorts compare rest now inside
   TurnsTo before sorts compare rest (Some item) now inside = StepsTo before sorts compare rest (Some item) now inside
+
+  -- on a disk that tells its tree, by each comparison that is the order's and each rest that the walk has
+  abbrev pub ByEachRest : Bool → (S → Comparison → Type 0) → DiskState → Bool → Inside S → (Comparison → Rest → Type 0) → Type 0
+  ByEachRest tells compares_by state sorts inside P = IsTrue tells → (by : Comparison) (rest : Rest) → compares_by inside.order by → HasRest state sorts by inside rest → P by rest
 
   -- ---- an entry that was taken
 

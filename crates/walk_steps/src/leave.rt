@@ -1,9 +1,8 @@
 //! Leaving directories.
 
 ghost use Rattle.std.specs.Prelude.{◌≡◌, ◌+◌, ◌∷◌, ◌≤◌, IsTrue, []};
-ghost use Rattle.std.specs.declared.cmp.Ordering as ordering;
 ghost use Rattle.sd_edge.specs.Disk.{SameTree};
-ghost use Rattle.walk_rest.specs.declared.entry.DirEntry as entry;
+ghost use Rattle.walk_rest.specs.Plan.{Comparison};
 ghost use Rattle.walk_rest.specs.Rest.{Rest};
 ghost use Rattle.walk_steps.specs.Inside.{HasRest, SameWalk, levels_of};
 ghost use Rattle.walk_steps.specs.Sound.{AreSound, IsSound, SameOtherThan, SameOthers, StaysWithin, open_in};
@@ -32,7 +31,7 @@ pub fn close_level<D: Disk>(disk: &mut D, level: Level)
 /// Leaves the directory that was entered last, with all that is due of it: its list is closed, and never opened. Does nothing where only the root stands.
 pub fn skip_top<D: Disk, S: Order>(disk: &mut D, inside: &mut Inside<S>)
     requires { IsSound (D.state disk.old) (S.sorts inside.old.order) inside.old }
-    ensures skipped { IsTrue D.tells → (by : entry.DirEntry → entry.DirEntry → ordering.Ordering) → (rest : Rest) → HasRest (D.state disk.old) (S.sorts inside.old.order) by inside.old rest
+    ensures skipped { IsTrue D.tells → (by : Comparison) → (rest : Rest) → HasRest (D.state disk.old) (S.sorts inside.old.order) by inside.old rest
         → SkipsTo (S.sorts inside.old.order) by rest (D.state disk.new) inside.new }
     ensures sound { IsSound (D.state disk.new) (S.sorts inside.new.order) inside.new }
     ensures same { SameWalk inside.old inside.new }

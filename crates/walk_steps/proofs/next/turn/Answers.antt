@@ -125,7 +125,7 @@ returns-clause-turns g c = λ tells by rest same h.
       unread = unread_of c.args.level.entries (λ r. let e = sym c.if-is_read.false ∙ c.is_read.ensures.1 r in cc e);
       faultless = no_items c.args.level.faults.items (let z = c.in_default.ensures.cases.0 in omega (arith, z, c.args.level.faults.ok.0));
     } in
-    c.in_ok-read_directory-in-Some-folder.ensures.moves tells by c.args.level rest same lying h
+    c.in_ok-read_directory-in-Some-folder.ensures.moves c.args.level lying tells by rest same h
 
 pub returns-clause-keeps : goal.returns-clause-keeps
 returns-clause-keeps g c =

@@ -25,7 +25,7 @@ pub open_list-requires : goal.open_list-requires
 open_list-requires g c = record { shallow = c.requires.countable }
 
 pub returns-in_err-entries-clause-moves : goal.returns-in_err-entries-clause-moves
-returns-in_err-entries-clause-moves g c = λ tells by lying rest compares lies h. not_ok _ c.from_residual.result c.from_residual.ensures.0
+returns-in_err-entries-clause-moves g c = λ lying lies tells by rest compares h. not_ok _ c.from_residual.result c.from_residual.ensures.0
 
 pub returns-in_err-entries-clause-sound : goal.returns-in_err-entries-clause-sound
 returns-in_err-entries-clause-sound g c = not_ok _ c.from_residual.result c.from_residual.ensures.0
@@ -46,7 +46,7 @@ returns-in_err-entries-clause-keeps g c = λ lying lies.
     (sound_on s now inside.stack.items c.requires.sound.lists (λ number. ap (λ lists. lists number) r.refused.open_list)) r.refused.open_count r.most (omega (arith, room)) r.tree r.faults (omega (arith, later)) (λ number. ap (λ lists. lists number) r.refused.open_list)
 
 pub returns-clause-moves : goal.returns-clause-moves
-returns-clause-moves g c = λ tells by lying rest compares lies h.
+returns-clause-moves g c = λ lying lies tells by rest compares h.
     let s = g.D.Disk.state c.args.disk.now in
     let now = g.D.Disk.state c.open_list.new.disk in
     let inside = c.args.inside.now in

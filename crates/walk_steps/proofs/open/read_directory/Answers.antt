@@ -3,7 +3,7 @@ use Rattle.std.specs.Prelude.{IsSome, OnOk}
 use Rattle.sd_edge.specs.Tree.{Tree}
 use Rattle.sd_edge.specs.Lists.{directory_of}
 use Rattle.walk_steps.specs.Inside.{HasRest, levels_of, with_top}
-use Rattle.walk_steps.specs.Steps.{LiesUnread, MovesTo}
+use Rattle.walk_steps.specs.Steps.{MovesTo}
 use Rattle.walk_steps.specs.Sound.{open_limit}
 use Rattle.walk_steps.proofs.leave.WithinLemmas.{keeps_on}
 use Rattle.walk_steps.proofs.next.StepLemmas.{moves_more}
@@ -20,7 +20,7 @@ read_whole-requires-clause-whole g c = λ shallow. elim c.then-inside-folder.bra
 ]
 
 pub returns-in_err-make_room-clause-moves : goal.returns-in_err-make_room-clause-moves
-returns-in_err-make_room-clause-moves g c = λ tells by lying rest compares lies h. not_ok _ c.from_residual.result c.from_residual.ensures.0
+returns-in_err-make_room-clause-moves g c = λ lying lies tells by rest compares h. not_ok _ c.from_residual.result c.from_residual.ensures.0
 
 pub returns-in_err-make_room-clause-less : goal.returns-in_err-make_room-clause-less
 returns-in_err-make_room-clause-less g c = λ lying lies. not_ok _ c.from_residual.result c.from_residual.ensures.0
@@ -63,7 +63,7 @@ open_level-requires-clause-room g c =
     omega (arith, room, limit)
 
 pub returns-clause-moves : goal.returns-clause-moves
-returns-clause-moves g c = λ tells by lying rest compares lies h.
+returns-clause-moves g c = λ lying lies tells by rest compares h.
     let s = g.D.Disk.state c.args.disk.now in
     let now = g.D.Disk.state c.make_room.new.disk in
     let last = g.D.Disk.state c.open_level.new.disk in
@@ -74,10 +74,10 @@ returns-clause-moves g c = λ tells by lying rest compares lies h.
     let walk = same_walk inside mid r.same in
     let m = r.moves tells by lying c.args.folder rest lies h in
     let k = c.open_level.ensures.keeps lying lies in
-    let P : g.row.S.Denot → Type 0 = λ o. g.S.Order.compares_by o by → LiesUnread lying (Some c.args.folder) → HasRest {S = g.row.S.Denot} now (g.S.Order.sorts o) by (with_top mid lying) m.new
+    let P : g.row.S.Denot → Type 0 = λ o. g.S.Order.compares_by o by → HasRest {S = g.row.S.Denot} now (g.S.Order.sorts o) by (with_top mid lying) m.new
     → OnOk c.open_level.result (MovesTo {S = g.row.S.Denot} now (g.S.Order.sorts o) by m.new last new) in
     on_ok c.open_level.result (moves_more s now last (g.S.Order.sorts inside.order) by (with_top mid lying) new rest r.faults k.faults m)
-    (subst P walk.order (c.open_level.ensures.moves tells by lying m.new) compares lies m.left)
+    (subst P walk.order (c.open_level.ensures.moves lying lies tells by m.new) compares m.left)
 
 pub returns-clause-keeps : goal.returns-clause-keeps
 returns-clause-keeps g c = λ lying lies.

@@ -13,7 +13,7 @@ pub read_folder-requires : goal.read_folder-requires
 read_folder-requires g c = c.requires.order
 
 pub returns-in_err-entries-clause-moves : goal.returns-in_err-entries-clause-moves
-returns-in_err-entries-clause-moves g c = λ tells by lying rest compares lies h. not_ok _ c.from_residual.result c.from_residual.ensures.0
+returns-in_err-entries-clause-moves g c = λ lying lies tells by rest compares h. not_ok _ c.from_residual.result c.from_residual.ensures.0
 
 pub returns-in_err-entries-clause-sound : goal.returns-in_err-entries-clause-sound
 returns-in_err-entries-clause-sound g c = not_ok _ c.from_residual.result c.from_residual.ensures.0
@@ -33,7 +33,7 @@ returns-in_err-entries-clause-keeps g c = λ lying lies.
     (sound_on s now inside.stack.items c.requires.sound.lists r.lists.open_list) r.lists.open_count k.1 k.2 r.tree r.faults r.later r.lists.open_list
 
 pub returns-clause-moves : goal.returns-clause-moves
-returns-clause-moves g c = λ tells by lying rest compares lies h.
+returns-clause-moves g c = λ lying lies tells by rest compares h.
     let s = g.D.Disk.state c.args.disk.now in
     let now = g.D.Disk.state c.read_folder.new.disk in
     let inside = c.args.inside.now in
