@@ -1,7 +1,7 @@
 -- What the code makes of an entry.
-use Rattle.std.specs.Prelude.{◌≡◌, ◌⊎◌, ◌<◌, ℕ, Bool, true, false, IsTrue, not, ◌||◌, ◌&&◌, nat_lt, List, Option, Some, None, option_map}
+use Rattle.std.specs.Prelude.{◌≡◌, ◌⊎◌, ◌<◌, ℕ, Bool, IsTrue, ◌||◌, ◌&&◌, nat_lt, List, Option, Some, None, option_map}
 use Rattle.sd_edge.specs.Count.{HasRisen}
-use Rattle.sd_edge.specs.Tree.{Node, Tree}
+use Rattle.sd_edge.specs.Tree.{Node}
 use Rattle.sd_edge.specs.declared.fault.DiskFault.{DiskFault}
 use Rattle.sd_edge.specs.declared.fault.DiskFault.TheVariants.{Absent, Taken, Failed, NoMemory}
 use Rattle.sd_edge.specs.declared.meta.Ident.{Ident}

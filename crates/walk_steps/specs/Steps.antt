@@ -1,8 +1,7 @@
 -- What the parts of a step do to what is left of a walk.
-use Rattle.std.specs.Prelude.{◌≡◌, ◌⊎◌, ◌<◌, ℕ, Bool, true, false, IsTrue, List, [], ◌∷◌, ◌++◌, Option, Some, None, Err, option_map}
+use Rattle.std.specs.Prelude.{◌≡◌, ◌⊎◌, ◌<◌, ℕ, Bool, false, IsTrue, List, [], ◌∷◌, ◌++◌, Option, Some, None, option_map}
 use Rattle.std.specs.declared.cmp.Ordering.{Ordering}
 use Rattle.sd_edge.specs.Count.{HasRisen}
-use Rattle.sd_edge.specs.Tree.{Tree}
 use Rattle.sd_edge.specs.Disk.{DiskState}
 use Rattle.walk_rest.specs.declared.entry.DirEntry.{DirEntry}
 use Rattle.walk_rest.specs.declared.error.Error.{Error}
@@ -12,11 +11,11 @@ use Rattle.walk_rest.specs.declared.level.Entries.TheVariants.{Unread}
 use Rattle.walk_rest.specs.declared.level.Level.{Level}
 use Rattle.walk_rest.specs.declared.options.Options.{Options}
 use Rattle.walk_rest.specs.Plan.{Comparison, Item, IsPlan, item_before, item_after}
-use Rattle.walk_rest.specs.Listing.{Beginning, ends, begins, beginning, device_to}
+use Rattle.walk_rest.specs.Listing.{ends, beginning, device_to}
 use Rattle.walk_rest.specs.Rest.{Part, Rest, Moves, IsStep, Skips}
 use Rattle.walk_rest.specs.Level.{HasParts, IsAllowed, chain_above, with_folder, item_of}
 use Rattle.walk_steps.specs.declared.inside.Inside.{Inside}
-use Rattle.walk_steps.specs.Inside.{HasRest, entries_due, manner_in, levels_of, SameWalk}
+use Rattle.walk_steps.specs.Inside.{HasRest, entries_due, manner_in}
 
 -- ---- the root
 

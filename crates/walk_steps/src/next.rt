@@ -82,8 +82,8 @@ fn turn<D: Disk, S: Order>(
     ensures sound { OnOk result (IsSound (D.state disk.new) (S.sorts inside.new.order) inside.new) }
     ensures keeps { KeepsWalk (D.state disk.old) (with_top inside.old level) (D.state disk.new) inside.new }
     ensures counted { FitsTree D.tells S.compares_by (D.state disk.old) (S.sorts inside.old.order) (with_top inside.old level)
-        → IfOk result (λ answer. CountsFaults (faults_told D.tells answer) (D.state disk.old) (levels_of (with_top inside.old level))
-        (D.state disk.new) (levels_of inside.new)) }
+        → IfOk result (λ answer.
+        CountsFaults (faults_told D.tells answer) (D.state disk.old) (levels_of (with_top inside.old level)) (D.state disk.new) (levels_of inside.new)) }
     ensures caused { IfOk result (λ answer. IsCaused D.tells (D.state disk.old) (D.state disk.new) answer inside.new) }
     ensures settles { GivesAtOnce inside.old.options → IfOk result (λ answer. IfNone answer (IsTopSettled inside.old.options.max_depth inside.new.top)) }
     ensures listed_once { S.sorts inside.old.order ≡ false → GivesAtOnce inside.old.options
@@ -155,8 +155,8 @@ fn take_next<D: Disk, S: Order>(
     ensures named { IfOk result (λ answer. answer ≢ Some (Err error.NoMemory)) }
     ensures sound { OnOk result (IsSound (D.state disk.new) (S.sorts inside.new.order) inside.new) }
     ensures keeps { KeepsWalk (D.state disk.old) (with_top inside.old level) (D.state disk.new) inside.new }
-    ensures counted { IfOk result (λ answer. CountsFaults (faults_told D.tells answer) (D.state disk.old) (levels_of
-        (with_top inside.old level)) (D.state disk.new) (levels_of inside.new)) }
+    ensures counted { IfOk result (λ answer.
+        CountsFaults (faults_told D.tells answer) (D.state disk.old) (levels_of (with_top inside.old level)) (D.state disk.new) (levels_of inside.new)) }
     ensures caused { IfOk result (λ answer. IsCaused D.tells (D.state disk.old) (D.state disk.new) answer inside.new) }
     ensures settles { GivesAtOnce inside.old.options → IfOk result (λ answer. IfNone answer (IsTopSettled inside.old.options.max_depth inside.new.top)) }
     ensures listed_once { (D.state disk.new).listed ≤ (D.state disk.old).listed + open_in level.entries }
@@ -213,8 +213,8 @@ fn meet<D: Disk, S: Order>(
     ensures named { IfOk result (λ answer. answer ≢ Some (Err error.NoMemory)) }
     ensures sound { OnOk result (IsSound (D.state disk.new) (S.sorts inside.new.order) inside.new) }
     ensures keeps { KeepsWalk (D.state disk.old) (with_top inside.old level) (D.state disk.new) inside.new }
-    ensures counted { IfOk result (λ answer. CountsFaults (faults_told D.tells answer) (D.state disk.old) (levels_of
-        (with_top inside.old level)) (D.state disk.new) (levels_of inside.new)) }
+    ensures counted { IfOk result (λ answer.
+        CountsFaults (faults_told D.tells answer) (D.state disk.old) (levels_of (with_top inside.old level)) (D.state disk.new) (levels_of inside.new)) }
     ensures caused { IfOk result (λ answer. IsCaused D.tells (D.state disk.old) (D.state disk.new) answer inside.new) }
     ensures hides { GivesAtOnce inside.old.options → IfOk result (λ answer. IfNone answer (inside.old.options.max_depth < entry.depth)) }
     ensures settles { GivesAtOnce inside.old.options → IfOk result (λ answer. IfNone answer (IsTopSettled inside.old.options.max_depth inside.new.top)) }

@@ -42,8 +42,8 @@ pub fn read_root<D: Disk, S: Order>(
     ensures named { IfOk result (λ answer. answer ≢ Some (Err Error.NoMemory)) }
     ensures sound { OnOk result (IsSound (D.state disk.new) (S.sorts inside.new.order) inside.new) }
     ensures keeps { (lying : level.Level) → LiesUnread lying None → KeepsWalk (D.state disk.old) (with_top inside.old lying) (D.state disk.new) inside.new }
-    ensures counted { IfOk result (λ answer. CountsFaults (faults_told D.tells answer) (D.state disk.old) inside.old.stack.items
-        (D.state disk.new) (levels_of inside.new)) }
+    ensures counted { IfOk result (λ answer.
+        CountsFaults (faults_told D.tells answer) (D.state disk.old) inside.old.stack.items (D.state disk.new) (levels_of inside.new)) }
     ensures caused { IfOk result (λ answer. IsCaused D.tells (D.state disk.old) (D.state disk.new) answer inside.new) }
     ensures settled { OnOk result (IsTopSettled inside.old.options.max_depth inside.new.top) }
     ensures unlisted { (D.state disk.new).listed ≡ (D.state disk.old).listed }

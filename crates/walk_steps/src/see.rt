@@ -1,12 +1,12 @@
 //! What a walk makes of an entry.
 
-ghost use Rattle.std.specs.Prelude.{◌≡◌, ◌≢◌, ◌⊎◌, ◌<◌, ◌≤◌, [], Some, None, true, false, IsTrue, IfOk, IfErr, IsErrOf, Option, option_map};
+ghost use Rattle.std.specs.Prelude.{◌≡◌, ◌≢◌, ◌⊎◌, ◌<◌, ◌≤◌, [], Some, None, true, false, IsTrue, IfOk, IfErr, Option, option_map};
 ghost use Rattle.sd_edge.specs.Count.{HasRisen};
 ghost use Rattle.sd_edge.specs.Tree.{Node};
 ghost use Rattle.sd_edge.specs.Disk.{SameTree, SameLists};
-ghost use Rattle.walk_rest.specs.Plan.{Manner, ident_of, node_to, seen, seen_by, seen_directory, seen_link, seen_root_link};
+ghost use Rattle.walk_rest.specs.Plan.{Manner, ident_of, node_to, seen, seen_directory, seen_link, seen_root_link};
 ghost use Rattle.walk_rest.specs.Level.{with_folder};
-ghost use Rattle.walk_steps.specs.Inside.{chain_of, chain_with, with_top};
+ghost use Rattle.walk_steps.specs.Inside.{chain_with};
 ghost use Rattle.walk_steps.specs.Causes.{IsSightOf};
 ghost use Rattle.walk_steps.specs.Seen.{ByEachManner, seen_of, refusal_of, ancestor_path, GoesBy, KnowsIdent, LoopsTo, FailsAsSeen, FailsCounted, HasCauseAt};
 

@@ -24,8 +24,8 @@ pub fn take_entry<D: Disk>(
 ) -> Result<Option<DirEntry>, DiskFault>
     requires readable { IsReadable (D.state disk.old) level.old.folder level.old.entries }
     requires read { IsRead level.old.entries }
-    ensures taken { IsTrue D.tells → IfOk result (λ given. IfSome given (λ entry. entries_due
-        (D.state disk.old) level.old ≡ entry ∷ entries_due (D.state disk.new) level.new)) }
+    ensures taken { IsTrue D.tells → IfOk result (λ given. IfSome given (λ entry.
+        entries_due (D.state disk.old) level.old ≡ entry ∷ entries_due (D.state disk.new) level.new)) }
     ensures ended { IsTrue D.tells → IfOk result (λ given. IfNone given (entries_due (D.state disk.old) level.old ≡ [])) }
     ensures failed { IsTrue D.tells → IsErrOf result DiskFault.Failed
         → IsSublist (entries_due (D.state disk.new) level.new) (entries_due (D.state disk.old) level.old) }

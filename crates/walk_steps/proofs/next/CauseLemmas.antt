@@ -1,8 +1,8 @@
 -- Why items come.
 use Rattle.std.proofs.Common.{◌≡◌, ◌+◌, ◌≤◌, ◌<◌, ◌⊎◌, ℕ, Bool, true, false, cond, List, [], ◌∷◌, ◌++◌, length, Option, Some, None, Result, Ok, Err, refl, sym, subst, ◌∙◌, ap, arith, inl, inr, length-append}
-use Rattle.std.specs.Prelude.{IsTrue, IfOk, ◌&&◌, not, nat_eq, nat_lt, option_map}
-use Rattle.sd_edge.specs.Count.{HasRisen, IsAtLast}
-use Rattle.sd_edge.specs.Tree.{Node, Tree, is_directory_content}
+use Rattle.std.specs.Prelude.{IsTrue, IfOk, ◌&&◌, nat_eq, nat_lt, option_map}
+use Rattle.sd_edge.specs.Count.{HasRisen}
+use Rattle.sd_edge.specs.Tree.{Node, is_directory_content}
 use Rattle.sd_edge.specs.Disk.{DiskState}
 use Rattle.sd_edge.specs.declared.meta.Ident.{Ident}
 use Rattle.walk_rest.specs.declared.entry.DirEntry.{DirEntry}
@@ -13,16 +13,16 @@ use Rattle.walk_rest.specs.declared.level.Folder.{Folder}
 use Rattle.walk_rest.specs.declared.level.Due.{Due}
 use Rattle.walk_rest.specs.declared.level.Level.{Level}
 use Rattle.walk_rest.specs.declared.level.Entries.{Entries}
-use Rattle.walk_rest.specs.declared.level.Entries.TheVariants.{Unread, Open, Kept}
+use Rattle.walk_rest.specs.declared.level.Entries.TheVariants.{Unread}
 use Rattle.walk_rest.specs.Rest.{Rest}
-use Rattle.walk_rest.specs.Plan.{Comparison, Item, Manner, Seen, fails, stays, enters, seen, seen_by, seen_directory, seen_root_link, seen_unfollowed, seen_link, seen_target, followed_entry, folder_of, is_foreign, is_directory, is_link, ident_of, ancestor_with, item_where, item_before, is_shown, node_to}
+use Rattle.walk_rest.specs.Plan.{Comparison, Item, Manner, Seen, fails, stays, enters, seen_by, seen_directory, seen_root_link, seen_unfollowed, seen_link, seen_target, followed_entry, folder_of, is_foreign, is_directory, is_link, ident_of, ancestor_with, item_where}
 use Rattle.walk_rest.specs.Level.{IsAllowed, AddsFaults, item_of}
 use Rattle.walk_steps.specs.declared.inside.Inside.{Inside}
 use Rattle.walk_steps.specs.Inside.{HasRest, IsRead, SameWalk, chain_of, levels_of, top_levels, with_top}
 use Rattle.walk_steps.specs.Sound.{IsFresh}
 use Rattle.walk_steps.specs.Steps.{CannotBegin, Enters, MovesTo}
 use Rattle.walk_steps.specs.Seen.{IsFailureAt, IsLoopIn, FailsAsSeen, HasCauseAt}
-use Rattle.walk_steps.specs.Causes.{faults_due, faults_told, CountsFaults, FitsTree, CountsAbsent, IsLoopOf, IsFolderOf, IsEnteredBy, IsCaused}
+use Rattle.walk_steps.specs.Causes.{faults_due, faults_told, CountsFaults, FitsTree, IsFolderOf, IsEnteredBy, IsCaused}
 use Rattle.walk_steps.proofs.leave.WithinLemmas.{retop_levels}
 use Rattle.walk_steps.proofs.next.StepLemmas.{allowed_one, rest_retop}
 

@@ -1,6 +1,6 @@
 -- How many entries a step lists.
 use Rattle.std.proofs.Common.{◌≡◌, ◌+◌, ◌≤◌, ◌<◌, ◌⊎◌, ℕ, zero, suc, Bool, true, false, cond, List, [], ◌∷◌, ◌++◌, length, map, Option, Some, None, Result, Ok, Err, refl, sym, subst, ◌∙◌, ap, arith, inl, inr}
-use Rattle.std.specs.Prelude.{IfOk, IfNone, OnOk, IsTrue, ◌&&◌, not, nat_le, option_map}
+use Rattle.std.specs.Prelude.{IfOk, IfNone, OnOk, ◌&&◌, not, nat_le, option_map}
 use Rattle.std.proofs.lemmas.List.{length-map}
 use Rattle.std.proofs.lemmas.Bool.{le-leb, leb-false}
 use Rattle.std.specs.declared.cmp.Ordering.{Ordering}
@@ -8,7 +8,6 @@ use Rattle.std.specs.Ordering.{is_lt}
 use Rattle.sd_edge.specs.Count.{HasRisen}
 use Rattle.sd_edge.specs.Tree.{Tree}
 use Rattle.sd_edge.specs.Disk.{DiskState, SameLists}
-use Rattle.sd_edge.specs.declared.meta.RawEntry.{RawEntry}
 use Rattle.walk_rest.specs.declared.entry.DirEntry.{DirEntry}
 use Rattle.walk_rest.specs.declared.options.Options.{Options}
 use Rattle.walk_rest.specs.declared.level.Due.{Due}
@@ -16,11 +15,11 @@ use Rattle.walk_rest.specs.declared.level.Folder.{Folder}
 use Rattle.walk_rest.specs.declared.level.Level.{Level}
 use Rattle.walk_rest.specs.declared.level.Entries.{Entries}
 use Rattle.walk_rest.specs.declared.level.Entries.TheVariants.{Unread, Open, Kept}
-use Rattle.walk_rest.specs.Plan.{Item, Comparison, Manner, IsContents, ListsNames, entry_below, in_order, insert, sorted, is_shown, item_where, item_before}
+use Rattle.walk_rest.specs.Plan.{Item, Comparison, Manner, IsContents, entry_below, in_order, insert, sorted, is_shown, item_where, item_before}
 use Rattle.walk_rest.specs.Level.{IsAllowed, ReadsFolder, item_of}
 use Rattle.walk_rest.specs.Read.{manner_by}
 use Rattle.walk_steps.specs.declared.inside.Inside.{Inside}
-use Rattle.walk_steps.specs.Inside.{IsRead, levels_of, top_levels, with_top}
+use Rattle.walk_steps.specs.Inside.{IsRead, top_levels}
 use Rattle.walk_steps.specs.Sound.{AreRead, AreSound, IsReadable, IsShallow, depth_below, open_in, open_limit, opens}
 use Rattle.walk_steps.specs.Steps.{Enters}
 use Rattle.walk_steps.specs.Causes.{IsFolderOf}

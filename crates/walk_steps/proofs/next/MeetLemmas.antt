@@ -1,6 +1,6 @@
 -- What is left of a walk once an entry was met.
-use Rattle.std.proofs.Common.{◌≡◌, ◌+◌, ◌*◌, ◌≤◌, ◌<◌, ◌⊎◌, ℕ, Bool, true, false, cond, List, [], ◌∷◌, ◌++◌, length, map, Option, Some, None, Err, Ok, refl, sym, subst, ◌∙◌, ap, arith, inl, inr, append-nil}
-use Rattle.std.specs.Prelude.{IsTrue, ◌&&◌, nat_eq, nat_lt, option_map}
+use Rattle.std.proofs.Common.{◌≡◌, ◌+◌, ◌≤◌, ◌⊎◌, ℕ, Bool, true, false, cond, List, [], ◌∷◌, ◌++◌, length, map, Option, Some, None, Err, refl, sym, subst, ◌∙◌, ap, arith, inl, inr, append-nil}
+use Rattle.std.specs.Prelude.{◌&&◌, nat_eq, nat_lt, option_map}
 use Rattle.std.specs.declared.cmp.Ordering.{Ordering}
 use Rattle.sd_edge.specs.Count.{HasRisen}
 use Rattle.sd_edge.specs.Tree.{Node, Tree, is_directory_content}
@@ -8,22 +8,21 @@ use Rattle.sd_edge.specs.Disk.{DiskState, SameLists, SameTree}
 use Rattle.walk_rest.specs.declared.entry.DirEntry.{DirEntry}
 use Rattle.walk_rest.specs.declared.error.Error.{Error}
 use Rattle.walk_rest.specs.declared.error.Error.TheVariants as error
-use Rattle.walk_rest.specs.declared.options.Options.{Options}
 use Rattle.walk_rest.specs.declared.level.Folder.{Folder}
 use Rattle.walk_rest.specs.declared.level.Due.{Due}
 use Rattle.walk_rest.specs.declared.level.Level.{Level}
 use Rattle.walk_rest.specs.declared.level.Entries.{Entries}
 use Rattle.walk_rest.specs.declared.level.Entries.TheVariants.{Unread, Open, Kept}
-use Rattle.walk_rest.specs.Plan.{Item, Plan, done, past, into, Manner, IsPlan, IsPast, IsInto, Seen, fails, stays, enters, seen, seen_by, seen_directory, seen_root_link, seen_unfollowed, seen_link, seen_target, followed_entry, folder_of, is_foreign, is_directory, is_link, ident_of, ancestor_with, is_shown, item_where, item_before, item_after, IsContents}
+use Rattle.walk_rest.specs.Plan.{Item, Plan, done, past, into, Manner, IsPlan, IsPast, IsInto, Seen, fails, stays, enters, seen, seen_by, seen_directory, seen_root_link, seen_unfollowed, seen_link, seen_target, followed_entry, folder_of, is_foreign, is_directory, is_link, ident_of, ancestor_with, is_shown, item_where}
 use Rattle.walk_rest.specs.Listing.{manner_of, device_to}
-use Rattle.walk_rest.specs.Rest.{Fault, Part, Rest, Cuts, Comes, ComesIn, Moves, none, cut, come, IsStep, IsCutTo, past_gone, into_gone, entered, IsNextGone, IsFaultIn}
-use Rattle.walk_rest.specs.Level.{HasPart, HasParts, IsDue, AllSameReads, chain_above, with_folder, fault_of, item_of}
+use Rattle.walk_rest.specs.Rest.{Fault, Part, Rest, Comes, none, cut, come, IsCutTo, past_gone, into_gone, entered, IsNextGone, IsFaultIn}
+use Rattle.walk_rest.specs.Level.{IsDue, AllSameReads, chain_above, with_folder, fault_of, item_of}
 use Rattle.walk_rest.proofs.MoveLemmas.{cut_none, parts_snoc, entered_unread}
 use Rattle.walk_steps.specs.declared.inside.Inside.{Inside}
-use Rattle.walk_steps.specs.Inside.{HasRest, IsRead, IsUnbegun, SameWalk, chain_of, entries_in, entries_due, levels_of, with_top, top_levels}
+use Rattle.walk_steps.specs.Inside.{HasRest, IsRead, SameWalk, chain_of, entries_in, entries_due, levels_of, with_top, top_levels}
 use Rattle.walk_steps.specs.Sound.{AreApart, AreShallow, AreSound, AreRead, IsFresh, IsReadable, IsSound, IsTopFresh, KeepsWalk, SameOtherThan, depth_below, held_limit, open_in, open_limit, opens}
 use Rattle.walk_steps.specs.Work.{left_to_do, weight_all, weight_first, weight_in, weight_root}
-use Rattle.walk_steps.specs.Steps.{HasTaken, MovesTo, StepsTo, TurnsTo, Enters}
+use Rattle.walk_steps.specs.Steps.{HasTaken, StepsTo, TurnsTo, Enters}
 use Rattle.walk_steps.specs.Seen.{IsFailureAt, FailsAsSeen}
 use Rattle.walk_steps.proofs.leave.SoundLemmas.{all_same_reads, clear_unread, opens_snoc, read_join, sound_kept, sound_relevel, sound_unread, weight_kept, weight_snoc}
 use Rattle.walk_steps.proofs.leave.WithinLemmas.{within_fewer}

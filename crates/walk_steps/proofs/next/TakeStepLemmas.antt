@@ -1,5 +1,5 @@
 -- What is left of a walk once an entry was taken, or none came.
-use Rattle.std.proofs.Common.{◌≡◌, ◌+◌, ◌*◌, ◌≤◌, ◌<◌, ℕ, Bool, List, [], ◌∷◌, ◌++◌, length, map, reverse, Option, Some, None, Result, Ok, Err, refl, sym, subst, ◌∙◌, ap, arith, inl, inr, append-nil}
+use Rattle.std.proofs.Common.{◌≡◌, ◌+◌, ◌≤◌, ◌<◌, ℕ, Bool, List, [], ◌∷◌, ◌++◌, map, reverse, Option, Some, None, Result, Ok, Err, refl, sym, subst, ◌∙◌, ap, arith, inl, inr, append-nil}
 use Rattle.std.specs.Prelude.{IsTrue, IfOk, OnOk, option_map}
 use Rattle.std.specs.Option.{option_to_list}
 use Rattle.std.specs.declared.cmp.Ordering.{Ordering}
@@ -16,8 +16,8 @@ use Rattle.walk_rest.specs.declared.level.Entries.{Entries}
 use Rattle.walk_rest.specs.declared.level.Entries.TheVariants.{Unread, Open, Kept}
 use Rattle.walk_rest.specs.Plan.{Item, Plan, done, past, into, Manner, IsPlan}
 use Rattle.walk_rest.specs.Listing.{manner_of, device_to}
-use Rattle.walk_rest.specs.Rest.{Fault, Part, Rest, Moves, none, cut, leave, IsFaultIn, IsCutTo}
-use Rattle.walk_rest.specs.Level.{HasPart, HasParts, IsAllowed, IsOpenEntries, chain_above, with_folder, fault_of, item_of}
+use Rattle.walk_rest.specs.Rest.{Fault, Part, Rest, none, cut, leave, IsFaultIn}
+use Rattle.walk_rest.specs.Level.{IsAllowed, IsOpenEntries, chain_above, with_folder, fault_of, item_of}
 use Rattle.walk_rest.specs.Sorting.{IsSublist}
 use Rattle.walk_rest.proofs.PlanLemmas.{plan_cut}
 use Rattle.walk_rest.proofs.MoveLemmas.{parts_snoc}
@@ -26,9 +26,9 @@ use Rattle.walk_steps.specs.Inside.{HasRest, IsRead, IsUnbegun, IsUntaken, SameW
 use Rattle.walk_steps.specs.Sound.{AreShallow, AreSound, AreRead, IsFresh, IsReadable, IsSound, KeepsWalk, SameOtherThan, depth_below, held_limit, open_in, open_limit, opens}
 use Rattle.walk_steps.specs.Lists.{SameLevel, SameReading}
 use Rattle.walk_steps.specs.Steps.{HasTaken, MovesTo, StepsTo, TurnsTo}
-use Rattle.walk_steps.specs.Work.{left_to_do, weight_all, weight_in, weight_of, work_of}
+use Rattle.walk_steps.specs.Work.{left_to_do, weight_all, work_of}
 use Rattle.walk_steps.proofs.leave.OthersLemmas.{apart_reading, apart_same, fresh_top, shallow_join, shallow_reading, shallow_split}
-use Rattle.walk_steps.proofs.leave.SoundLemmas.{Clear, all_same_reads, apart_front, apart_snoc, clear_same, opens_snoc, read_split, sound_join, sound_kept, sound_split, weight_kept, weight_snoc}
+use Rattle.walk_steps.proofs.leave.SoundLemmas.{all_same_reads, apart_front, apart_snoc, clear_same, opens_snoc, read_split, sound_join, sound_kept, sound_split, weight_kept, weight_snoc}
 use Rattle.walk_steps.proofs.leave.WithinLemmas.{weight_in_some, within_fewer}
 use Rattle.walk_steps.proofs.next.StepLemmas.{allowed_none, allowed_one, knows_begun, parts_later, rest_of, top_parts}
 use Rattle.walk_steps.proofs.next.MeetLemmas.{due_of_plan, plan_of_due}

@@ -1,10 +1,9 @@
 -- A directory is read for the first time.
-use Rattle.std.proofs.Common.{◌≡◌, ◌⊎◌, ◌+◌, ◌<◌, ◌≤◌, ℕ, max, Bool, true, false, cond, List, [], ◌∷◌, ◌++◌, length, map, reverse, Option, Some, None, Result, Ok, Err, refl, sym, subst, ap, ◌∙◌, inl, inr, arith, append-nil, append_assoc}
+use Rattle.std.proofs.Common.{◌≡◌, ◌⊎◌, ◌+◌, ◌<◌, ◌≤◌, ℕ, max, Bool, true, false, cond, List, [], ◌∷◌, ◌++◌, length, map, Option, Some, None, Result, Ok, Err, refl, sym, subst, ap, ◌∙◌, inl, inr, arith, append-nil, append_assoc}
 use Rattle.std.specs.Prelude.{IsErr, IsSome, IsTrue, OnOk, option_map}
 use Rattle.std.proofs.lemmas.Bool.{cases_order}
 use Rattle.std.specs.List.{filter}
 use Rattle.std.specs.declared.cmp.Ordering.{Ordering}
-use Rattle.sd_edge.specs.Count.{HasRisen}
 use Rattle.sd_edge.specs.Tree.{Tree}
 use Rattle.sd_edge.specs.Disk.{DiskState, SameLists, SameTree}
 use Rattle.sd_edge.specs.Lists.{IsOpen, ListsDirectory, directory_of}
@@ -19,8 +18,7 @@ use Rattle.walk_rest.specs.declared.level.Level.{Level}
 use Rattle.walk_rest.specs.Plan.{Plan, Manner, IsPlan, IsContents, ListsNames, entry_below, in_order}
 use Rattle.walk_rest.specs.Listing.{device_to, manner_of}
 use Rattle.walk_rest.specs.Rest.{Moves, Part, Rest}
-use Rattle.walk_rest.specs.Level.{AllSameReads, HasParts, IsDue, LeavesLists, SameReads, ReadsFolder, TakesEntries, TakesWithFaults, chain_above, fault_of, item_of, left_in, read_part, with_folder}
-use Rattle.walk_rest.specs.Sorting.{IsSublist}
+use Rattle.walk_rest.specs.Level.{AllSameReads, HasParts, IsDue, LeavesLists, ReadsFolder, chain_above, fault_of, item_of, left_in, read_part, with_folder}
 use Rattle.walk_rest.proofs.ReadLemmas.{sublist_same}
 use Rattle.walk_rest.proofs.FolderLemmas.{is_there, read_not_opened}
 use Rattle.walk_rest.proofs.PlanLemmas.{names_same}
@@ -30,10 +28,10 @@ use Rattle.walk_steps.specs.Inside.{HasRest, IsRead, IsUnbegun, KnowsDevice, Sam
 use Rattle.walk_steps.specs.Lists.{KeepsOldest, OpensFolder}
 use Rattle.walk_steps.specs.Sound.{AreSound, AreRead, AreShallow, IsApart, IsReadable, IsShallow, IsSound, IsSoundBelow, KeepsWalk, SameOtherThan, SameOthers, StaysWithin, held_limit, open_in, open_limit, opens}
 use Rattle.walk_steps.specs.Steps.{LiesUnread, MovesTo}
-use Rattle.walk_steps.specs.Work.{left_to_do, weight_first, weight_in, weight_of, weight_root, work_in}
+use Rattle.walk_steps.specs.Work.{left_to_do, weight_first, weight_in, weight_root, work_in}
 use Rattle.walk_steps.proofs.leave.SoundLemmas.{Clear, Differ, clear_unread, opens_snoc, sound_join, sound_kept, sound_unread, weight_kept}
 use Rattle.walk_steps.proofs.leave.WithinLemmas.{work_snoc}
-use Rattle.walk_steps.proofs.leave.OthersLemmas.{apart_same, apart_unread, fresh_read, others_lists, others_on, others_levels, others_top, shallow_join}
+use Rattle.walk_steps.proofs.leave.OthersLemmas.{apart_same, apart_unread, fresh_read, others_lists, others_top, shallow_join}
 use Rattle.walk_steps.proofs.leave.SoundLemmas.{apart_front}
 use Rattle.walk_steps.proofs.next.StepLemmas.{parts_later, rest_of, top_parts, top_rest}
 

@@ -1,9 +1,8 @@
 -- The root is looked at.
-use Rattle.std.proofs.Common.{◌≡◌, ◌≢◌, ◌⊎◌, ◌+◌, ◌<◌, ◌≤◌, ℕ, zero, suc, Bool, true, false, cond, List, [], ◌∷◌, ◌++◌, length, map, reverse, Option, Some, None, Err, refl, sym, subst, ap, ◌∙◌, inl, inr, arith, append-nil}
+use Rattle.std.proofs.Common.{◌≡◌, ◌⊎◌, ◌+◌, ◌<◌, ◌≤◌, ℕ, zero, suc, Bool, true, false, cond, List, [], ◌∷◌, ◌++◌, length, map, Option, Some, None, Err, refl, sym, subst, ap, ◌∙◌, inl, inr, arith, append-nil}
 use Rattle.std.specs.Prelude.{IsTrue, option_map}
 use Rattle.std.specs.Option.{option_map_or}
 use Rattle.std.specs.declared.cmp.Ordering.{Ordering}
-use Rattle.sd_edge.specs.Count.{HasRisen}
 use Rattle.sd_edge.specs.Tree.{Node, Tree}
 use Rattle.sd_edge.specs.Disk.{DiskState, SameLists, SameTree}
 use Rattle.walk_rest.specs.declared.entry.DirEntry.{DirEntry}
@@ -16,14 +15,14 @@ use Rattle.walk_rest.specs.declared.level.Entries.TheVariants.{Unread, Open, Kep
 use Rattle.walk_rest.specs.declared.level.Level.{Level}
 use Rattle.walk_rest.specs.Plan.{Item, Plan, done, past, into, Manner, IsPlan, node_to}
 use Rattle.walk_rest.specs.Listing.{Beginning, ends, begins, begins_with, beginning, device_to, manner_of, IsBegun, IsRootPlan}
-use Rattle.walk_rest.specs.Rest.{Fault, Part, Rest, Moves, none, cut, ComesIn, IsNextGone, IsFaultIn}
-use Rattle.walk_rest.specs.Level.{HasPart, HasParts, IsDue, chain_above, with_folder, fault_of, item_of}
+use Rattle.walk_rest.specs.Rest.{Fault, Part, Rest, none, cut, ComesIn, IsNextGone, IsFaultIn}
+use Rattle.walk_rest.specs.Level.{IsDue, chain_above, with_folder, fault_of, item_of}
 use Rattle.walk_rest.proofs.MoveLemmas.{parts_snoc}
 use Rattle.walk_steps.specs.declared.inside.Inside.{Inside}
 use Rattle.walk_steps.specs.Inside.{HasRest, IsRead, IsUnbegun, IsUntaken, SameWalk, entries_in, levels_of, with_top}
 use Rattle.walk_steps.specs.Sound.{AreSound, AllAt, IsApart, IsReadable, IsShallow, IsSound, IsSoundBelow, KeepsWalk, held_limit, open_in, open_limit}
 use Rattle.walk_steps.specs.Work.{left_to_do, weight_first, weight_in, weight_root}
-use Rattle.walk_steps.specs.Steps.{CannotBegin, LiesUnread, MovesTo, StepsTo, TurnsTo}
+use Rattle.walk_steps.specs.Steps.{CannotBegin, LiesUnread, MovesTo, StepsTo}
 use Rattle.walk_steps.proofs.leave.SoundLemmas.{clear_unread, weight_kept}
 use Rattle.walk_steps.proofs.leave.WithinLemmas.{work_snoc}
 use Rattle.walk_steps.proofs.open.OpenLemmas.{clear_from, is_sound_top, keeps_none, keeps_top, no_top, sound_on, sound_top}

@@ -1,4 +1,4 @@
-use Rattle.std.proofs.Common.{◌≤◌, arith, refl, ◌∙◌, ap, reverse}
+use Rattle.std.proofs.Common.{arith, refl, ◌∙◌, ap, reverse}
 use Rattle.std.proofs.lemmas.List.{reverse-reverse}
 use Rattle.walk_rest.proofs.ReadLemmas.{added_on}
 use Rattle.walk_steps.proofs.keep.KeepLemmas.{level_kept}

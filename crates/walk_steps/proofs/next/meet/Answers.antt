@@ -1,4 +1,4 @@
-use Rattle.std.proofs.Common.{◌≡◌, ◌+◌, ◌≤◌, ◌<◌, ◌∷◌, ◌++◌, [], None, Some, Ok, Err, Option, Bool, true, false, inl, refl, sym, subst, ◌∙◌, ap, arith}
+use Rattle.std.proofs.Common.{◌≡◌, None, Some, Ok, Err, Option, Bool, true, false, inl, refl, sym, subst, ◌∙◌, ap, arith}
 use Rattle.std.specs.Prelude.{option_map}
 use Rattle.walk_rest.specs.declared.entry.DirEntry.{DirEntry}
 use Rattle.walk_rest.specs.Level.{item_of}
@@ -12,7 +12,6 @@ use Rattle.walk_rest.specs.Listing.{manner_of}
 use Rattle.walk_steps.specs.Inside.{chain_of, levels_of, with_top}
 use Rattle.walk_steps.specs.Sound.{IsSound}
 use Rattle.walk_steps.specs.Steps.{TurnsTo}
-use Rattle.walk_steps.specs.Work.{left_to_do}
 use Rattle.walk_steps.proofs.leave.SoundLemmas.{sound_split}
 use Rattle.walk_steps.proofs.leave.WithinLemmas.{keeps_on}
 use Rattle.walk_steps.proofs.next.MeetLemmas.{PutsBack, met_stays, met_error, met_enters, back_sound, back_keeps, back_work, seen_here, enters_sound, enters_keeps, enters_work, refused_keeps}

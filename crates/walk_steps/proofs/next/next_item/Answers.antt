@@ -1,16 +1,13 @@
-use Rattle.std.proofs.Common.{◌≡◌, ◌+◌, ◌≤◌, ◌<◌, ◌++◌, [], Some, None, Bool, false, ℕ, List, Option, refl, sym, subst, ◌∙◌, ap, arith, inl, inr, append-nil}
-use Rattle.std.specs.declared.cmp.Ordering.{Ordering}
-use Rattle.walk_rest.specs.declared.entry.DirEntry.{DirEntry}
-use Rattle.walk_rest.specs.declared.options.Options.{Options}
+use Rattle.std.proofs.Common.{◌≡◌, ◌+◌, ◌++◌, [], Some, Bool, Option, refl, sym, subst, ◌∙◌, ap, arith, inl, inr, append-nil}
 use Rattle.walk_rest.specs.declared.level.Level.{Level}
 use Rattle.walk_rest.specs.Plan.{Item}
-use Rattle.walk_steps.specs.Causes.{CountsFaults, FitsTree, IsCaused, faults_due, faults_told}
+use Rattle.walk_steps.specs.Causes.{CountsFaults, IsCaused, faults_due, faults_told}
 use Rattle.walk_steps.specs.Inside.{HasRest, levels_of, top_levels, with_top}
 use Rattle.walk_steps.specs.Steps.{MovesTo, StepsTo, TurnsTo}
 use Rattle.walk_steps.specs.Sound.{AreApart, IsSound, opens, open_limit}
-use Rattle.walk_steps.specs.Work.{left_to_do, work_in}
+use Rattle.walk_steps.specs.Work.{work_in}
 use Rattle.walk_steps.proofs.leave.OthersLemmas.{others_on}
-use Rattle.walk_steps.proofs.leave.WithinLemmas.{keeps_on, keeps_same, retop_levels, is_sound_retop, within_on, within_more, within_fewer, gone_lighter}
+use Rattle.walk_steps.proofs.leave.WithinLemmas.{keeps_on, keeps_same, retop_levels, within_on, within_more, gone_lighter}
 use Rattle.walk_steps.proofs.next.StepLemmas.{moves_none, moves_more, moves_last, none_left, rest_retop}
 use Rattle.walk_steps.proofs.next.CauseLemmas.{caused_later, counts_from, counts_on, no_level, still_fits}
 use Rattle.walk_steps.proofs.next.next_item.Given as given

@@ -1,6 +1,4 @@
-use Rattle.std.proofs.Common.{◌≡◌, ◌+◌, ◌≤◌, ◌<◌, [], None, Some, Err, Bool, List, inl, length, refl, sym, subst, ◌∙◌, ap, arith}
-use Rattle.std.specs.Prelude.{OnOk}
-use Rattle.walk_rest.specs.declared.level.Level.{Level}
+use Rattle.std.proofs.Common.{None, Some, Err, inl, length, refl, sym, subst, ◌∙◌, ap, arith}
 use Rattle.walk_rest.specs.declared.error.Error.TheVariants as error
 use Rattle.walk_steps.specs.Causes.{faults_due}
 use Rattle.walk_steps.specs.Inside.{levels_of, with_top}

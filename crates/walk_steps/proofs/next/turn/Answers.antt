@@ -1,7 +1,6 @@
-use Rattle.std.proofs.Common.{◌≡◌, ◌+◌, ◌≤◌, ◌<◌, ◌∷◌, [], None, Some, ℕ, inl, length, length-append, refl, sym, subst, ◌∙◌, ap, arith}
+use Rattle.std.proofs.Common.{◌<◌, ◌∷◌, [], None, Some, ℕ, inl, length, length-append, refl, sym, subst, ◌∙◌, ap, arith}
 use Rattle.std.specs.Prelude.{OnOk}
 use Rattle.walk_rest.specs.declared.level.Level.{Level}
-use Rattle.walk_steps.specs.Causes.{faults_due}
 use Rattle.walk_steps.specs.Inside.{levels_of, with_top}
 use Rattle.walk_steps.specs.Work.{left_to_do}
 use Rattle.walk_steps.specs.Steps.{LiesUnread}

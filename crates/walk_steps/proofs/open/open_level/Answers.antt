@@ -1,4 +1,4 @@
-use Rattle.std.proofs.Common.{◌≡◌, ◌+◌, ◌≤◌, ◌<◌, ℕ, Bool, length, Some, None, refl, ap, arith}
+use Rattle.std.proofs.Common.{◌≤◌, ◌<◌, ℕ, Bool, Some, None, refl, ap, arith}
 use Rattle.walk_rest.specs.declared.level.Folder.{Folder}
 use Rattle.walk_rest.specs.declared.level.Level.{Level}
 use Rattle.walk_rest.specs.declared.level.Entries.{Entries}

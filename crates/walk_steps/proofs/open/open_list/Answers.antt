@@ -1,4 +1,4 @@
-use Rattle.std.proofs.Common.{◌≡◌, refl, sym, ◌∙◌, ap, inl, inr, reverse}
+use Rattle.std.proofs.Common.{refl, sym, ◌∙◌, ap, inl, inr, reverse}
 use Rattle.std.specs.Prelude.{is_some}
 use Rattle.walk_rest.proofs.ReadLemmas.{added_none, added_on, added_one}
 use Rattle.walk_rest.proofs.FolderLemmas.{refused_risen}

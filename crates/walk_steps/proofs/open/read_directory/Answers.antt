@@ -1,4 +1,4 @@
-use Rattle.std.proofs.Common.{◌≡◌, ℕ, inl, inr, Some, sym, subst, ◌∙◌, ap, arith}
+use Rattle.std.proofs.Common.{ℕ, inl, inr, sym, subst, ◌∙◌, ap, arith}
 use Rattle.std.specs.Prelude.{IsSome, OnOk}
 use Rattle.sd_edge.specs.Tree.{Tree}
 use Rattle.sd_edge.specs.Lists.{directory_of}

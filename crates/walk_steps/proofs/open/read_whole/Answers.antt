@@ -1,8 +1,8 @@
-use Rattle.std.proofs.Common.{◌≡◌, ◌+◌, length, Some, None, refl, sym, ◌∙◌, ap, arith}
+use Rattle.std.proofs.Common.{length, Some, None, refl, ap, arith}
 use Rattle.walk_rest.specs.declared.level.Level.{Level}
 use Rattle.walk_rest.specs.declared.level.Entries.TheVariants.{Unread, Kept}
 use Rattle.walk_rest.specs.Listing.{device_to}
-use Rattle.walk_steps.specs.Sound.{AreSound, opens}
+use Rattle.walk_steps.specs.Sound.{opens}
 use Rattle.walk_steps.proofs.leave.SoundLemmas.{all_same_reads, clear_unread}
 use Rattle.walk_steps.proofs.open.OpenLemmas.{clear_from, is_sound_top, keeps_none, keeps_top, less_top, most_open, no_top, not_ok, read_moves, sound_on, sound_top}
 use Rattle.walk_steps.proofs.next.CauseLemmas.{counts_read}
