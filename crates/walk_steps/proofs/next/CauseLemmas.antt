@@ -15,13 +15,14 @@ use Rattle.walk_rest.specs.declared.level.Level.{Level}
 use Rattle.walk_rest.specs.declared.level.Entries.{Entries}
 use Rattle.walk_rest.specs.declared.level.Entries.TheVariants.{Unread}
 use Rattle.walk_rest.specs.Rest.{Rest}
-use Rattle.walk_rest.specs.Plan.{Comparison, Item, Manner, Seen, fails, stays, enters, seen_by, seen_directory, seen_root_link, seen_unfollowed, seen_link, seen_target, followed_entry, folder_of, is_foreign, is_directory, is_link, ident_of, ancestor_with, item_where}
+use Rattle.walk_rest.specs.Names.{by_file_name}
+use Rattle.walk_rest.specs.Plan.{Comparison, Item, Manner, Seen, node_to, seen, fails, stays, enters, seen_by, seen_directory, seen_root_link, seen_unfollowed, seen_link, seen_target, followed_entry, folder_of, is_foreign, is_directory, is_link, ident_of, ancestor_with, item_where}
 use Rattle.walk_rest.specs.Level.{IsAllowed, AddsFaults, item_of}
 use Rattle.walk_steps.specs.declared.inside.Inside.{Inside}
 use Rattle.walk_steps.specs.Inside.{HasRest, IsRead, SameWalk, chain_of, levels_of, top_levels, with_top}
 use Rattle.walk_steps.specs.Sound.{IsFresh}
 use Rattle.walk_steps.specs.Steps.{CannotBegin, Enters, MovesTo}
-use Rattle.walk_steps.specs.Seen.{IsFailureAt, IsLoopIn, FailsAsSeen, HasCauseAt}
+use Rattle.walk_steps.specs.Seen.{ByEachManner, IsFailureAt, IsLoopIn, FailsAsSeen, HasCauseAt}
 use Rattle.walk_steps.specs.Causes.{faults_due, faults_told, CountsFaults, FitsTree, IsFolderOf, IsEnteredBy, IsCaused}
 use Rattle.walk_steps.proofs.leave.WithinLemmas.{retop_levels}
 use Rattle.walk_steps.proofs.next.StepLemmas.{allowed_one, rest_retop}
@@ -135,6 +136,22 @@ pub record FailsFor (tells : Bool) (a b : ℕ) (entry : DirEntry) (chain : List 
   pub at : Seen
   pub told : IsTrue tells → FailsAsSeen a b entry at failed
   pub rightly : FailsRightly chain entry at
+
+module _ {S : Type 0} where
+  pub fails_for : (tells : Bool) (s now : DiskState) (inside : Inside S) (chain : List Folder) (entry : DirEntry) (failed seen_as : Error) → failed ≡ seen_as → s.faults ≤ now.faults
+      → (tells ≡ false → HasCauseAt s.faults now.faults entry chain seen_as) → ByEachManner tells inside (λ manner. FailsAsSeen s.faults now.faults entry (seen s.tree manner chain entry) seen_as)
+      → FailsFor tells s.faults now.faults entry chain failed
+  fails_for tells s now inside chain entry failed seen_as same later untold told =
+      let manner : Manner = record { options = inside.options; sorts = false; compare = by_file_name; device = inside.device } in
+      let F : Error → Type 0 = FailsAsSeen s.faults now.faults entry (seen s.tree manner chain entry) in
+      let U : Error → Type 0 = HasCauseAt s.faults now.faults entry chain in
+      record {
+        later = later;
+        untold = λ e. subst U (sym same) (untold e);
+        at = seen s.tree manner chain entry;
+        told = λ tells_it. subst F (sym same) (told tells_it manner (record { options = refl; device = λ on. refl }));
+        rightly = seen_rightly chain manner entry (node_to s.tree entry.path true);
+      }
 
 rightly_failed : (chain : List Folder) (entry : DirEntry) (at : Seen) (failed : Error) → at ≡ fails failed → FailsRightly chain entry at → (failed ≡ error.Absent entry.path entry.depth) ⊎ IsLoopIn chain failed
 rightly_failed chain entry at failed e h = subst (FailsRightly chain entry) e h

@@ -15,8 +15,7 @@ use Rattle.walk_steps.specs.Steps.{TurnsTo}
 use Rattle.walk_steps.proofs.leave.SoundLemmas.{sound_split}
 use Rattle.walk_steps.proofs.leave.WithinLemmas.{keeps_on}
 use Rattle.walk_steps.proofs.next.MeetLemmas.{PutsBack, met_stays, met_error, met_enters, back_sound, back_keeps, back_work, seen_here, enters_sound, enters_keeps, enters_work, refused_keeps}
-use Rattle.walk_steps.proofs.next.CauseLemmas.{FailsFor, caused_met, caused_none, caused_ok, counts_same, entered_by, enters_due, error_allowed, read_not, seen_rightly, top_not}
-use Rattle.walk_steps.proofs.next.meet.Given as given
+use Rattle.walk_steps.proofs.next.CauseLemmas.{caused_met, caused_none, caused_ok, counts_same, entered_by, enters_due, error_allowed, fails_for, read_not, top_not}
 use Rattle.walk_steps.proofs.next.ListedLemmas.{enters_hidden, enters_settled, hidden_deep, settled_read}
 use Rattle.walk_steps.proofs.next.meet.Goals as goal
 
@@ -269,28 +268,10 @@ returns-in-None-clause-counted g c =
     counts_same 0 (g.D.Disk.state c.args.disk.now) (g.D.Disk.state c.see.new.disk) (levels_of (with_top c.args.inside.now c.args.level)) (levels_of c.enter.new.inside)
     (enters_due c.args.inside.now c.enter.new.inside c.args.level c.in-Ok-Enters.entry c.in-Ok-Enters.folder c.in_ok-entry-in-Ok-Enters.field-0 c.in_ok-entry-in-Ok-Enters.ensures.entered) (inl (omega (arith, later)))
 
--- what stands in place of the entry, and why
-failed_for : (g : given.Over) (c : goal.In_ok-named-in-Err g) → FailsFor g.D.Disk.tells (g.D.Disk.state c.args.disk.now).faults (g.D.Disk.state c.see.new.disk).faults c.args.entry (chain_of (with_top c.args.inside.now c.args.level)) c.in_ok-named-in-Err.field-0
-failed_for g c =
-    let s = g.D.Disk.state c.args.disk.now in
-    let now = g.D.Disk.state c.see.new.disk in
-    let inside = c.args.inside.now in
-    let chain = chain_of (with_top inside c.args.level) in
-    let m : Manner = record { options = inside.options; sorts = false; compare = by_file_name; device = inside.device } in
-    let same = c.in_ok-named-in-Err.ensures.same in
-    let F : Error → Type 0 = FailsAsSeen s.faults now.faults c.args.entry (seen s.tree m chain c.args.entry) in
-    let U : Error → Type 0 = HasCauseAt s.faults now.faults c.args.entry chain in
-    record {
-      later = c.see.ensures.faults;
-      untold = λ untold. subst U (sym same) (c.in-Err.ensures.cause untold);
-      at = seen s.tree m chain c.args.entry;
-      told = λ tells. subst F (sym same) (c.in-Err.ensures.failed tells m (record { options = refl; device = λ on. refl }));
-      rightly = seen_rightly chain m c.args.entry (node_to s.tree c.args.entry.path true);
-    }
-
 pub returns-in_ok-named-in-Err-clause-caused : goal.returns-in_ok-named-in-Err-clause-caused
 returns-in_ok-named-in-Err-clause-caused g c =
-    caused_met g.D.Disk.tells (g.D.Disk.state c.args.disk.now) (g.D.Disk.state c.see.new.disk) c.args.entry c.in_ok-named-in-Err.field-0 (with_top c.args.inside.now c.args.level) (failed_for g c)
+    caused_met g.D.Disk.tells (g.D.Disk.state c.args.disk.now) (g.D.Disk.state c.see.new.disk) c.args.entry c.in_ok-named-in-Err.field-0 (with_top c.args.inside.now c.args.level) (fails_for g.D.Disk.tells (g.D.Disk.state c.args.disk.now) (g.D.Disk.state c.see.new.disk) c.args.inside.now (chain_of (with_top c.args.inside.now c.args.level)) c.args.entry c.in_ok-named-in-Err.field-0 _ c.in_ok-named-in-Err.ensures.same
+    c.see.ensures.faults c.in-Err.ensures.cause c.in-Err.ensures.failed)
     (top_not (Some (Err c.in_ok-named-in-Err.field-0)) c.args.level (read_not c.args.level.entries c.requires.read))
 
 pub returns-in_ok-named-in-Err-clause-counted : goal.returns-in_ok-named-in-Err-clause-counted
@@ -299,7 +280,8 @@ returns-in_ok-named-in-Err-clause-counted g c =
     let now = g.D.Disk.state c.see.new.disk in
     let inside = with_top c.args.inside.now c.args.level in
     counts_same (faults_told g.D.Disk.tells (Some (Err c.in_ok-named-in-Err.field-0))) s now (levels_of inside) (levels_of inside) refl
-    (error_allowed g.D.Disk.tells s.faults now.faults c.args.entry (chain_of inside) c.in_ok-named-in-Err.field-0 (failed_for g c))
+    (error_allowed g.D.Disk.tells s.faults now.faults c.args.entry (chain_of inside) c.in_ok-named-in-Err.field-0 (fails_for g.D.Disk.tells (g.D.Disk.state c.args.disk.now) (g.D.Disk.state c.see.new.disk) c.args.inside.now (chain_of (with_top c.args.inside.now c.args.level)) c.args.entry c.in_ok-named-in-Err.field-0 _ c.in_ok-named-in-Err.ensures.same
+    c.see.ensures.faults c.in-Err.ensures.cause c.in-Err.ensures.failed))
 
 -- ---- what is passed over
 
