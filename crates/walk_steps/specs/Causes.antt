@@ -43,7 +43,7 @@ abbrev pub CountsFaults : ℕ → DiskState → List Level → DiskState → Lis
 CountsFaults told old before new after = (told + faults_due after + old.faults ≤ faults_due before + new.faults) ⊎ IsAtLast new.faults
 
 module _ {S : Type 0} where
-  -- on a disk that tells its tree, the levels are those of a walk over it
+  -- on a disk that tells its tree, something is left of a walk over it, by a comparison that is the order's
   abbrev pub FitsTree : Bool → (S → Comparison → Type 0) → DiskState → Bool → Inside S → Type 0
   FitsTree tells compares_by state sorts inside = IsTrue tells → (by : Comparison) × (rest : Rest) × compares_by inside.order by × HasRest state sorts by inside rest
 
@@ -59,7 +59,7 @@ IsLoopOf chain answer = (path : List ℕ) (depth : ℕ) (ancestor : List ℕ) (i
 
 -- ---- what was entered
 
--- the directory that an entry leads to
+-- a directory that an entry leads to has its path and depth
 pub record IsFolderOf (entry : DirEntry) (folder : Folder) : Type 0 where
   pub path : folder.path ≡ entry.path
   pub depth : folder.depth ≡ entry.depth

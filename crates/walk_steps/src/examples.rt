@@ -1,6 +1,6 @@
 //! Worked examples of what answers tell, and of what levels hold.
 
-ghost use Rattle.std.specs.Prelude.{◌≡◌, ℕ, Bool, true, false, List, [], ◌∷◌, Option, Some, None, Ok, Err, codes};
+ghost use Rattle.std.specs.Prelude.{◌≡◌, Bool, true, false, [], ◌∷◌, Some, None, Ok, Err, codes};
 ghost use Rattle.sd_edge.specs.Tree.{Tree};
 ghost use Rattle.sd_edge.specs.declared.meta.Ident.{Ident};
 ghost use Rattle.sd_edge.specs.declared.meta.RawEntry.{RawEntry};

@@ -1,4 +1,4 @@
-use Rattle.std.proofs.Common.{◌≡◌, ◌∷◌, [], refl, ap, inl, inr, arith, length}
+use Rattle.std.proofs.Common.{◌∷◌, [], refl, ap, inl, inr, arith, length}
 use Rattle.walk_steps.specs.Listed.{folders_in}
 use Rattle.walk_steps.proofs.examples.levels_are_counted_as_in_the_examples.Goals as goal
 

@@ -4,9 +4,8 @@ use Rattle.walk_rest.specs.declared.entry.DirEntry.{DirEntry}
 use Rattle.walk_rest.specs.Level.{item_of}
 use Rattle.walk_rest.specs.declared.error.Error.{Error}
 use Rattle.walk_rest.specs.declared.error.Error.TheVariants as error
-use Rattle.walk_rest.specs.Names.{by_file_name}
-use Rattle.walk_rest.specs.Plan.{Manner, Seen, seen, enters, item_where, node_to}
-use Rattle.walk_steps.specs.Seen.{FailsAsSeen, HasCauseAt}
+use Rattle.walk_rest.specs.Plan.{Seen, seen, enters, item_where}
+use Rattle.walk_steps.specs.Seen.{FailsAsSeen}
 use Rattle.walk_steps.specs.Causes.{faults_told}
 use Rattle.walk_rest.specs.Listing.{manner_of}
 use Rattle.walk_steps.specs.Inside.{chain_of, levels_of, with_top}
