@@ -2,3 +2,5 @@
 pub mod StepLemmas
 pub mod MeetLemmas
 pub mod TakeStepLemmas
+pub mod CauseLemmas
+pub mod ListedLemmas

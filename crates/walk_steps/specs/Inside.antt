@@ -59,6 +59,10 @@ module _ {S : Type 0} where
   abbrev pub chain_of : Inside S → List Folder
   chain_of inside = chain_above [] (levels_of inside)
 
+  -- with this level on top
+  abbrev pub chain_with : Inside S → Level → List Folder
+  chain_with inside level = chain_of (with_top inside level)
+
   -- how the walk goes over a tree
   abbrev pub manner_in : Tree → Bool → (DirEntry → DirEntry → Ordering) → Inside S → Manner
   manner_in tree sorts compare inside = manner_of tree inside.options sorts compare inside.root

@@ -4,3 +4,5 @@ pub mod Work
 pub mod Seen
 pub mod Steps
 pub mod Lists
+pub mod Causes
+pub mod Listed

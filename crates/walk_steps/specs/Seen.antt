@@ -1,7 +1,7 @@
 -- What the code makes of an entry.
-use Rattle.std.specs.Prelude.{◌≡◌, ◌⊎◌, ◌<◌, ℕ, Bool, true, false, IsTrue, not, ◌||◌, ◌&&◌, nat_lt, List, Option, Some, None, option_map}
+use Rattle.std.specs.Prelude.{◌≡◌, ◌⊎◌, ◌<◌, ℕ, Bool, IsTrue, ◌||◌, ◌&&◌, nat_lt, List, Option, Some, None, option_map}
 use Rattle.sd_edge.specs.Count.{HasRisen}
-use Rattle.sd_edge.specs.Tree.{Node, Tree}
+use Rattle.sd_edge.specs.Tree.{Node}
 use Rattle.sd_edge.specs.declared.fault.DiskFault.{DiskFault}
 use Rattle.sd_edge.specs.declared.fault.DiskFault.TheVariants.{Absent, Taken, Failed, NoMemory}
 use Rattle.sd_edge.specs.declared.meta.Ident.{Ident}
@@ -41,6 +41,10 @@ module _ {S : Type 0} where
   pub record GoesBy (inside : Inside S) (manner : Manner) : Type 0 where
     pub options : manner.options ≡ inside.options
     pub device : IsTrue inside.options.same_file_system → inside.device ≡ manner.device
+
+  -- on a disk that tells its tree, by each manner that the walk goes by
+  abbrev pub ByEachManner : Bool → Inside S → (Manner → Type 0) → Type 0
+  ByEachManner tells inside P = IsTrue tells → (manner : Manner) → GoesBy inside manner → P manner
 
 -- ---- parts of it
 

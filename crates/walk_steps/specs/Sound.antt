@@ -5,6 +5,7 @@ use Rattle.sd_edge.specs.Lists.{IsOpen}
 use Rattle.walk_rest.specs.declared.entry.DirEntry.{DirEntry}
 use Rattle.walk_rest.specs.declared.options.Options.{Options}
 use Rattle.walk_rest.specs.declared.level.Folder.{Folder}
+use Rattle.walk_rest.specs.declared.level.Due.{Due}
 use Rattle.walk_rest.specs.declared.level.Entries.{Entries}
 use Rattle.walk_rest.specs.declared.level.Entries.TheVariants.{Unread, Open, Kept}
 use Rattle.walk_rest.specs.declared.level.Level.{Level}
@@ -52,6 +53,26 @@ abbrev pub AreRead : List Level → Type 0
 AreRead [] = Unit {0}
 AreRead (level ∷ levels) = IsRead level.entries × AreRead levels
 
+-- the entries of an open list are items, as far as `max_depth` goes: its folder lies below that
+abbrev pub IsShallow : ℕ → Option Folder → Entries → Type 0
+IsShallow deepest folder Unread = Unit {0}
+IsShallow deepest folder (Open list) = depth_below folder ≤ deepest
+IsShallow deepest folder (Kept kept) = Unit {0}
+
+abbrev pub AreShallow : ℕ → List Level → Type 0
+AreShallow deepest [] = Unit {0}
+AreShallow deepest (level ∷ levels) = IsShallow deepest level.folder level.entries × AreShallow deepest levels
+
+-- of what wasn't read nothing is due before its entries
+abbrev pub IsFresh : Entries → Option DirEntry → List Due → Type 0
+IsFresh Unread first faults = (first ≡ None) × (faults ≡ [])
+IsFresh (Open list) first faults = Unit {0}
+IsFresh (Kept kept) first faults = Unit {0}
+
+abbrev pub IsTopFresh : Option Level → Type 0
+IsTopFresh None = Unit {0}
+IsTopFresh (Some level) = IsFresh level.entries level.first level.faults.items
+
 -- how many lists they hold open
 abbrev pub open_in : Entries → ℕ
 open_in Unread = 0
@@ -78,6 +99,8 @@ module _ {S : Type 0} where
     -- nothing is below where nothing is on top
     pub rooted : inside.top ≡ None → inside.stack.items ≡ []
     pub few : opens (levels_of inside) ≤ held_limit sorts inside.options
+    pub shallow : AreShallow inside.options.max_depth (levels_of inside)
+    pub fresh : IsTopFresh inside.top
 
 -- all lists but that of these entries stay
 abbrev pub SameOtherThan : DiskState → Entries → DiskState → Type 0
@@ -88,17 +111,23 @@ abbrev pub StaysWithin : ℕ → DiskState → List Level → DiskState → List
 StaysWithin limit old before new after =
     (others : ℕ) → old.open_count ≡ others + opens before → (new.open_count ≡ others + opens after) × (new.open_most ≤ max old.open_most (others + limit))
 
+-- A list that is open and that no level reads stays as it is, and no level comes to read it.
+abbrev pub SameOthers : DiskState → List Level → DiskState → List Level → Type 0
+SameOthers old before new after = (number : ℕ) → AreApart number before → IsOpen old number → (new.open_list number ≡ old.open_list number) × AreApart number after
+
 module _ {S : Type 0} where
   -- the levels below the topmost, where that holds no list
   pub record IsSoundBelow (state : DiskState) (sorts : Bool) (inside : Inside S) : Type 0 where
     pub lists : AreSound state inside.stack.items
     pub read : AreRead inside.stack.items
     pub few : opens inside.stack.items ≤ held_limit sorts inside.options
+    pub shallow : AreShallow inside.options.max_depth inside.stack.items
 
-  -- The walk stays sound and within its limit of open lists, and what the disk tells otherwise stays.
+  -- The walk stays sound and within its limit of open lists, and what the disk tells otherwise stays, with all lists of others.
   pub record KeepsWalk (old : DiskState) (before : Inside S) (new : DiskState) (now : Inside S) : Type 0 where
     pub lists : AreSound new (levels_of now)
     pub within : StaysWithin (open_limit before.options) old (levels_of before) new (levels_of now)
+    pub others : SameOthers old (levels_of before) new (levels_of now)
     pub same : SameWalk before now
     pub tree : SameTree old new
     pub faults : old.faults ≤ new.faults

@@ -1,8 +1,7 @@
 -- What the parts of a step do to what is left of a walk.
-use Rattle.std.specs.Prelude.{◌≡◌, ◌⊎◌, ℕ, Bool, true, IsTrue, List, [], ◌∷◌, ◌++◌, Option, Some, None, Err, option_map}
+use Rattle.std.specs.Prelude.{◌≡◌, ◌⊎◌, ◌<◌, ℕ, Bool, false, IsTrue, List, [], ◌∷◌, ◌++◌, Option, Some, None, option_map}
 use Rattle.std.specs.declared.cmp.Ordering.{Ordering}
 use Rattle.sd_edge.specs.Count.{HasRisen}
-use Rattle.sd_edge.specs.Tree.{Tree}
 use Rattle.sd_edge.specs.Disk.{DiskState}
 use Rattle.walk_rest.specs.declared.entry.DirEntry.{DirEntry}
 use Rattle.walk_rest.specs.declared.error.Error.{Error}
@@ -11,20 +10,20 @@ use Rattle.walk_rest.specs.declared.level.Folder.{Folder}
 use Rattle.walk_rest.specs.declared.level.Entries.TheVariants.{Unread}
 use Rattle.walk_rest.specs.declared.level.Level.{Level}
 use Rattle.walk_rest.specs.declared.options.Options.{Options}
-use Rattle.walk_rest.specs.Plan.{Item, IsPlan, item_before, item_after}
-use Rattle.walk_rest.specs.Listing.{Beginning, ends, begins, beginning, device_to}
+use Rattle.walk_rest.specs.Plan.{Comparison, Item, IsPlan, item_before, item_after}
+use Rattle.walk_rest.specs.Listing.{ends, beginning, device_to}
 use Rattle.walk_rest.specs.Rest.{Part, Rest, Moves, IsStep, Skips}
 use Rattle.walk_rest.specs.Level.{HasParts, IsAllowed, chain_above, with_folder, item_of}
 use Rattle.walk_steps.specs.declared.inside.Inside.{Inside}
-use Rattle.walk_steps.specs.Inside.{HasRest, entries_due, manner_in, levels_of, SameWalk}
+use Rattle.walk_steps.specs.Inside.{HasRest, entries_due, manner_in}
 
 -- ---- the root
 
--- a call on the root failed, and was counted; or it leads nowhere, as the tree has it
+-- a call on the root failed, and was counted; or it leads nowhere, as the tree has it, or as the disk counted where it doesn't tell its tree
 abbrev pub CannotBegin : Bool → DiskState → DiskState → Options → List ℕ → Error → Type 0
 CannotBegin tells old new options root failed =
     (failed ≡ error.NoMemory) ⊎ (((failed ≡ error.Disk (Some root) 0) × HasRisen old.faults new.faults)
-    ⊎ ((failed ≡ error.Absent root 0) × (IsTrue tells → beginning old.tree options root ≡ ends failed)))
+    ⊎ ((failed ≡ error.Absent root 0) × (IsTrue tells → beginning old.tree options root ≡ ends failed) × (tells ≡ false → old.faults < new.faults)))
 
 module _ {S : Type 0} where
   -- ---- steps
@@ -49,6 +48,10 @@ module _ {S : Type 0} where
   abbrev pub TurnsTo : DiskState → Bool → (DirEntry → DirEntry → Ordering) → Rest → Option Item → DiskState → Inside S → Type 0
   TurnsTo before sorts compare rest None now inside = MovesTo before sorts compare rest now inside
   TurnsTo before sorts compare rest (Some item) now inside = StepsTo before sorts compare rest (Some item) now inside
+
+  -- on a disk that tells its tree, by each comparison that is the order's and each rest that the walk has
+  abbrev pub ByEachRest : Bool → (S → Comparison → Type 0) → DiskState → Bool → Inside S → (Comparison → Rest → Type 0) → Type 0
+  ByEachRest tells compares_by state sorts inside P = IsTrue tells → (by : Comparison) (rest : Rest) → compares_by inside.order by → HasRest state sorts by inside rest → P by rest
 
   -- ---- an entry that was taken
 

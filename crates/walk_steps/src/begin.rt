@@ -14,8 +14,10 @@ use walk_rest::{DirEntry, Error};
 /// the root, and for want of memory.
 pub fn begin<D: Disk, S>(disk: &mut D, inside: &mut Inside<S>) -> Result<DirEntry, Error>
     ensures begun { IsTrue D.tells → IfOk result (λ entry. beginning (D.state disk.old).tree inside.old.options inside.old.root ≡ begins entry) }
-    ensures device { IsTrue D.tells → IfOk result (λ entry. IsTrue inside.old.options.same_file_system → inside.new.device ≡ device_to (D.state disk.old).tree inside.old.root) }
-    ensures device_kept { IsTrue D.tells → IsTrue inside.old.options.same_file_system → (inside.new.device ≡ inside.old.device) ⊎ (inside.new.device ≡ device_to (D.state disk.old).tree inside.old.root) }
+    ensures device { IsTrue D.tells → IfOk result (λ entry. IsTrue inside.old.options.same_file_system
+        → inside.new.device ≡ device_to (D.state disk.old).tree inside.old.root) }
+    ensures device_kept { IsTrue D.tells → IsTrue inside.old.options.same_file_system → (inside.new.device ≡ inside.old.device)
+        ⊎ (inside.new.device ≡ device_to (D.state disk.old).tree inside.old.root) }
     ensures depth { IfOk result (λ entry. entry.depth ≡ 0) }
     ensures failed { IfErr result (CannotBegin D.tells (D.state disk.old) (D.state disk.new) inside.old.options inside.old.root) }
     ensures same { inside.new ≡ record inside.old { device = inside.new.device } }

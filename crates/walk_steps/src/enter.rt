@@ -41,7 +41,8 @@ pub fn enter<S>(
     folder: Folder,
 ) -> Result<Option<DirEntry>, NoMemory>
     ensures entered { IfOk result (λ given. Enters inside.old level entry folder inside.new given) }
-    ensures refused { OnErr result ((kept : level_type.Level) × (levels_of inside.new ≡ inside.old.stack.items ++ kept ∷ []) × (kept.folder ≡ level.folder) × (kept.entries ≡ level.entries)) }
+    ensures refused { OnErr result ((kept : level_type.Level) × (levels_of inside.new ≡ inside.old.stack.items ++ kept ∷ [])
+        × (kept.folder ≡ level.folder) × (kept.entries ≡ level.entries)) }
     ensures same { SameWalk inside.old inside.new }
     ensures device { inside.new.device ≡ inside.old.device }
 {

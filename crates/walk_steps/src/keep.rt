@@ -2,9 +2,10 @@
 
 ghost use Rattle.std.specs.Prelude.{◌≡◌, ◌+◌, ◌<◌, ◌≤◌, ℕ, IsTrue, IfSome, IfNone, OnOk, OnErr};
 ghost use Rattle.sd_edge.specs.Disk.{SameTree};
-ghost use Rattle.walk_rest.specs.Level.{IsOpenEntries};
+ghost use Rattle.walk_rest.specs.Level.{AddsFaults, IsOpenEntries};
+ghost use Rattle.walk_steps.specs.Causes.{CountsFaults};
 ghost use Rattle.walk_steps.specs.Inside.{IsRead};
-ghost use Rattle.walk_steps.specs.Sound.{AreApart, AreRead, AreSound, IsReadable, SameOtherThan, StaysWithin, open_in, opens};
+ghost use Rattle.walk_steps.specs.Sound.{AreApart, AreRead, AreShallow, AreSound, IsReadable, SameOtherThan, StaysWithin, open_in, opens};
 ghost use Rattle.walk_steps.specs.Lists.{IsOldestOpen, KeepsLevel, KeepsOldest};
 ghost use Rattle.walk_steps.specs.Work.{work_in, work_of};
 
@@ -28,9 +29,12 @@ pub fn keep_list<D: Disk>(
     ensures not_more { opens levels.new.items ≤ opens levels.old.items }
     ensures within { StaysWithin 0 (D.state disk.old) levels.old.items (D.state disk.new) levels.new.items }
     ensures others { (number : ℕ) → AreApart number levels.old.items → (D.state disk.new).open_list number ≡ (D.state disk.old).open_list number }
+    ensures apart { (number : ℕ) → AreApart number levels.old.items → AreApart number levels.new.items }
+    ensures shallow { (deepest : ℕ) → AreShallow deepest levels.old.items → AreShallow deepest levels.new.items }
     ensures tree { SameTree (D.state disk.old) (D.state disk.new) }
     ensures faults { (D.state disk.old).faults ≤ (D.state disk.new).faults }
     ensures later { (D.state disk.old).listed ≤ (D.state disk.new).listed }
+    ensures counted { OnOk result (CountsFaults 0 (D.state disk.old) levels.old.items (D.state disk.new) levels.new.items) }
     ensures work { OnOk result (work_in (D.state disk.new) levels.new.items ≤ work_in (D.state disk.old) levels.old.items) }
 {
     if let Some(place) = oldest_open(levels.as_slice()) {
@@ -66,6 +70,7 @@ fn keep_level<D: Disk>(alloc: Global, disk: &mut D, level: &mut Level) -> Result
     ensures tree { SameTree (D.state disk.old) (D.state disk.new) }
     ensures faults { (D.state disk.old).faults ≤ (D.state disk.new).faults }
     ensures later { (D.state disk.old).listed ≤ (D.state disk.new).listed }
+    ensures due { OnOk result (AddsFaults (D.state disk.old) level.old.faults.items (D.state disk.new) level.new.faults.items) }
     ensures work { OnOk result (work_of (D.state disk.new) level.new ≤ work_of (D.state disk.old) level.old) }
 {
     let list = match &level.entries {

@@ -1,12 +1,11 @@
 //! Leaving directories.
 
 ghost use Rattle.std.specs.Prelude.{◌≡◌, ◌+◌, ◌∷◌, ◌≤◌, IsTrue, []};
-ghost use Rattle.std.specs.declared.cmp.Ordering as ordering;
 ghost use Rattle.sd_edge.specs.Disk.{SameTree};
-ghost use Rattle.walk_rest.specs.declared.entry.DirEntry as entry;
+ghost use Rattle.walk_rest.specs.Plan.{Comparison};
 ghost use Rattle.walk_rest.specs.Rest.{Rest};
 ghost use Rattle.walk_steps.specs.Inside.{HasRest, SameWalk, levels_of};
-ghost use Rattle.walk_steps.specs.Sound.{AreSound, IsSound, SameOtherThan, StaysWithin, open_in, opens};
+ghost use Rattle.walk_steps.specs.Sound.{AreSound, IsSound, SameOtherThan, SameOthers, StaysWithin, open_in};
 ghost use Rattle.walk_steps.specs.Steps.{SkipsTo};
 ghost use Rattle.walk_steps.specs.Work.{left_to_do};
 
@@ -32,11 +31,12 @@ pub fn close_level<D: Disk>(disk: &mut D, level: Level)
 /// Leaves the directory that was entered last, with all that is due of it: its list is closed, and never opened. Does nothing where only the root stands.
 pub fn skip_top<D: Disk, S: Order>(disk: &mut D, inside: &mut Inside<S>)
     requires { IsSound (D.state disk.old) (S.sorts inside.old.order) inside.old }
-    ensures skipped { IsTrue D.tells → (by : entry.DirEntry → entry.DirEntry → ordering.Ordering) → (rest : Rest) → HasRest (D.state disk.old) (S.sorts inside.old.order) by inside.old rest
+    ensures skipped { IsTrue D.tells → (by : Comparison) → (rest : Rest) → HasRest (D.state disk.old) (S.sorts inside.old.order) by inside.old rest
         → SkipsTo (S.sorts inside.old.order) by rest (D.state disk.new) inside.new }
     ensures sound { IsSound (D.state disk.new) (S.sorts inside.new.order) inside.new }
     ensures same { SameWalk inside.old inside.new }
     ensures within { StaysWithin 0 (D.state disk.old) (levels_of inside.old) (D.state disk.new) (levels_of inside.new) }
+    ensures others { SameOthers (D.state disk.old) (levels_of inside.old) (D.state disk.new) (levels_of inside.new) }
     ensures not_more { left_to_do (D.state disk.new) inside.new ≤ left_to_do (D.state disk.old) inside.old }
     ensures listed { (D.state disk.new).listed ≡ (D.state disk.old).listed }
     ensures tree { SameTree (D.state disk.old) (D.state disk.new) }
@@ -60,6 +60,7 @@ pub fn give_up<D: Disk, S>(disk: &mut D, inside: &mut Inside<S>)
     ensures gone { levels_of inside.new ≡ [] }
     ensures same { SameWalk inside.old inside.new }
     ensures within { StaysWithin 0 (D.state disk.old) (levels_of inside.old) (D.state disk.new) [] }
+    ensures others { SameOthers (D.state disk.old) (levels_of inside.old) (D.state disk.new) [] }
     ensures listed { (D.state disk.new).listed ≡ (D.state disk.old).listed }
     ensures tree { SameTree (D.state disk.old) (D.state disk.new) }
     ensures faults { (D.state disk.new).faults ≡ (D.state disk.old).faults }

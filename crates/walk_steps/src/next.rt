@@ -1,14 +1,16 @@
 //! The next item of a walk.
 
-ghost use Rattle.std.specs.Prelude.{◌≡◌, ◌≢◌, ◌+◌, ◌^◌, ◌<◌, ◌≤◌, ◌⊎◌, ◌↔◌, [], Some, None, Err, IsTrue, IfOk, OnOk, OnSome, IfNone};
-ghost use Rattle.std.specs.declared.cmp.Ordering as ordering;
+ghost use Rattle.std.specs.Prelude.{◌≡◌, ◌≢◌, ◌+◌, ◌^◌, ◌<◌, ◌≤◌, ◌⊎◌, ◌↔◌, ℕ, true, false, [], Some, None, Err, IsTrue, IfOk, OnOk, OnSome, IfNone};
+ghost use Rattle.sd_edge.specs.Count.{HasRisen};
 ghost use Rattle.sd_edge.specs.Disk.{SameTree};
-ghost use Rattle.walk_rest.specs.declared.entry.DirEntry as entry_type;
 ghost use Rattle.walk_rest.specs.declared.error.Error.TheVariants as error;
+ghost use Rattle.walk_rest.specs.Plan.{Comparison};
 ghost use Rattle.walk_rest.specs.Rest.{Rest};
-ghost use Rattle.walk_steps.specs.Inside.{HasRest, IsRead, SameWalk, levels_of, with_top};
-ghost use Rattle.walk_steps.specs.Sound.{IsSound, KeepsWalk, StaysWithin, depth_below, open_limit};
-ghost use Rattle.walk_steps.specs.Steps.{HasTaken, StepsTo, TurnsTo};
+ghost use Rattle.walk_steps.specs.Causes.{CountsAbsent, CountsFaults, FitsTree, IsCaused, IsEnteredBy, IsLoopOf, faults_told};
+ghost use Rattle.walk_steps.specs.Inside.{HasRest, IsRead, SameWalk, chain_of, levels_of, with_top};
+ghost use Rattle.walk_steps.specs.Listed.{GivesAtOnce, HasRoom, IsToList, IsToListOnTop, IsTopSettled, entered_in};
+ghost use Rattle.walk_steps.specs.Sound.{IsSound, KeepsWalk, SameOthers, StaysWithin, depth_below, open_in, open_limit};
+ghost use Rattle.walk_steps.specs.Steps.{ByEachRest, HasTaken, StepsTo, TurnsTo};
 ghost use Rattle.walk_steps.specs.Work.{left_to_do};
 
 use crate::Inside;
@@ -27,15 +29,27 @@ pub fn next_item<D: Disk, S: Order>(
 ) -> Option<Result<DirEntry, Error>>
     requires sound { IsSound (D.state disk.old) (S.sorts inside.old.order) inside.old }
     requires order { S.can_compare inside.old.order }
-    ensures step { IsTrue D.tells → (by : entry_type.DirEntry → entry_type.DirEntry → ordering.Ordering) (rest : Rest) → S.compares_by inside.old.order by
-        → HasRest (D.state disk.old) (S.sorts inside.old.order) by inside.old rest
-        → (result ≡ Some (Err error.NoMemory)) ⊎ StepsTo (D.state disk.old) (S.sorts inside.old.order) by rest result (D.state disk.new) inside.new }
+    ensures step { ByEachRest D.tells S.compares_by (D.state disk.old) (S.sorts inside.old.order) inside.old (λ by rest.
+        (result ≡ Some (Err error.NoMemory)) ⊎ StepsTo (D.state disk.old) (S.sorts inside.old.order) by rest result (D.state disk.new) inside.new) }
     ensures sound { IsSound (D.state disk.new) (S.sorts inside.new.order) inside.new }
     ensures same { SameWalk inside.old inside.new }
     ensures less { OnSome result (left_to_do (D.state disk.new) inside.new < left_to_do (D.state disk.old) inside.old) }
     ensures ended { IfNone result (levels_of inside.new ≡ []) }
     ensures gave_up { result ≡ Some (Err error.NoMemory) → levels_of inside.new ≡ [] }
     ensures within { StaysWithin (open_limit inside.old.options) (D.state disk.old) (levels_of inside.old) (D.state disk.new) (levels_of inside.new) }
+    ensures others { SameOthers (D.state disk.old) (levels_of inside.old) (D.state disk.new) (levels_of inside.new) }
+    ensures counted { FitsTree D.tells S.compares_by (D.state disk.old) (S.sorts inside.old.order) inside.old
+        → CountsFaults (faults_told D.tells result) (D.state disk.old) (levels_of inside.old) (D.state disk.new) (levels_of inside.new) }
+    ensures absent { CountsAbsent D.tells (D.state disk.old) result (D.state disk.new) }
+    ensures looped { IsLoopOf (chain_of inside.new) result }
+    ensures listed_once { S.sorts inside.old.order ≡ false → GivesAtOnce inside.old.options → entered_in (levels_of inside.old) ≤ open_limit inside.old.options
+        → (D.state disk.new).listed ≤ (D.state disk.old).listed + 1 }
+    ensures listed_whole { IsTrue D.tells → (by : Comparison) (count : ℕ) → S.compares_by inside.old.order by
+        → S.sorts inside.old.order ≡ true → GivesAtOnce inside.old.options
+        → IsToListOnTop (D.state disk.old).tree inside.old.options.max_depth inside.old.top count
+        → ¬ HasRisen (D.state disk.old).faults (D.state disk.new).faults → result ≢ Some (Err error.NoMemory)
+        → (D.state disk.new).listed ≡ (D.state disk.old).listed + count }
+    ensures entered { IsEnteredBy result inside.new.top }
     ensures tree { SameTree (D.state disk.old) (D.state disk.new) }
     ensures faults { (D.state disk.old).faults ≤ (D.state disk.new).faults }
 {
@@ -62,12 +76,26 @@ fn turn<D: Disk, S: Order>(
     requires sound { IsSound (D.state disk.old) (S.sorts inside.old.order) (with_top inside.old level) }
     requires order { S.can_compare inside.old.order }
     requires top { inside.old.top ≡ None }
-    ensures turns { IsTrue D.tells → (by : entry_type.DirEntry → entry_type.DirEntry → ordering.Ordering) (rest : Rest) → S.compares_by inside.old.order by
-        → HasRest (D.state disk.old) (S.sorts inside.old.order) by (with_top inside.old level) rest
-        → IfOk result (λ answer. TurnsTo (D.state disk.old) (S.sorts inside.old.order) by rest answer (D.state disk.new) inside.new) }
+    ensures turns { ByEachRest D.tells S.compares_by (D.state disk.old) (S.sorts inside.old.order) (with_top inside.old level) (λ by rest.
+        IfOk result (λ answer. TurnsTo (D.state disk.old) (S.sorts inside.old.order) by rest answer (D.state disk.new) inside.new)) }
     ensures named { IfOk result (λ answer. answer ≢ Some (Err error.NoMemory)) }
     ensures sound { OnOk result (IsSound (D.state disk.new) (S.sorts inside.new.order) inside.new) }
     ensures keeps { KeepsWalk (D.state disk.old) (with_top inside.old level) (D.state disk.new) inside.new }
+    ensures counted { FitsTree D.tells S.compares_by (D.state disk.old) (S.sorts inside.old.order) (with_top inside.old level)
+        → IfOk result (λ answer.
+        CountsFaults (faults_told D.tells answer) (D.state disk.old) (levels_of (with_top inside.old level)) (D.state disk.new) (levels_of inside.new)) }
+    ensures caused { IfOk result (λ answer. IsCaused D.tells (D.state disk.old) (D.state disk.new) answer inside.new) }
+    ensures settles { GivesAtOnce inside.old.options → IfOk result (λ answer. IfNone answer (IsTopSettled inside.old.options.max_depth inside.new.top)) }
+    ensures listed_once { S.sorts inside.old.order ≡ false → GivesAtOnce inside.old.options
+        → HasRoom (open_limit inside.old.options) inside.old.options.max_depth inside.old.stack.items (Some level)
+        → (D.state disk.new).listed ≤ (D.state disk.old).listed + 1 }
+    ensures passes { S.sorts inside.old.order ≡ false → GivesAtOnce inside.old.options
+        → HasRoom (open_limit inside.old.options) inside.old.options.max_depth inside.old.stack.items (Some level)
+        → IfOk result (λ answer. IfNone answer ((D.state disk.new).listed ≡ (D.state disk.old).listed)) }
+    ensures listed_whole { IsTrue D.tells → (by : Comparison) (count : ℕ) → S.compares_by inside.old.order by → S.sorts inside.old.order ≡ true
+        → IsToList (D.state disk.old).tree inside.old.options.max_depth level.folder level.entries count
+        → ¬ HasRisen (D.state disk.old).faults (D.state disk.new).faults
+        → OnOk result ((D.state disk.new).listed ≡ (D.state disk.old).listed + count) }
     ensures less { OnOk result (left_to_do (D.state disk.new) inside.new < left_to_do (D.state disk.old) (with_top inside.old level)) }
 {
     let mut level = level;
@@ -121,12 +149,18 @@ fn take_next<D: Disk, S: Order>(
     requires read { IsRead level.entries }
     requires first { level.first ≡ None }
     requires faultless { level.faults.items ≡ [] }
-    ensures turns { IsTrue D.tells → (by : entry_type.DirEntry → entry_type.DirEntry → ordering.Ordering) (rest : Rest)
+    ensures turns { IsTrue D.tells → (by : Comparison) (rest : Rest)
         → HasRest (D.state disk.old) (S.sorts inside.old.order) by (with_top inside.old level) rest
         → IfOk result (λ answer. TurnsTo (D.state disk.old) (S.sorts inside.old.order) by rest answer (D.state disk.new) inside.new) }
     ensures named { IfOk result (λ answer. answer ≢ Some (Err error.NoMemory)) }
     ensures sound { OnOk result (IsSound (D.state disk.new) (S.sorts inside.new.order) inside.new) }
     ensures keeps { KeepsWalk (D.state disk.old) (with_top inside.old level) (D.state disk.new) inside.new }
+    ensures counted { IfOk result (λ answer.
+        CountsFaults (faults_told D.tells answer) (D.state disk.old) (levels_of (with_top inside.old level)) (D.state disk.new) (levels_of inside.new)) }
+    ensures caused { IfOk result (λ answer. IsCaused D.tells (D.state disk.old) (D.state disk.new) answer inside.new) }
+    ensures settles { GivesAtOnce inside.old.options → IfOk result (λ answer. IfNone answer (IsTopSettled inside.old.options.max_depth inside.new.top)) }
+    ensures listed_once { (D.state disk.new).listed ≤ (D.state disk.old).listed + open_in level.entries }
+    ensures passes { GivesAtOnce inside.old.options → IfOk result (λ answer. IfNone answer ((D.state disk.new).listed ≡ (D.state disk.old).listed)) }
     ensures less { OnOk result (left_to_do (D.state disk.new) inside.new < left_to_do (D.state disk.old) (with_top inside.old level)) }
 {
     let mut level = level;
@@ -173,12 +207,17 @@ fn meet<D: Disk, S: Order>(
     requires first { level.first ≡ None }
     requires faultless { level.faults.items ≡ [] }
     requires depth { entry.depth ≡ depth_below level.folder }
-    ensures turns { IsTrue D.tells → (by : entry_type.DirEntry → entry_type.DirEntry → ordering.Ordering) (rest : Rest)
+    ensures turns { IsTrue D.tells → (by : Comparison) (rest : Rest)
         → HasTaken (D.state disk.old) (S.sorts inside.old.order) by inside.old level entry rest
         → IfOk result (λ answer. TurnsTo (D.state disk.old) (S.sorts inside.old.order) by rest answer (D.state disk.new) inside.new) }
     ensures named { IfOk result (λ answer. answer ≢ Some (Err error.NoMemory)) }
     ensures sound { OnOk result (IsSound (D.state disk.new) (S.sorts inside.new.order) inside.new) }
     ensures keeps { KeepsWalk (D.state disk.old) (with_top inside.old level) (D.state disk.new) inside.new }
+    ensures counted { IfOk result (λ answer.
+        CountsFaults (faults_told D.tells answer) (D.state disk.old) (levels_of (with_top inside.old level)) (D.state disk.new) (levels_of inside.new)) }
+    ensures caused { IfOk result (λ answer. IsCaused D.tells (D.state disk.old) (D.state disk.new) answer inside.new) }
+    ensures hides { GivesAtOnce inside.old.options → IfOk result (λ answer. IfNone answer (inside.old.options.max_depth < entry.depth)) }
+    ensures settles { GivesAtOnce inside.old.options → IfOk result (λ answer. IfNone answer (IsTopSettled inside.old.options.max_depth inside.new.top)) }
     ensures listed { (D.state disk.new).listed ≡ (D.state disk.old).listed }
     ensures little { OnOk result (left_to_do (D.state disk.new) inside.new ≤ left_to_do (D.state disk.old) (with_top inside.old level) + 4) }
 {

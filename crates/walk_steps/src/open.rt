@@ -1,19 +1,23 @@
 //! Reading what was entered for the first time.
 
-ghost use Rattle.std.specs.Prelude.{◌≡◌, ◌≢◌, ◌+◌, ◌<◌, ◌≤◌, ◌^◌, ℕ, max, vec_len, List, true, false, None, Some, Err, IsTrue, IfOk, OnOk, OnErr};
-ghost use Rattle.std.specs.declared.cmp.Ordering as ordering;
+ghost use Rattle.std.specs.Prelude.{◌≡◌, ◌≢◌, ◌⊎◌, ◌+◌, ◌<◌, ◌≤◌, ◌^◌, ℕ, max, vec_len, List, true, false, None, Some, Err, IsTrue, IsSome, IfOk, OnOk, OnErr};
 ghost use Rattle.sd_edge.specs.declared.meta.RawEntry as raw;
 ghost use Rattle.sd_edge.specs.Disk.{SameLists, SameTree};
-ghost use Rattle.sd_edge.specs.Lists.{IsOpen};
-ghost use Rattle.walk_rest.specs.declared.entry.DirEntry as entry;
+ghost use Rattle.sd_edge.specs.Count.{HasRisen};
+ghost use Rattle.sd_edge.specs.Lists.{IsOpen, directory_of};
 ghost use Rattle.walk_rest.specs.declared.level.Folder as folder;
 ghost use Rattle.walk_rest.specs.declared.level.Level as level;
-ghost use Rattle.walk_rest.specs.Plan.{ListsNames};
+ghost use Rattle.walk_rest.specs.declared.level.Entries.TheVariants.{Unread};
+ghost use Rattle.walk_rest.specs.Level.{AddsFaults};
+ghost use Rattle.walk_rest.specs.Plan.{Comparison, ListsNames};
 ghost use Rattle.walk_rest.specs.Rest.{Rest};
-ghost use Rattle.walk_steps.specs.Inside.{HasRest, IsRead, with_top};
+ghost use Rattle.walk_steps.specs.Causes.{CountsFaults, IsCaused, faults_told};
+ghost use Rattle.walk_steps.specs.Inside.{HasRest, IsRead, levels_of, with_top};
+ghost use Rattle.walk_steps.specs.Listed.{IsToList, IsTopSettled};
 ghost use Rattle.walk_steps.specs.Lists.{OpensFolder};
-ghost use Rattle.walk_steps.specs.Sound.{AreRead, AreSound, IsApart, IsReadable, IsSound, IsSoundBelow, KeepsWalk, SameOtherThan, StaysWithin, open_in, open_limit, opens};
-ghost use Rattle.walk_steps.specs.Steps.{LiesUnread, MovesTo, TurnsTo};
+ghost use Rattle.walk_steps.specs.Sound.{AreRead, AreShallow, AreSound, IsApart, IsReadable, IsSound, IsSoundBelow, KeepsWalk};
+ghost use Rattle.walk_steps.specs.Sound.{SameOtherThan, SameOthers, StaysWithin, open_in, open_limit, opens};
+ghost use Rattle.walk_steps.specs.Steps.{ByEachRest, LiesUnread, MovesTo, TurnsTo};
 ghost use Rattle.walk_steps.specs.Work.{left_to_do, weight_in, work_in};
 
 use crate::Inside;
@@ -32,13 +36,19 @@ pub fn read_root<D: Disk, S: Order>(
 ) -> Result<Option<Result<DirEntry, Error>>, NoMemory>
     requires sound { IsSoundBelow (D.state disk.old) (S.sorts inside.old.order) inside.old }
     requires taken { inside.old.top ≡ None }
-    ensures turns { IsTrue D.tells → (by : entry.DirEntry → entry.DirEntry → ordering.Ordering) (lying : level.Level) (rest : Rest) → LiesUnread lying None
+    ensures turns { IsTrue D.tells → (by : Comparison) (lying : level.Level) (rest : Rest) → LiesUnread lying None
         → HasRest (D.state disk.old) (S.sorts inside.old.order) by (with_top inside.old lying) rest
         → IfOk result (λ answer. TurnsTo (D.state disk.old) (S.sorts inside.old.order) by rest answer (D.state disk.new) inside.new) }
     ensures named { IfOk result (λ answer. answer ≢ Some (Err Error.NoMemory)) }
     ensures sound { OnOk result (IsSound (D.state disk.new) (S.sorts inside.new.order) inside.new) }
     ensures keeps { (lying : level.Level) → LiesUnread lying None → KeepsWalk (D.state disk.old) (with_top inside.old lying) (D.state disk.new) inside.new }
-    ensures less { (lying : level.Level) → LiesUnread lying None → OnOk result (left_to_do (D.state disk.new) inside.new < left_to_do (D.state disk.old) (with_top inside.old lying)) }
+    ensures counted { IfOk result (λ answer.
+        CountsFaults (faults_told D.tells answer) (D.state disk.old) inside.old.stack.items (D.state disk.new) (levels_of inside.new)) }
+    ensures caused { IfOk result (λ answer. IsCaused D.tells (D.state disk.old) (D.state disk.new) answer inside.new) }
+    ensures settled { OnOk result (IsTopSettled inside.old.options.max_depth inside.new.top) }
+    ensures unlisted { (D.state disk.new).listed ≡ (D.state disk.old).listed }
+    ensures less { (lying : level.Level) → LiesUnread lying None
+        → OnOk result (left_to_do (D.state disk.new) inside.new < left_to_do (D.state disk.old) (with_top inside.old lying)) }
 {
     let mut kept = Vec::new(inside.alloc);
     let answer = match begin(disk, inside) {
@@ -67,12 +77,25 @@ pub fn read_directory<D: Disk, S: Order>(
     requires sound { IsSoundBelow (D.state disk.old) (S.sorts inside.old.order) inside.old }
     requires taken { inside.old.top ≡ None }
     requires order { S.can_compare inside.old.order }
-    ensures moves { IsTrue D.tells → (by : entry.DirEntry → entry.DirEntry → ordering.Ordering) (lying : level.Level) (rest : Rest) → S.compares_by inside.old.order by → LiesUnread lying (Some folder)
-        → HasRest (D.state disk.old) (S.sorts inside.old.order) by (with_top inside.old lying) rest
-        → OnOk result (MovesTo (D.state disk.old) (S.sorts inside.old.order) by rest (D.state disk.new) inside.new) }
+    ensures moves { (lying : level.Level) → LiesUnread lying (Some folder)
+        → ByEachRest D.tells S.compares_by (D.state disk.old) (S.sorts inside.old.order) (with_top inside.old lying) (λ by rest.
+        OnOk result (MovesTo (D.state disk.old) (S.sorts inside.old.order) by rest (D.state disk.new) inside.new)) }
     ensures sound { OnOk result (IsSound (D.state disk.new) (S.sorts inside.new.order) inside.new) }
-    ensures keeps { (lying : level.Level) → LiesUnread lying (Some folder) → KeepsWalk (D.state disk.old) (with_top inside.old lying) (D.state disk.new) inside.new }
-    ensures less { (lying : level.Level) → LiesUnread lying (Some folder) → OnOk result (left_to_do (D.state disk.new) inside.new < left_to_do (D.state disk.old) (with_top inside.old lying)) }
+    ensures keeps { (lying : level.Level) → LiesUnread lying (Some folder)
+        → KeepsWalk (D.state disk.old) (with_top inside.old lying) (D.state disk.new) inside.new }
+    ensures counted { (lying : level.Level) → LiesUnread lying (Some folder)
+        → (IsTrue D.tells → folder.depth < inside.old.options.max_depth → IsSome (directory_of (D.state disk.old).tree folder.path))
+        → OnOk result (CountsFaults 0 (D.state disk.old) inside.old.stack.items (D.state disk.new) (levels_of inside.new)) }
+    ensures settled { OnOk result (IsTopSettled inside.old.options.max_depth inside.new.top) }
+    ensures unlisted { S.sorts inside.old.order ≡ false → (inside.old.options.max_depth ≤ folder.depth)
+        ⊎ (opens inside.old.stack.items < open_limit inside.old.options)
+        → (D.state disk.new).listed ≡ (D.state disk.old).listed }
+    ensures listed_whole { IsTrue D.tells → (by : Comparison) (count : ℕ) → S.compares_by inside.old.order by → S.sorts inside.old.order ≡ true
+        → IsToList (D.state disk.old).tree inside.old.options.max_depth (Some folder) Unread count
+        → ¬ HasRisen (D.state disk.old).faults (D.state disk.new).faults
+        → OnOk result ((D.state disk.new).listed ≡ (D.state disk.old).listed + count) }
+    ensures less { (lying : level.Level) → LiesUnread lying (Some folder)
+        → OnOk result (left_to_do (D.state disk.new) inside.new < left_to_do (D.state disk.old) (with_top inside.old lying)) }
 {
     if inside.options.max_depth <= folder.depth || inside.order.sorts() {
         return read_whole(disk, inside, folder);
@@ -92,12 +115,22 @@ fn read_whole<D: Disk, S: Order>(
     requires taken { inside.old.top ≡ None }
     requires order { S.can_compare inside.old.order }
     requires whole { folder.depth < inside.old.options.max_depth → S.sorts inside.old.order ≡ true }
-    ensures moves { IsTrue D.tells → (by : entry.DirEntry → entry.DirEntry → ordering.Ordering) (lying : level.Level) (rest : Rest) → S.compares_by inside.old.order by → LiesUnread lying (Some folder)
-        → HasRest (D.state disk.old) (S.sorts inside.old.order) by (with_top inside.old lying) rest
-        → OnOk result (MovesTo (D.state disk.old) (S.sorts inside.old.order) by rest (D.state disk.new) inside.new) }
+    ensures moves { (lying : level.Level) → LiesUnread lying (Some folder)
+        → ByEachRest D.tells S.compares_by (D.state disk.old) (S.sorts inside.old.order) (with_top inside.old lying) (λ by rest.
+        OnOk result (MovesTo (D.state disk.old) (S.sorts inside.old.order) by rest (D.state disk.new) inside.new)) }
     ensures sound { OnOk result (IsSound (D.state disk.new) (S.sorts inside.new.order) inside.new) }
-    ensures keeps { (lying : level.Level) → LiesUnread lying (Some folder) → KeepsWalk (D.state disk.old) (with_top inside.old lying) (D.state disk.new) inside.new }
-    ensures less { (lying : level.Level) → LiesUnread lying (Some folder) → OnOk result (left_to_do (D.state disk.new) inside.new < left_to_do (D.state disk.old) (with_top inside.old lying)) }
+    ensures keeps { (lying : level.Level) → LiesUnread lying (Some folder)
+        → KeepsWalk (D.state disk.old) (with_top inside.old lying) (D.state disk.new) inside.new }
+    ensures counted { (IsTrue D.tells → folder.depth < inside.old.options.max_depth → IsSome (directory_of (D.state disk.old).tree folder.path))
+        → OnOk result (CountsFaults 0 (D.state disk.old) inside.old.stack.items (D.state disk.new) (levels_of inside.new)) }
+    ensures settled { OnOk result (IsTopSettled inside.old.options.max_depth inside.new.top) }
+    ensures unlisted { inside.old.options.max_depth ≤ folder.depth → (D.state disk.new).listed ≡ (D.state disk.old).listed }
+    ensures listed_whole { IsTrue D.tells → (by : Comparison) (count : ℕ) → S.compares_by inside.old.order by
+        → IsToList (D.state disk.old).tree inside.old.options.max_depth (Some folder) Unread count
+        → ¬ HasRisen (D.state disk.old).faults (D.state disk.new).faults
+        → OnOk result ((D.state disk.new).listed ≡ (D.state disk.old).listed + count) }
+    ensures less { (lying : level.Level) → LiesUnread lying (Some folder)
+        → OnOk result (left_to_do (D.state disk.new) inside.new < left_to_do (D.state disk.old) (with_top inside.old lying)) }
 {
     let mut faults = Vec::new(inside.alloc);
     let entries = read_folder(
@@ -130,12 +163,18 @@ fn open_level<D: Disk, S: Order>(
     requires shallow { folder.depth < inside.old.options.max_depth }
     requires countable { folder.depth + 1 < 2 ^ 64 }
     requires room { opens inside.old.stack.items < open_limit inside.old.options }
-    ensures moves { IsTrue D.tells → (by : entry.DirEntry → entry.DirEntry → ordering.Ordering) (lying : level.Level) (rest : Rest) → S.compares_by inside.old.order by → LiesUnread lying (Some folder)
-        → HasRest (D.state disk.old) (S.sorts inside.old.order) by (with_top inside.old lying) rest
-        → OnOk result (MovesTo (D.state disk.old) (S.sorts inside.old.order) by rest (D.state disk.new) inside.new) }
+    ensures moves { (lying : level.Level) → LiesUnread lying (Some folder)
+        → ByEachRest D.tells S.compares_by (D.state disk.old) (S.sorts inside.old.order) (with_top inside.old lying) (λ by rest.
+        OnOk result (MovesTo (D.state disk.old) (S.sorts inside.old.order) by rest (D.state disk.new) inside.new)) }
     ensures sound { OnOk result (IsSound (D.state disk.new) (S.sorts inside.new.order) inside.new) }
-    ensures keeps { (lying : level.Level) → LiesUnread lying (Some folder) → KeepsWalk (D.state disk.old) (with_top inside.old lying) (D.state disk.new) inside.new }
-    ensures less { (lying : level.Level) → LiesUnread lying (Some folder) → OnOk result (left_to_do (D.state disk.new) inside.new < left_to_do (D.state disk.old) (with_top inside.old lying)) }
+    ensures keeps { (lying : level.Level) → LiesUnread lying (Some folder)
+        → KeepsWalk (D.state disk.old) (with_top inside.old lying) (D.state disk.new) inside.new }
+    ensures counted { (IsTrue D.tells → IsSome (directory_of (D.state disk.old).tree folder.path))
+        → OnOk result (CountsFaults 0 (D.state disk.old) inside.old.stack.items (D.state disk.new) (levels_of inside.new)) }
+    ensures settled { OnOk result (IsTopSettled inside.old.options.max_depth inside.new.top) }
+    ensures unlisted { (D.state disk.new).listed ≡ (D.state disk.old).listed }
+    ensures less { (lying : level.Level) → LiesUnread lying (Some folder)
+        → OnOk result (left_to_do (D.state disk.new) inside.new < left_to_do (D.state disk.old) (with_top inside.old lying)) }
 {
     let mut faults = Vec::new(inside.alloc);
     let entries = open_list(inside.alloc, disk, &folder, &mut faults)?;
@@ -152,7 +191,7 @@ fn open_level<D: Disk, S: Order>(
 fn make_room<D: Disk, S: Order>(disk: &mut D, inside: &mut Inside<S>) -> Result<(), NoMemory>
     requires sound { IsSoundBelow (D.state disk.old) (S.sorts inside.old.order) inside.old }
     requires unsorted { S.sorts inside.old.order ≡ false }
-    ensures moves { IsTrue D.tells → (by : entry.DirEntry → entry.DirEntry → ordering.Ordering) (lying : level.Level) (folder : folder.Folder) (rest : Rest) → LiesUnread lying (Some folder)
+    ensures moves { IsTrue D.tells → (by : Comparison) (lying : level.Level) (folder : folder.Folder) (rest : Rest) → LiesUnread lying (Some folder)
         → HasRest (D.state disk.old) (S.sorts inside.old.order) by (with_top inside.old lying) rest
         → OnOk result (MovesTo (D.state disk.old) (S.sorts inside.old.order) by rest (D.state disk.new) (with_top inside.new lying)) }
     ensures room { OnOk result (opens inside.new.stack.items < open_limit inside.old.options) }
@@ -160,10 +199,14 @@ fn make_room<D: Disk, S: Order>(disk: &mut D, inside: &mut Inside<S>) -> Result<
     ensures lists { AreSound (D.state disk.new) inside.new.stack.items }
     ensures read { AreRead inside.new.stack.items }
     ensures within { StaysWithin 0 (D.state disk.old) inside.old.stack.items (D.state disk.new) inside.new.stack.items }
+    ensures others { SameOthers (D.state disk.old) inside.old.stack.items (D.state disk.new) inside.new.stack.items }
+    ensures shallow { (deepest : ℕ) → AreShallow deepest inside.old.stack.items → AreShallow deepest inside.new.stack.items }
     ensures same { inside.new ≡ record inside.old { stack = inside.new.stack } }
     ensures tree { SameTree (D.state disk.old) (D.state disk.new) }
     ensures faults { (D.state disk.old).faults ≤ (D.state disk.new).faults }
     ensures later { (D.state disk.old).listed ≤ (D.state disk.new).listed }
+    ensures counted { OnOk result (CountsFaults 0 (D.state disk.old) inside.old.stack.items (D.state disk.new) inside.new.stack.items) }
+    ensures roomy { opens inside.old.stack.items < open_limit inside.old.options → (D.state disk.new).listed ≡ (D.state disk.old).listed }
     ensures work { OnOk result (work_in (D.state disk.new) inside.new.stack.items ≤ work_in (D.state disk.old) inside.old.stack.items) }
 {
     if count_open(inside.stack.as_slice()) < inside.options.max_open.max(1) {
@@ -202,6 +245,8 @@ fn open_list<D: Disk>(
     ensures listed { (D.state disk.new).listed ≡ (D.state disk.old).listed }
     ensures tree { SameTree (D.state disk.old) (D.state disk.new) }
     ensures faults { (D.state disk.old).faults ≤ (D.state disk.new).faults }
+    ensures counted { (IsTrue D.tells → IsSome (directory_of (D.state disk.old).tree folder.now.path))
+        → OnOk result (AddsFaults (D.state disk.old) faults.old.items (D.state disk.new) faults.new.items) }
     ensures light { IfOk result (λ entries. weight_in (D.state disk.new) entries + vec_len faults.new ≤ vec_len faults.old + 2) }
 {
     match disk.open_dir(folder.path.as_str()) {

@@ -1,13 +1,14 @@
 //! What a walk makes of an entry.
 
-ghost use Rattle.std.specs.Prelude.{◌≡◌, ◌≢◌, ◌⊎◌, ◌<◌, ◌≤◌, [], Some, None, true, false, IsTrue, IfOk, IfErr, IsErrOf, Option, option_map};
+ghost use Rattle.std.specs.Prelude.{◌≡◌, ◌≢◌, ◌⊎◌, ◌<◌, ◌≤◌, [], Some, None, true, false, IsTrue, IfOk, IfErr, Option, option_map};
 ghost use Rattle.sd_edge.specs.Count.{HasRisen};
 ghost use Rattle.sd_edge.specs.Tree.{Node};
 ghost use Rattle.sd_edge.specs.Disk.{SameTree, SameLists};
-ghost use Rattle.walk_rest.specs.Plan.{Manner, ident_of, node_to, seen, seen_by, seen_directory, seen_link, seen_root_link};
+ghost use Rattle.walk_rest.specs.Plan.{Manner, ident_of, node_to, seen, seen_directory, seen_link, seen_root_link};
 ghost use Rattle.walk_rest.specs.Level.{with_folder};
-ghost use Rattle.walk_steps.specs.Inside.{chain_of, with_top};
-ghost use Rattle.walk_steps.specs.Seen.{seen_of, refusal_of, ancestor_path, GoesBy, KnowsIdent, LoopsTo, FailsAsSeen, FailsCounted, HasCauseAt};
+ghost use Rattle.walk_steps.specs.Inside.{chain_with};
+ghost use Rattle.walk_steps.specs.Causes.{IsSightOf};
+ghost use Rattle.walk_steps.specs.Seen.{ByEachManner, seen_of, refusal_of, ancestor_path, GoesBy, KnowsIdent, LoopsTo, FailsAsSeen, FailsCounted, HasCauseAt};
 
 use crate::Inside;
 use sd_edge::{Disk, DiskFault, Ident, NoMemory, Text};
@@ -31,10 +32,13 @@ pub fn see<D: Disk, S>(
     level: &Level,
     entry: DirEntry,
 ) -> Result<Sight, Error>
-    ensures seen { IsTrue D.tells → (manner : Manner) → GoesBy inside.now manner → IfOk result (λ sight. seen_of sight ≡ seen (D.state disk.old).tree manner (chain_of (with_top inside.now level.now)) entry) }
-    ensures failed { IsTrue D.tells → (manner : Manner) → GoesBy inside.now manner
-        → IfErr result (FailsAsSeen (D.state disk.old).faults (D.state disk.new).faults entry (seen (D.state disk.old).tree manner (chain_of (with_top inside.now level.now)) entry)) }
-    ensures cause { D.tells ≡ false → IfErr result (HasCauseAt (D.state disk.old).faults (D.state disk.new).faults entry (chain_of (with_top inside.now level.now))) }
+    ensures seen { ByEachManner D.tells inside.now (λ manner.
+        IfOk result (λ sight. seen_of sight ≡ seen (D.state disk.old).tree manner (chain_with inside.now level.now) entry)) }
+    ensures failed { ByEachManner D.tells inside.now (λ manner.
+        IfErr result (FailsAsSeen (D.state disk.old).faults (D.state disk.new).faults entry
+        (seen (D.state disk.old).tree manner (chain_with inside.now level.now) entry))) }
+    ensures cause { D.tells ≡ false → IfErr result (HasCauseAt (D.state disk.old).faults (D.state disk.new).faults entry (chain_with inside.now level.now)) }
+    ensures sight { IfOk result (IsSightOf entry) }
     ensures lists { SameLists (D.state disk.old) (D.state disk.new) }
     ensures tree { SameTree (D.state disk.old) (D.state disk.new) }
     ensures faults { (D.state disk.old).faults ≤ (D.state disk.new).faults }
@@ -61,11 +65,13 @@ fn see_link<D: Disk, S>(
     entry: DirEntry,
 ) -> Result<Sight, Error>
     requires { inside.now.options.follow_links ≡ true }
-    ensures seen { IsTrue D.tells → (manner : Manner) → GoesBy inside.now manner
-        → IfOk result (λ sight. seen_of sight ≡ seen_link manner (chain_of (with_top inside.now level.now)) entry (node_to (D.state disk.old).tree entry.path true)) }
-    ensures failed { IsTrue D.tells → (manner : Manner) → GoesBy inside.now manner
-        → IfErr result (FailsAsSeen (D.state disk.old).faults (D.state disk.new).faults entry (seen_link manner (chain_of (with_top inside.now level.now)) entry (node_to (D.state disk.old).tree entry.path true))) }
-    ensures cause { D.tells ≡ false → IfErr result (HasCauseAt (D.state disk.old).faults (D.state disk.new).faults entry (chain_of (with_top inside.now level.now))) }
+    ensures seen { ByEachManner D.tells inside.now (λ manner.
+        IfOk result (λ sight. seen_of sight ≡ seen_link manner (chain_with inside.now level.now) entry (node_to (D.state disk.old).tree entry.path true))) }
+    ensures failed { ByEachManner D.tells inside.now (λ manner.
+        IfErr result (FailsAsSeen (D.state disk.old).faults (D.state disk.new).faults entry
+        (seen_link manner (chain_with inside.now level.now) entry (node_to (D.state disk.old).tree entry.path true)))) }
+    ensures cause { D.tells ≡ false → IfErr result (HasCauseAt (D.state disk.old).faults (D.state disk.new).faults entry (chain_with inside.now level.now)) }
+    ensures sight { IfOk result (IsSightOf entry) }
     ensures lists { SameLists (D.state disk.old) (D.state disk.new) }
     ensures tree { SameTree (D.state disk.old) (D.state disk.new) }
     ensures faults { (D.state disk.old).faults ≤ (D.state disk.new).faults }
@@ -113,9 +119,13 @@ fn see_root_link<D: Disk, S>(
 ) -> Result<Sight, Error>
     requires unfollowed { inside.now.options.follow_links ≡ false }
     requires root { entry.depth ≡ 0 }
-    ensures seen { IsTrue D.tells → (manner : Manner) → GoesBy inside.now manner → IfOk result (λ sight. seen_of sight ≡ seen_root_link manner entry (node_to (D.state disk.old).tree entry.path true)) }
-    ensures failed { IsTrue D.tells → (manner : Manner) → IfErr result (FailsAsSeen (D.state disk.old).faults (D.state disk.new).faults entry (seen_root_link manner entry (node_to (D.state disk.old).tree entry.path true))) }
-    ensures cause { D.tells ≡ false → IfErr result (λ failed. FailsCounted (D.state disk.old).faults (D.state disk.new).faults entry failed ⊎ ((failed ≡ Error.Absent entry.path entry.depth) × ((D.state disk.old).faults < (D.state disk.new).faults))) }
+    ensures seen { ByEachManner D.tells inside.now (λ manner.
+        IfOk result (λ sight. seen_of sight ≡ seen_root_link manner entry (node_to (D.state disk.old).tree entry.path true))) }
+    ensures failed { IsTrue D.tells → (manner : Manner) → IfErr result (FailsAsSeen (D.state disk.old).faults (D.state disk.new).faults entry
+        (seen_root_link manner entry (node_to (D.state disk.old).tree entry.path true))) }
+    ensures cause { D.tells ≡ false → IfErr result (λ failed. FailsCounted (D.state disk.old).faults (D.state disk.new).faults entry failed
+        ⊎ ((failed ≡ Error.Absent entry.path entry.depth) × ((D.state disk.old).faults < (D.state disk.new).faults))) }
+    ensures sight { IfOk result (IsSightOf entry) }
     ensures lists { SameLists (D.state disk.old) (D.state disk.new) }
     ensures tree { SameTree (D.state disk.old) (D.state disk.new) }
     ensures faults { (D.state disk.old).faults ≤ (D.state disk.new).faults }
@@ -137,8 +147,10 @@ fn see_directory<D: Disk, S>(
     inside: &Inside<S>,
     entry: DirEntry,
 ) -> Result<Sight, Error>
-    ensures seen { IsTrue D.tells → (manner : Manner) → GoesBy inside.now manner → IfOk result (λ sight. seen_of sight ≡ seen_directory manner entry (node_to (D.state disk.old).tree entry.path true)) }
+    ensures seen { ByEachManner D.tells inside.now (λ manner.
+        IfOk result (λ sight. seen_of sight ≡ seen_directory manner entry (node_to (D.state disk.old).tree entry.path true))) }
     ensures failed { IfErr result (FailsCounted (D.state disk.old).faults (D.state disk.new).faults entry) }
+    ensures sight { IfOk result (IsSightOf entry) }
     ensures lists { SameLists (D.state disk.old) (D.state disk.new) }
     ensures tree { SameTree (D.state disk.old) (D.state disk.new) }
     ensures faults { (D.state disk.old).faults ≤ (D.state disk.new).faults }
@@ -164,7 +176,9 @@ fn directory<S>(
     entry: DirEntry,
     ident: Option<Ident>,
 ) -> Result<Sight, NoMemory>
-    ensures { (manner : Manner) (node : Option Node) → GoesBy inside.now manner → KnowsIdent inside.now.options entry ident node → IfOk result (λ sight. seen_of sight ≡ seen_directory manner entry node) }
+    ensures seen { (manner : Manner) (node : Option Node) → GoesBy inside.now manner → KnowsIdent inside.now.options entry ident node
+        → IfOk result (λ sight. seen_of sight ≡ seen_directory manner entry node) }
+    ensures sight { IfOk result (IsSightOf entry) }
 {
     let is_foreign = match ident {
         None => true,
@@ -206,7 +220,7 @@ fn loop_to<S>(
     level: &Level,
     ident: Option<Ident>,
 ) -> Result<Option<(Text, Ident)>, NoMemory>
-    ensures { IfOk result (λ found. LoopsTo (chain_of (with_top inside.now level.now)) ident found) }
+    ensures { IfOk result (λ found. LoopsTo (chain_with inside.now level.now) ident found) }
 {
     match ident {
         None => Ok(None),
@@ -219,7 +233,7 @@ fn loop_to<S>(
 
 /// The path of the nearest directory with this identity among those that were entered, this level's first. Refuses for want of memory alone.
 fn ancestor<S>(inside: &Inside<S>, level: &Level, ident: Ident) -> Result<Option<Text>, NoMemory>
-    ensures { IfOk result (λ found. found ≡ ancestor_path ident (chain_of (with_top inside.now level.now))) }
+    ensures { IfOk result (λ found. found ≡ ancestor_path ident (chain_with inside.now level.now)) }
 {
     if let Some(path) = path_at(inside.alloc, level, ident)? {
         return Ok(Some(path));

@@ -24,9 +24,11 @@ pub fn take_entry<D: Disk>(
 ) -> Result<Option<DirEntry>, DiskFault>
     requires readable { IsReadable (D.state disk.old) level.old.folder level.old.entries }
     requires read { IsRead level.old.entries }
-    ensures taken { IsTrue D.tells → IfOk result (λ given. IfSome given (λ entry. entries_due (D.state disk.old) level.old ≡ entry ∷ entries_due (D.state disk.new) level.new)) }
+    ensures taken { IsTrue D.tells → IfOk result (λ given. IfSome given (λ entry.
+        entries_due (D.state disk.old) level.old ≡ entry ∷ entries_due (D.state disk.new) level.new)) }
     ensures ended { IsTrue D.tells → IfOk result (λ given. IfNone given (entries_due (D.state disk.old) level.old ≡ [])) }
-    ensures failed { IsTrue D.tells → IsErrOf result DiskFault.Failed → IsSublist (entries_due (D.state disk.new) level.new) (entries_due (D.state disk.old) level.old) }
+    ensures failed { IsTrue D.tells → IsErrOf result DiskFault.Failed
+        → IsSublist (entries_due (D.state disk.new) level.new) (entries_due (D.state disk.old) level.old) }
     ensures not_absent { result ≢ Err DiskFault.Absent }
     ensures not_taken { result ≢ Err DiskFault.Taken }
     ensures depth { IfOk result (λ given. IfSome given (λ entry. entry.depth ≡ depth_below level.old.folder)) }
@@ -41,6 +43,7 @@ pub fn take_entry<D: Disk>(
     ensures cause { IsErrOf result DiskFault.Failed → HasRisen (D.state disk.old).faults (D.state disk.new).faults }
     ensures later { (D.state disk.old).listed ≤ (D.state disk.new).listed }
     ensures at_most_one { (D.state disk.new).listed ≤ (D.state disk.old).listed + open_in level.old.entries }
+    ensures none_listed { IfOk result (λ given. IfNone given ((D.state disk.new).listed ≡ (D.state disk.old).listed)) }
     ensures worked { IfOk result (λ given. IfSome given (λ entry. work_of (D.state disk.new) level.new + 5 ≤ work_of (D.state disk.old) level.old)) }
     ensures not_more { OnOk result (work_of (D.state disk.new) level.new ≤ work_of (D.state disk.old) level.old) }
     ensures wasted { IsErrOf result DiskFault.Failed → work_of (D.state disk.new) level.new < work_of (D.state disk.old) level.old }

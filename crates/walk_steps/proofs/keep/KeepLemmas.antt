@@ -1,5 +1,5 @@
 -- One list of several levels is kept.
-use Rattle.std.proofs.Common.{◌≡◌, ◌⊎◌, ◌+◌, ◌<◌, ◌≤◌, ℕ, zero, suc, List, [], ◌∷◌, ◌++◌, length, get_or, Some, refl, sym, ◌∙◌, ap, inl, inr, arith}
+use Rattle.std.proofs.Common.{◌≡◌, ◌⊎◌, ◌+◌, ◌<◌, ◌≤◌, ℕ, zero, suc, List, [], ◌∷◌, ◌++◌, length, get_or, Option, Some, refl, sym, ◌∙◌, ap, inl, inr, arith, length-append}
 use Rattle.std.specs.Prelude.{slice_set}
 use Rattle.std.specs.List.{AllWithin, HoldsAt}
 use Rattle.std.proofs.Math.Seq.{get_or-append_seam, set-append_seam}
@@ -10,10 +10,11 @@ use Rattle.walk_rest.specs.declared.level.Folder.{Folder}
 use Rattle.walk_rest.specs.declared.level.Entries.{Entries}
 use Rattle.walk_rest.specs.declared.level.Entries.TheVariants.{Unread, Open, Kept}
 use Rattle.walk_rest.specs.declared.level.Level.{Level}
-use Rattle.walk_rest.specs.Level.{AllSameReads, HasKept, IsOpenEntries}
+use Rattle.walk_rest.specs.Level.{AddsFaults, AllSameReads, HasKept, IsAllowed, IsOpenEntries}
 use Rattle.walk_rest.specs.Read.{ReadsList}
 use Rattle.walk_steps.specs.Inside.{IsRead}
-use Rattle.walk_steps.specs.Sound.{IsReadable, IsApart, AreApart, AreApartFrom, AreSound, AreRead, SameOtherThan, StaysWithin, opens, open_in}
+use Rattle.walk_steps.specs.Sound.{IsReadable, IsApart, AreApart, AreApartFrom, AreSound, AreRead, IsShallow, AreShallow, SameOtherThan, StaysWithin, opens, open_in}
+use Rattle.walk_steps.specs.Causes.{faults_due, CountsFaults}
 use Rattle.walk_steps.specs.Lists.{IsOldestOpen, KeepsLevel, KeepsOldest}
 use Rattle.walk_steps.specs.Work.{weight_of, weight_all, work_in, work_of}
 use Rattle.walk_steps.proofs.leave.WithinLemmas.{within_fewer}
@@ -207,6 +208,16 @@ stands levels shown place level same found value =
       oldest = found.oldest;
     }
 
+shallow_narrow : (n : ℕ) (folder given : Option Folder) (old new : Entries) → Narrows old new → given ≡ folder → IsShallow n folder old → IsShallow n given new
+shallow_narrow n folder given old new (inl e) same h = rw (e, same) h
+shallow_narrow n folder given old Unread (inr e) same h = tt
+shallow_narrow n folder given old (Open list) (inr e) same h = absurd (omega (arith, e))
+shallow_narrow n folder given old (Kept kept) (inr e) same h = tt
+
+shallow_at : (n : ℕ) (lower upper : List Level) (old new : Level) → Narrows old.entries new.entries → new.folder ≡ old.folder → AreShallow n (lower ++ old ∷ upper) → AreShallow n (lower ++ new ∷ upper)
+shallow_at n [] upper old new narrow same h = (shallow_narrow n old.folder new.folder old.entries new.entries narrow same h.0, h.1)
+shallow_at n (l ∷ lower) upper old new narrow same h = (h.0, shallow_at n lower upper old new narrow same h.1)
+
 -- one level is another, and no list is opened
 pub record ReplacesOne (old : DiskState) (levels : List Level) (new : DiskState) (now : List Level) (was is : Level) : Type 0 where
   pub sound : AreSound new now
@@ -214,11 +225,13 @@ pub record ReplacesOne (old : DiskState) (levels : List Level) (new : DiskState)
   pub count : opens now + open_in was.entries ≡ opens levels + open_in is.entries
   pub within : StaysWithin 0 old levels new now
   pub others : (number : ℕ) → AreApart number levels → new.open_list number ≡ old.open_list number
+  pub apart : (number : ℕ) → AreApart number levels → AreApart number now
+  pub shallow : (deepest : ℕ) → AreShallow deepest levels → AreShallow deepest now
 
 pub replaced : (old new : DiskState) (levels : List Level) (place : ℕ) (was now : Level) → StandsAmong levels place was → AreSound old levels → SameOtherThan old was.entries new → IsReadable new now.folder now.entries
     → IsRead now.entries → new.open_count + open_in was.entries ≡ old.open_count + open_in now.entries → new.open_most ≡ old.open_most → Narrows was.entries now.entries
-    → ReplacesOne old levels new (slice_set levels place now) was now
-replaced old new levels place was now at sound same readable read count most narrow =
+    → now.folder ≡ was.folder → ReplacesOne old levels new (slice_set levels place now) was now
+replaced old new levels place was now at sound same readable read count most narrow folder =
     let e = level_set levels at.lower at.upper was now place at.are at.at in
     let a = ap opens at.are ∙ opens_at at.lower at.upper was in
     let b = ap opens e ∙ opens_at at.lower at.upper now in
@@ -229,6 +242,8 @@ replaced old new levels place was now at sound same readable read count most nar
       count = more;
       within = within_fewer 0 old new levels (slice_set levels place now) (omega (arith, count, more)) most;
       others = λ number apart. same number (apart_at number at.lower at.upper was (rw at.are at apart));
+      apart = λ number apart. rw e (apart_with number at.lower at.upper was now (apart_narrow number was.entries now.entries narrow (apart_at number at.lower at.upper was (rw at.are at apart))) (rw at.are at apart));
+      shallow = λ deepest shallow. rw e (shallow_at deepest at.lower at.upper was now narrow folder (rw at.are at shallow));
     }
 
 pub kept_oldest : (old new : DiskState) (levels : List Level) (place : ℕ) (was now : Level) → StandsAmong levels place was → AreSound old levels → SameOtherThan old was.entries new → KeepsLevel old was new now
@@ -258,3 +273,26 @@ pub open_one : (e : Entries) → IsOpenEntries e → open_in e ≡ 1
 open_one Unread is = absurd is
 open_one (Open list) is = refl
 open_one (Kept kept) is = absurd is
+
+-- ---- faults that are due
+
+due_at : (lower upper : List Level) (x : Level) → faults_due (lower ++ x ∷ upper) ≡ faults_due lower + (length x.faults.items + faults_due upper)
+due_at [] upper x = omega arith
+due_at (l ∷ lower) upper x = let e = due_at lower upper x in omega (arith, e)
+
+pub kept_counted : (old new : DiskState) (levels : List Level) (place : ℕ) (was now : Level) → StandsAmong levels place was → AddsFaults old was.faults.items new now.faults.items → CountsFaults 0 old levels new (slice_set levels place now)
+kept_counted old new levels place was now at adds = by adds.allowed
+  where
+    more : faults_due (slice_set levels place now) ≡ faults_due levels + length adds.more
+    more =
+        let e = ap faults_due (level_set levels at.lower at.upper was now place at.are at.at) in
+        let a = due_at at.lower at.upper now in
+        let b = due_at at.lower at.upper was in
+        let c = ap faults_due at.are in
+        let d = ap length adds.now_are in
+        let f = length-append was.faults.items adds.more in
+        omega (arith, e, a, b, c, d, f)
+
+    by : IsAllowed (length adds.more) old.faults new.faults → CountsFaults 0 old levels new (slice_set levels place now)
+    by (inl h) = let e = more in inl (omega (arith, e, h))
+    by (inr h) = inr h

@@ -27,11 +27,11 @@ IsFree state Unread = Unit {0}
 IsFree state (Open list) = state.open_list list.number ≡ None
 IsFree state (Kept kept) = Unit {0}
 
-apart_front : (k : ℕ) (xs : List Level) (x : Level) → AreApart k (xs ++ x ∷ []) → AreApart k xs × IsApart k x.entries
+pub apart_front : (k : ℕ) (xs : List Level) (x : Level) → AreApart k (xs ++ x ∷ []) → AreApart k xs × IsApart k x.entries
 apart_front k [] x h = (tt, h.0)
 apart_front k (y ∷ xs) x h = let r = apart_front k xs x h.1 in ((h.0, r.0), r.1)
 
-apart_snoc : (k : ℕ) (xs : List Level) (x : Level) → AreApart k xs → IsApart k x.entries → AreApart k (xs ++ x ∷ [])
+pub apart_snoc : (k : ℕ) (xs : List Level) (x : Level) → AreApart k xs → IsApart k x.entries → AreApart k (xs ++ x ∷ [])
 apart_snoc k [] x h i = (i, tt)
 apart_snoc k (y ∷ xs) x h i = (h.0, apart_snoc k xs x h.1 i)
 
@@ -156,3 +156,17 @@ pub sound_relevel : (s : DiskState) (xs : List Level) (old new : Level) → new.
 sound_relevel s xs old new folder entries h =
     let p = sound_split s xs old h in
     sound_join s xs new p.0 (rw (folder, entries) p.1) (rw entries p.2)
+
+apart_before : (k : ℕ) (xs ys : List Level) → AreApart k (xs ++ ys) → AreApart k xs
+apart_before k [] ys h = tt
+apart_before k (x ∷ xs) ys h = (h.0, apart_before k xs ys h.1)
+
+from_before : (e : Entries) (xs ys : List Level) → AreApartFrom e (xs ++ ys) → AreApartFrom e xs
+from_before Unread xs ys h = tt
+from_before (Open list) xs ys h = apart_before list.number xs ys h
+from_before (Kept kept) xs ys h = tt
+
+-- the levels below others
+pub sound_front : (s : DiskState) (xs ys : List Level) → AreSound s (xs ++ ys) → AreSound s xs
+sound_front s [] ys h = tt
+sound_front s (x ∷ xs) ys h = (h.0, from_before x.entries xs ys h.1, sound_front s xs ys h.2)

@@ -1,5 +1,5 @@
 -- How many lists are open.
-use Rattle.std.proofs.Common.{◌≡◌, ◌+◌, ◌*◌, ◌≤◌, ◌<◌, ℕ, max, Bool, true, false, cond, List, [], ◌∷◌, ◌++◌, length, length-append, Option, Some, None, refl, sym, subst, ◌∙◌, ap, arith}
+use Rattle.std.proofs.Common.{◌≡◌, ◌+◌, ◌≤◌, ◌<◌, ℕ, Bool, true, false, cond, List, [], ◌∷◌, ◌++◌, length, length-append, Option, Some, None, refl, sym, subst, ◌∙◌, ap, arith}
 use Rattle.sd_edge.specs.Disk.{DiskState, OpenList}
 use Rattle.walk_rest.specs.declared.level.Entries.{Entries}
 use Rattle.walk_rest.specs.declared.level.Entries.TheVariants.{Unread, Open, Kept}
@@ -9,8 +9,9 @@ use Rattle.walk_rest.specs.declared.level.Level.{Level}
 use Rattle.walk_steps.specs.Work.{left_to_do, weight_all, weight_first, weight_in, weight_of, weight_open, work_in, weight_root}
 use Rattle.walk_steps.specs.declared.inside.Inside.{Inside}
 use Rattle.walk_steps.specs.Inside.{SameWalk, levels_of, top_levels, with_top}
-use Rattle.walk_steps.specs.Sound.{AreSound, AreRead, IsSound, IsSoundBelow, KeepsWalk, StaysWithin, held_limit, open_in, open_limit, opens}
+use Rattle.walk_steps.specs.Sound.{AreSound, AreRead, AreShallow, IsFresh, IsTopFresh, IsSound, IsSoundBelow, KeepsWalk, StaysWithin, held_limit, open_in, open_limit, opens}
 use Rattle.walk_steps.proofs.leave.SoundLemmas.{opens_snoc, sound_relevel, sound_split, weight_snoc}
+use Rattle.walk_steps.proofs.leave.OthersLemmas.{apart_relevel, apart_same, others_levels, others_on, shallow_relevel, shallow_split}
 
 -- no list is opened
 pub within_fewer : (limit : ℕ) (old new : DiskState) (before after : List Level) → new.open_count + opens before ≡ old.open_count + opens after → new.open_most ≡ old.open_most → StaysWithin limit old before new after
@@ -45,6 +46,7 @@ module _ {S : Type 0} where
       record {
         lists = k.lists;
         within = within_on (open_limit x.options) a b c (levels_of x) (levels_of y) (levels_of z) h.within (rw (← h.same.options) k.within);
+        others = others_on a b c (levels_of x) (levels_of y) (levels_of z) h.others k.others;
         same = record { options = k.same.options ∙ h.same.options; order = k.same.order ∙ h.same.order; root = k.same.root ∙ h.same.root };
         tree = record { tree = k.tree.tree ∙ h.tree.tree; clock = k.tree.clock ∙ h.tree.clock; outcomes = k.tree.outcomes ∙ h.tree.outcomes };
         faults = omega (arith, le, lf);
@@ -60,18 +62,22 @@ module _ {S : Type 0} where
       record {
         lists = sound_relevel s inside.stack.items old new folder entries sound;
         within = within_fewer (open_limit inside.options) s s (inside.stack.items ++ old ∷ []) (inside.stack.items ++ new ∷ []) (omega (arith, a, b, e)) refl;
+        others = others_levels s (inside.stack.items ++ old ∷ []) (inside.stack.items ++ new ∷ []) (λ number. apart_relevel number inside.stack.items old new entries);
         same = record { options = refl; order = refl; root = refl };
         tree = record { tree = refl; clock = refl; outcomes = refl };
         faults = omega arith;
         later = omega arith;
       }
 
-  pub is_sound_relevel : (s : DiskState) (sorts : Bool) (inside : Inside S) (old new : Level) → new.folder ≡ old.folder → new.entries ≡ old.entries → IsSound s sorts (with_top inside old) → IsSound s sorts (with_top inside new)
-  is_sound_relevel s sorts inside old new folder entries h = record {
+  pub is_sound_relevel : (s : DiskState) (sorts : Bool) (inside : Inside S) (old new : Level) → new.folder ≡ old.folder → new.entries ≡ old.entries → IsFresh new.entries new.first new.faults.items
+      → IsSound s sorts (with_top inside old) → IsSound s sorts (with_top inside new)
+  is_sound_relevel s sorts inside old new folder entries fresh h = record {
     lists = sound_relevel s inside.stack.items old new folder entries h.lists;
     read = h.read;
     rooted = λ none. absurd (cc none);
     few = let a = opens_snoc inside.stack.items old in let b = opens_snoc inside.stack.items new in let e = ap open_in entries in let f = h.few in omega (arith, a, b, e, f);
+    shallow = shallow_relevel inside.options.max_depth inside.stack.items old new folder entries h.shallow;
+    fresh = fresh;
   }
 
   -- where a level is taken from the top and put back, the walk is as before
@@ -83,6 +89,8 @@ module _ {S : Type 0} where
         read = subst AreRead (sym stack) h.read;
         rooted = λ none. absurd (cc none);
         few = let f = h.few in let g = ap opens e in let o = ap (held_limit sorts) options in omega (arith, f, g, o);
+        shallow = rw options (subst (AreShallow old.options.max_depth) e h.shallow);
+        fresh = subst IsTopFresh top h.fresh;
       }
 
   pub below_of : (s : DiskState) (sorts : Bool) (inside : Inside S) (level : Level) → IsSound s sorts (with_top inside level) → IsSoundBelow s sorts inside
@@ -90,6 +98,7 @@ module _ {S : Type 0} where
     lists = (sound_split s inside.stack.items level h.lists).0;
     read = h.read;
     few = let a = opens_snoc inside.stack.items level in let f = h.few in omega (arith, a, f);
+    shallow = (shallow_split inside.options.max_depth inside.stack.items level h.shallow).0;
   }
 
   -- ---- the work that is left
@@ -139,6 +148,7 @@ module _ {S : Type 0} where
       record {
         lists = subst (AreSound s) (sym e) sound;
         within = within_fewer (open_limit x.options) s s (levels_of x) (levels_of y) (omega (arith, o)) refl;
+        others = others_levels s (levels_of x) (levels_of y) (λ number. apart_same number (levels_of x) (levels_of y) e);
         same = same;
         tree = record { tree = refl; clock = refl; outcomes = refl };
         faults = omega arith;

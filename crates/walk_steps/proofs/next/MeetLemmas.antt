@@ -1,6 +1,6 @@
 -- What is left of a walk once an entry was met.
-use Rattle.std.proofs.Common.{◌≡◌, ◌+◌, ◌*◌, ◌≤◌, ◌<◌, ◌⊎◌, ℕ, Bool, true, false, cond, List, [], ◌∷◌, ◌++◌, length, map, Option, Some, None, Err, Ok, refl, sym, subst, ◌∙◌, ap, arith, inl, inr, append-nil}
-use Rattle.std.specs.Prelude.{IsTrue, ◌&&◌, nat_eq, nat_lt, option_map}
+use Rattle.std.proofs.Common.{◌≡◌, ◌+◌, ◌≤◌, ◌⊎◌, ℕ, Bool, true, false, cond, List, [], ◌∷◌, ◌++◌, length, map, Option, Some, None, Err, refl, sym, subst, ◌∙◌, ap, arith, inl, inr, append-nil}
+use Rattle.std.specs.Prelude.{◌&&◌, nat_eq, nat_lt, option_map}
 use Rattle.std.specs.declared.cmp.Ordering.{Ordering}
 use Rattle.sd_edge.specs.Count.{HasRisen}
 use Rattle.sd_edge.specs.Tree.{Node, Tree, is_directory_content}
@@ -8,24 +8,25 @@ use Rattle.sd_edge.specs.Disk.{DiskState, SameLists, SameTree}
 use Rattle.walk_rest.specs.declared.entry.DirEntry.{DirEntry}
 use Rattle.walk_rest.specs.declared.error.Error.{Error}
 use Rattle.walk_rest.specs.declared.error.Error.TheVariants as error
-use Rattle.walk_rest.specs.declared.options.Options.{Options}
 use Rattle.walk_rest.specs.declared.level.Folder.{Folder}
+use Rattle.walk_rest.specs.declared.level.Due.{Due}
 use Rattle.walk_rest.specs.declared.level.Level.{Level}
 use Rattle.walk_rest.specs.declared.level.Entries.{Entries}
 use Rattle.walk_rest.specs.declared.level.Entries.TheVariants.{Unread, Open, Kept}
-use Rattle.walk_rest.specs.Plan.{Item, Plan, done, past, into, Manner, IsPlan, IsPast, IsInto, Seen, fails, stays, enters, seen, seen_by, seen_directory, seen_root_link, seen_unfollowed, seen_link, seen_target, followed_entry, folder_of, is_foreign, is_directory, is_link, ident_of, ancestor_with, is_shown, item_where, item_before, item_after, IsContents}
+use Rattle.walk_rest.specs.Plan.{Item, Plan, done, past, into, Manner, IsPlan, IsPast, IsInto, Seen, fails, stays, enters, seen, seen_by, seen_directory, seen_root_link, seen_unfollowed, seen_link, seen_target, followed_entry, folder_of, is_foreign, is_directory, is_link, ident_of, ancestor_with, is_shown, item_where}
 use Rattle.walk_rest.specs.Listing.{manner_of, device_to}
-use Rattle.walk_rest.specs.Rest.{Fault, Part, Rest, Cuts, Comes, ComesIn, Moves, none, cut, come, IsStep, IsCutTo, past_gone, into_gone, entered, IsNextGone, IsFaultIn}
-use Rattle.walk_rest.specs.Level.{HasPart, HasParts, IsDue, AllSameReads, chain_above, with_folder, fault_of, item_of}
+use Rattle.walk_rest.specs.Rest.{Fault, Part, Rest, Comes, none, cut, come, IsCutTo, past_gone, into_gone, entered, IsNextGone, IsFaultIn}
+use Rattle.walk_rest.specs.Level.{IsDue, AllSameReads, chain_above, with_folder, fault_of, item_of}
 use Rattle.walk_rest.proofs.MoveLemmas.{cut_none, parts_snoc, entered_unread}
 use Rattle.walk_steps.specs.declared.inside.Inside.{Inside}
-use Rattle.walk_steps.specs.Inside.{HasRest, IsRead, IsUnbegun, SameWalk, chain_of, entries_in, entries_due, levels_of, with_top, top_levels}
-use Rattle.walk_steps.specs.Sound.{AreSound, AreRead, IsReadable, IsSound, KeepsWalk, SameOtherThan, depth_below, held_limit, open_in, open_limit, opens}
+use Rattle.walk_steps.specs.Inside.{HasRest, IsRead, SameWalk, chain_of, entries_in, entries_due, levels_of, with_top, top_levels}
+use Rattle.walk_steps.specs.Sound.{AreApart, AreShallow, AreSound, AreRead, IsFresh, IsReadable, IsSound, IsTopFresh, KeepsWalk, SameOtherThan, depth_below, held_limit, open_in, open_limit, opens}
 use Rattle.walk_steps.specs.Work.{left_to_do, weight_all, weight_first, weight_in, weight_root}
-use Rattle.walk_steps.specs.Steps.{HasTaken, MovesTo, StepsTo, TurnsTo, Enters}
+use Rattle.walk_steps.specs.Steps.{HasTaken, StepsTo, TurnsTo, Enters}
 use Rattle.walk_steps.specs.Seen.{IsFailureAt, FailsAsSeen}
 use Rattle.walk_steps.proofs.leave.SoundLemmas.{all_same_reads, clear_unread, opens_snoc, read_join, sound_kept, sound_relevel, sound_unread, weight_kept, weight_snoc}
 use Rattle.walk_steps.proofs.leave.WithinLemmas.{within_fewer}
+use Rattle.walk_steps.proofs.leave.OthersLemmas.{apart_relevel, apart_same, apart_unread, others_levels, others_lists, shallow_relevel, shallow_unread}
 use Rattle.walk_steps.proofs.see.SightLemmas.{chain_snoc}
 use Rattle.walk_steps.proofs.next.StepLemmas.{allowed_none, allowed_one, parts_later, rest_of}
 
@@ -118,6 +119,11 @@ back_lists s now levels same h = sound_kept s now Unread levels h (clear_unread 
 pub first_small : (f : Option DirEntry) → weight_first f ≤ 1
 first_small None = omega arith
 first_small (Some e) = omega arith
+
+fresh_opened : (e : Entries) (first : Option DirEntry) (faults : List Due) → first ≡ None → faults ≡ [] → IsFresh e first faults
+fresh_opened Unread first faults empty faultless = (empty, faultless)
+fresh_opened (Open list) first faults empty faultless = tt
+fresh_opened (Kept kept) first faults empty faultless = tt
 
 module _ {S : Type 0} where
   pub came : (s now : DiskState) (sorts : Bool) (by : DirEntry → DirEntry → Ordering) (rest new : Rest) (item : Option Item) (inside : Inside S) → Comes rest item new → HasRest now sorts by inside new → s.faults ≤ now.faults
@@ -289,7 +295,7 @@ module _ {S : Type 0} where
   -- ---- the lists, where a call left them as they were
 
   pub back_sound : (s now : DiskState) (sorts : Bool) (inside : Inside S) → SameLists s now → IsSound s sorts inside → IsSound now sorts inside
-  back_sound s now sorts inside same h = record { lists = back_lists s now (levels_of inside) same h.lists; read = h.read; rooted = h.rooted; few = h.few }
+  back_sound s now sorts inside same h = record { lists = back_lists s now (levels_of inside) same h.lists; read = h.read; rooted = h.rooted; few = h.few; shallow = h.shallow; fresh = h.fresh }
 
   pub back_keeps : (s now : DiskState) (inside : Inside S) → SameLists s now → SameTree s now → s.faults ≤ now.faults → AreSound s (levels_of inside) → KeepsWalk s inside now inside
   back_keeps s now inside same tree faults h =
@@ -298,6 +304,7 @@ module _ {S : Type 0} where
       record {
         lists = back_lists s now (levels_of inside) same h;
         within = within_fewer (open_limit inside.options) s now (levels_of inside) (levels_of inside) (omega (arith, n)) same.open_most;
+        others = others_lists s now (levels_of inside) (levels_of inside) (λ number. ap (λ (lists : ℕ → _). lists number) same.open_list) (λ number apart. apart);
         same = record { options = refl; order = refl; root = refl };
         tree = tree;
         faults = faults;
@@ -343,6 +350,9 @@ module _ {S : Type 0} where
         read = subst AreRead (sym e.stack) (read_join inside.stack.items e.raised h.read (subst IsRead (sym raised_entries) read));
         rooted = λ none. absurd (let f : Some e.opened ≡ None = sym e.top ∙ none in cc f);
         few = let a = enters_opens inside new level met folder given e in let f = h.few in let o = ap (held_limit sorts) same.options in omega (arith, a, f, o);
+        shallow = rw same.options (subst (AreShallow inside.options.max_depth) (sym (enters_levels inside new level met folder given e))
+            (shallow_unread inside.options.max_depth (inside.stack.items ++ e.raised ∷ []) e.opened e.unread (shallow_relevel inside.options.max_depth inside.stack.items level e.raised (ap (λ (l : Level). l.folder) e.raised_is) raised_entries h.shallow)));
+        fresh = subst IsTopFresh (sym e.top) (fresh_opened e.opened.entries e.opened.first e.opened.faults.items e.first e.faultless);
       }
 
   pub enters_keeps : (s : DiskState) (inside new : Inside S) (level : Level) (met : DirEntry) (folder : Folder) (given : Option DirEntry) → Enters inside level met folder new given → SameWalk inside new
@@ -352,6 +362,9 @@ module _ {S : Type 0} where
       record {
         lists = enters_lists s inside new level met folder given e h;
         within = within_fewer (open_limit inside.options) s s (inside.stack.items ++ level ∷ []) (levels_of new) (omega (arith, a)) refl;
+        others = others_levels s (inside.stack.items ++ level ∷ []) (levels_of new)
+            (λ number apart. subst (AreApart number) (sym (enters_levels inside new level met folder given e))
+            (apart_unread number (inside.stack.items ++ e.raised ∷ []) e.opened e.unread (apart_relevel number inside.stack.items level e.raised (ap (λ (l : Level). l.entries) e.raised_is) apart)));
         same = record { options = same.options; order = same.order; root = same.root };
         tree = record { tree = refl; clock = refl; outcomes = refl };
         faults = omega arith;
@@ -388,6 +401,7 @@ module _ {S : Type 0} where
       record {
         lists = subst (AreSound s) (sym e) (sound_relevel s inside.stack.items level kept folder entries h);
         within = within_fewer (open_limit inside.options) s s (inside.stack.items ++ level ∷ []) (levels_of new) (omega (arith, a, b, c, d)) refl;
+        others = others_levels s (inside.stack.items ++ level ∷ []) (levels_of new) (λ number apart. apart_same number (inside.stack.items ++ kept ∷ []) (levels_of new) e (apart_relevel number inside.stack.items level kept entries apart));
         same = record { options = same.options; order = same.order; root = same.root };
         tree = record { tree = refl; clock = refl; outcomes = refl };
         faults = omega arith;

@@ -1,5 +1,5 @@
 -- The parts of a step, as moves of what is left of a walk.
-use Rattle.std.proofs.Common.{◌≡◌, ◌+◌, ◌≤◌, ◌<◌, ◌⊎◌, ℕ, zero, suc, Bool, true, false, List, [], ◌∷◌, ◌++◌, length, map, reverse, Option, Some, None, Err, Ok, refl, sym, subst, ◌∙◌, ap, arith, inl, inr, append-nil, append_assoc}
+use Rattle.std.proofs.Common.{◌≡◌, ◌+◌, ◌≤◌, ◌⊎◌, ℕ, suc, Bool, List, [], ◌∷◌, ◌++◌, length, map, Option, Some, None, Err, Ok, refl, sym, subst, ◌∙◌, ap, arith, inl, inr, append-nil}
 use Rattle.std.specs.Prelude.{IsTrue, option_map}
 use Rattle.std.proofs.lemmas.List.{map-append}
 use Rattle.std.specs.declared.cmp.Ordering.{Ordering}
@@ -7,7 +7,6 @@ use Rattle.sd_edge.specs.Count.{HasRisen}
 use Rattle.sd_edge.specs.Tree.{Tree}
 use Rattle.sd_edge.specs.Disk.{DiskState}
 use Rattle.walk_rest.specs.declared.entry.DirEntry.{DirEntry}
-use Rattle.walk_rest.specs.declared.error.Error.{Error}
 use Rattle.walk_rest.specs.declared.error.Error.TheVariants as error
 use Rattle.walk_rest.specs.declared.options.Options.{Options}
 use Rattle.walk_rest.specs.declared.level.Folder.{Folder}
@@ -15,20 +14,16 @@ use Rattle.walk_rest.specs.declared.level.Due.{Due}
 use Rattle.walk_rest.specs.declared.level.Level.{Level}
 use Rattle.walk_rest.specs.declared.level.Entries.{Entries}
 use Rattle.walk_rest.specs.declared.level.Entries.TheVariants.{Unread, Open, Kept}
-use Rattle.walk_rest.specs.Plan.{Item, Plan, done, past, into, Manner, IsPlan, IsPast, IsInto, Seen, fails, stays, enters, seen, is_shown, item_where, item_before, item_after, IsContents, entry_below}
-use Rattle.walk_rest.specs.Listing.{IsRootPlan, IsBegun, Beginning, ends, begins, beginning, manner_of, device_to}
-use Rattle.walk_rest.specs.Rest.{Fault, Part, Rest, IsSpent, Cuts, Comes, ComesIn, Leaves, Moves, none, cut, come, leave, GivesFault, Answers, IsStep, Skips, entered, IsNextGone, IsFaultIn, IsEntryFault, item_of_fault}
-use Rattle.walk_rest.specs.Level.{HasPart, HasParts, IsDue, IsAllowed, AllSameReads, chain_above, with_folder, fault_of, item_of, left_in, listing_faults}
-use Rattle.walk_rest.specs.Sorting.{IsSublist}
-use Rattle.walk_rest.proofs.PlanLemmas.{plan_cut}
-use Rattle.walk_rest.proofs.MoveLemmas.{Parted, parts_parted, parts_snoc, parts_on, skipped_unread, entered_unread}
+use Rattle.walk_rest.specs.Plan.{Item, Plan, Manner}
+use Rattle.walk_rest.specs.Listing.{manner_of, device_to}
+use Rattle.walk_rest.specs.Rest.{Part, Rest, Moves, none, cut, come, leave}
+use Rattle.walk_rest.specs.Level.{HasPart, HasParts, IsDue, IsAllowed, AllSameReads, chain_above, with_folder, fault_of, item_of}
+use Rattle.walk_rest.proofs.MoveLemmas.{Parted, parts_parted, parts_snoc, parts_on, skipped_unread}
 use Rattle.walk_steps.specs.declared.inside.Inside.{Inside}
-use Rattle.walk_steps.specs.Inside.{HasRest, IsRead, IsUnbegun, KnowsDevice, SameWalk, entries_in, entries_due, levels_of, manner_in, top_levels, with_top}
-use Rattle.walk_steps.specs.Sound.{AreSound, IsSound, SameOtherThan, depth_below}
-use Rattle.walk_steps.specs.Lists.{SameLevel}
-use Rattle.walk_steps.specs.Steps.{HasTaken, MovesTo, StepsTo, TurnsTo, SkipsTo, Enters}
-use Rattle.walk_steps.specs.Seen.{IsFailureAt}
-use Rattle.walk_steps.proofs.leave.SoundLemmas.{Clear, all_same_reads, sound_split}
+use Rattle.walk_steps.specs.Inside.{HasRest, IsRead, IsUnbegun, KnowsDevice, SameWalk, levels_of, top_levels, with_top}
+use Rattle.walk_steps.specs.Sound.{AreSound, SameOtherThan}
+use Rattle.walk_steps.specs.Steps.{MovesTo, StepsTo, SkipsTo}
+use Rattle.walk_steps.proofs.leave.SoundLemmas.{all_same_reads, sound_split}
 
 -- ---- counts
 

@@ -1,5 +1,5 @@
 -- What is left of a walk once an entry was taken, or none came.
-use Rattle.std.proofs.Common.{◌≡◌, ◌+◌, ◌*◌, ◌≤◌, ◌<◌, ℕ, Bool, List, [], ◌∷◌, ◌++◌, length, map, reverse, Option, Some, None, Result, Ok, Err, refl, sym, subst, ◌∙◌, ap, arith, inl, inr, append-nil}
+use Rattle.std.proofs.Common.{◌≡◌, ◌+◌, ◌≤◌, ◌<◌, ℕ, Bool, List, [], ◌∷◌, ◌++◌, map, reverse, Option, Some, None, Result, Ok, Err, refl, sym, subst, ◌∙◌, ap, arith, inl, inr, append-nil}
 use Rattle.std.specs.Prelude.{IsTrue, IfOk, OnOk, option_map}
 use Rattle.std.specs.Option.{option_to_list}
 use Rattle.std.specs.declared.cmp.Ordering.{Ordering}
@@ -10,23 +10,25 @@ use Rattle.sd_edge.specs.Lists.{SameOpen}
 use Rattle.walk_rest.specs.declared.entry.DirEntry.{DirEntry}
 use Rattle.walk_rest.specs.declared.error.Error.TheVariants as error
 use Rattle.walk_rest.specs.declared.level.Folder.{Folder}
+use Rattle.walk_rest.specs.declared.level.Due.{Due}
 use Rattle.walk_rest.specs.declared.level.Level.{Level}
 use Rattle.walk_rest.specs.declared.level.Entries.{Entries}
 use Rattle.walk_rest.specs.declared.level.Entries.TheVariants.{Unread, Open, Kept}
 use Rattle.walk_rest.specs.Plan.{Item, Plan, done, past, into, Manner, IsPlan}
 use Rattle.walk_rest.specs.Listing.{manner_of, device_to}
-use Rattle.walk_rest.specs.Rest.{Fault, Part, Rest, Moves, none, cut, leave, IsFaultIn, IsCutTo}
-use Rattle.walk_rest.specs.Level.{HasPart, HasParts, IsAllowed, IsOpenEntries, chain_above, with_folder, fault_of, item_of}
+use Rattle.walk_rest.specs.Rest.{Fault, Part, Rest, none, cut, leave, IsFaultIn}
+use Rattle.walk_rest.specs.Level.{IsAllowed, IsOpenEntries, chain_above, with_folder, fault_of, item_of}
 use Rattle.walk_rest.specs.Sorting.{IsSublist}
 use Rattle.walk_rest.proofs.PlanLemmas.{plan_cut}
 use Rattle.walk_rest.proofs.MoveLemmas.{parts_snoc}
 use Rattle.walk_steps.specs.declared.inside.Inside.{Inside}
 use Rattle.walk_steps.specs.Inside.{HasRest, IsRead, IsUnbegun, IsUntaken, SameWalk, entries_in, entries_due, levels_of, with_top, top_levels}
-use Rattle.walk_steps.specs.Sound.{AreSound, AreRead, IsReadable, IsSound, KeepsWalk, SameOtherThan, depth_below, held_limit, open_in, open_limit, opens}
+use Rattle.walk_steps.specs.Sound.{AreShallow, AreSound, AreRead, IsFresh, IsReadable, IsSound, KeepsWalk, SameOtherThan, depth_below, held_limit, open_in, open_limit, opens}
 use Rattle.walk_steps.specs.Lists.{SameLevel, SameReading}
 use Rattle.walk_steps.specs.Steps.{HasTaken, MovesTo, StepsTo, TurnsTo}
-use Rattle.walk_steps.specs.Work.{left_to_do, weight_all, weight_in, weight_of, work_of}
-use Rattle.walk_steps.proofs.leave.SoundLemmas.{Clear, all_same_reads, clear_same, opens_snoc, read_split, sound_join, sound_kept, sound_split, weight_kept, weight_snoc}
+use Rattle.walk_steps.specs.Work.{left_to_do, weight_all, work_of}
+use Rattle.walk_steps.proofs.leave.OthersLemmas.{apart_reading, apart_same, fresh_top, shallow_join, shallow_reading, shallow_split}
+use Rattle.walk_steps.proofs.leave.SoundLemmas.{all_same_reads, apart_front, apart_snoc, clear_same, opens_snoc, read_split, sound_join, sound_kept, sound_split, weight_kept, weight_snoc}
 use Rattle.walk_steps.proofs.leave.WithinLemmas.{weight_in_some, within_fewer}
 use Rattle.walk_steps.proofs.next.StepLemmas.{allowed_none, allowed_one, knows_begun, parts_later, rest_of, top_parts}
 use Rattle.walk_steps.proofs.next.MeetLemmas.{due_of_plan, plan_of_due}
@@ -112,6 +114,13 @@ allowed_before : (n a b c : ℕ) → a ≤ b → IsAllowed n b c → IsAllowed n
 allowed_before n a b c le (inl h) = inl (omega arith)
 allowed_before n a b c le (inr h) = inr h
 
+fresh_reading : (a b : Entries) (first given : Option DirEntry) (was now : List Due) → SameReading a b → given ≡ first → now ≡ was → IsFresh a first was → IsFresh b given now
+fresh_reading Unread b first given was now r f d h = rw (r, f, d) h
+fresh_reading (Open list) b first given was now r f d h = rw r tt
+fresh_reading (Kept kept) Unread first given was now r f d h = absurd r
+fresh_reading (Kept kept) (Open list) first given was now r f d h = tt
+fresh_reading (Kept kept) (Kept left) first given was now r f d h = tt
+
 module _ {S : Type 0} where
   pub take_sound : (s now : DiskState) (sorts : Bool) (inside : Inside S) (old new : Level) → Takes s now old new → IsSound s sorts (with_top inside old) → IsSound now sorts (with_top inside new)
   take_sound s now sorts inside old new t h =
@@ -122,6 +131,9 @@ module _ {S : Type 0} where
         read = h.read;
         rooted = λ none. absurd (cc none);
         few = let a = opens_snoc xs old in let b = opens_snoc xs new in let e = same_open_in old.entries new.entries t.same.entries in let f = h.few in omega (arith, a, b, e, f);
+        shallow = (let q = shallow_split inside.options.max_depth xs old h.shallow in
+            shallow_join inside.options.max_depth xs new q.0 (shallow_reading inside.options.max_depth old.folder new.folder old.entries new.entries t.same.folder t.same.entries q.1));
+        fresh = fresh_reading old.entries new.entries old.first new.first old.faults.items new.faults.items t.same.entries t.same.first t.same.faults h.fresh;
       }
 
   pub take_keeps : (s now : DiskState) (sorts : Bool) (inside : Inside S) (old new : Level) → Takes s now old new → IsSound s sorts (with_top inside old) → KeepsWalk s (with_top inside old) now (with_top inside new)
@@ -134,6 +146,8 @@ module _ {S : Type 0} where
       record {
         lists = (take_sound s now sorts inside old new t h).lists;
         within = within_fewer (open_limit inside.options) s now (xs ++ old ∷ []) (xs ++ new ∷ []) (omega (arith, a, b, e, n)) t.open_lists.open_most;
+        others = λ number apart is.
+            (let p = apart_front number xs old apart in (t.others number p.1, apart_snoc number xs new p.0 (apart_reading number old.entries new.entries t.same.entries p.1)));
         same = record { options = refl; order = refl; root = refl };
         tree = t.tree;
         faults = t.faults;
@@ -207,6 +221,8 @@ module _ {S : Type 0} where
         read = popped_read after.stack.items after.top (subst AreRead popped h.read);
         rooted = rooted;
         few = let a = opens_snoc xs old in let b = ap opens levels in let f = h.few in let o = ap (held_limit sorts) same.options in omega (arith, a, b, f, o);
+        shallow = rw same.options (subst (AreShallow inside.options.max_depth) (sym levels) (shallow_split inside.options.max_depth xs old h.shallow).0);
+        fresh = fresh_top after.stack.items after.top (subst AreRead (sym levels) h.read);
       }
 
   pub left_keeps : (s now last : DiskState) (sorts : Bool) (inside after : Inside S) (old new : Level) → Takes s now old new → IsSound s sorts (with_top inside old) → SameOtherThan now new.entries last
@@ -226,6 +242,9 @@ module _ {S : Type 0} where
       record {
         lists = subst (AreSound last) (sym levels) kept;
         within = within_fewer (open_limit inside.options) s last (xs ++ old ∷ []) (levels_of after) (omega (arith, a, b, e, n, count)) (most ∙ t.open_lists.open_most);
+        others = λ number apart is.
+            (let q = apart_front number xs old apart in
+            (others number (apart_reading number old.entries new.entries t.same.entries q.1) ∙ t.others number q.1, apart_same number xs (levels_of after) levels q.0));
         same = record { options = same.options; order = same.order; root = same.root };
         tree = record { tree = tree.tree ∙ t.tree.tree; clock = tree.clock ∙ t.tree.clock; outcomes = tree.outcomes ∙ t.tree.outcomes };
         faults = omega (arith, le, faults);

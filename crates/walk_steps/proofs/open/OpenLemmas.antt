@@ -1,13 +1,12 @@
 -- A directory is read for the first time.
-use Rattle.std.proofs.Common.{◌≡◌, ◌⊎◌, ◌+◌, ◌<◌, ◌≤◌, ℕ, max, Bool, true, false, cond, List, [], ◌∷◌, ◌++◌, length, map, reverse, Option, Some, None, Result, Ok, Err, refl, sym, subst, ap, ◌∙◌, inl, inr, arith, append-nil, append_assoc}
-use Rattle.std.specs.Prelude.{IsErr, IsTrue, OnOk, option_map}
+use Rattle.std.proofs.Common.{◌≡◌, ◌⊎◌, ◌+◌, ◌<◌, ◌≤◌, ℕ, max, Bool, true, false, cond, List, [], ◌∷◌, ◌++◌, length, map, Option, Some, None, Result, Ok, Err, refl, sym, subst, ap, ◌∙◌, inl, inr, arith, append-nil, append_assoc}
+use Rattle.std.specs.Prelude.{IsErr, IsSome, IsTrue, OnOk, option_map}
 use Rattle.std.proofs.lemmas.Bool.{cases_order}
 use Rattle.std.specs.List.{filter}
 use Rattle.std.specs.declared.cmp.Ordering.{Ordering}
-use Rattle.sd_edge.specs.Count.{HasRisen}
 use Rattle.sd_edge.specs.Tree.{Tree}
 use Rattle.sd_edge.specs.Disk.{DiskState, SameLists, SameTree}
-use Rattle.sd_edge.specs.Lists.{IsOpen, ListsDirectory}
+use Rattle.sd_edge.specs.Lists.{IsOpen, ListsDirectory, directory_of}
 use Rattle.sd_edge.specs.declared.meta.RawEntry.{RawEntry}
 use Rattle.walk_rest.specs.declared.entry.DirEntry.{DirEntry}
 use Rattle.walk_rest.specs.declared.options.Options.{Options}
@@ -19,20 +18,21 @@ use Rattle.walk_rest.specs.declared.level.Level.{Level}
 use Rattle.walk_rest.specs.Plan.{Plan, Manner, IsPlan, IsContents, ListsNames, entry_below, in_order}
 use Rattle.walk_rest.specs.Listing.{device_to, manner_of}
 use Rattle.walk_rest.specs.Rest.{Moves, Part, Rest}
-use Rattle.walk_rest.specs.Level.{AllSameReads, HasParts, IsDue, LeavesLists, SameReads, ReadsFolder, TakesEntries, TakesWithFaults, chain_above, fault_of, item_of, left_in, read_part, with_folder}
-use Rattle.walk_rest.specs.Sorting.{IsSublist}
+use Rattle.walk_rest.specs.Level.{AllSameReads, HasParts, IsDue, LeavesLists, ReadsFolder, chain_above, fault_of, item_of, left_in, read_part, with_folder}
 use Rattle.walk_rest.proofs.ReadLemmas.{sublist_same}
-use Rattle.walk_rest.proofs.FolderLemmas.{read_not_opened}
+use Rattle.walk_rest.proofs.FolderLemmas.{is_there, read_not_opened}
 use Rattle.walk_rest.proofs.PlanLemmas.{names_same}
 use Rattle.walk_rest.proofs.MoveLemmas.{list_kept, part_read}
 use Rattle.walk_steps.specs.declared.inside.Inside.{Inside}
 use Rattle.walk_steps.specs.Inside.{HasRest, IsRead, IsUnbegun, KnowsDevice, SameWalk, entries_in, levels_of, top_levels, with_top}
 use Rattle.walk_steps.specs.Lists.{KeepsOldest, OpensFolder}
-use Rattle.walk_steps.specs.Sound.{AreSound, AreRead, IsApart, IsReadable, IsSound, IsSoundBelow, KeepsWalk, SameOtherThan, StaysWithin, held_limit, open_in, open_limit, opens}
+use Rattle.walk_steps.specs.Sound.{AreSound, AreRead, AreShallow, IsApart, IsReadable, IsShallow, IsSound, IsSoundBelow, KeepsWalk, SameOtherThan, SameOthers, StaysWithin, held_limit, open_in, open_limit, opens}
 use Rattle.walk_steps.specs.Steps.{LiesUnread, MovesTo}
-use Rattle.walk_steps.specs.Work.{left_to_do, weight_first, weight_in, weight_of, weight_root, work_in}
+use Rattle.walk_steps.specs.Work.{left_to_do, weight_first, weight_in, weight_root, work_in}
 use Rattle.walk_steps.proofs.leave.SoundLemmas.{Clear, Differ, clear_unread, opens_snoc, sound_join, sound_kept, sound_unread, weight_kept}
 use Rattle.walk_steps.proofs.leave.WithinLemmas.{work_snoc}
+use Rattle.walk_steps.proofs.leave.OthersLemmas.{apart_same, apart_unread, fresh_read, others_lists, others_top, shallow_join}
+use Rattle.walk_steps.proofs.leave.SoundLemmas.{apart_front}
 use Rattle.walk_steps.proofs.next.StepLemmas.{parts_later, rest_of, top_parts, top_rest}
 
 -- ---- how many are open
@@ -165,6 +165,16 @@ module _ {S : Type 0} where
         allowed = rw to.same at r.allowed;
       }
 
+-- a directory that lies unread is there, where it is to be read
+module _ {S : Type 0} where
+  pub unread_there : (s : DiskState) (sorts : Bool) (by : DirEntry → DirEntry → Ordering) (inside : Inside S) (lying : Level) (folder : Folder) (rest : Rest) → LiesUnread lying (Some folder) → HasRest s sorts by (with_top inside lying) rest
+      → folder.depth < inside.options.max_depth → IsSome (directory_of s.tree folder.path)
+  unread_there s sorts by inside lying folder rest lies h shallow =
+      let m = manner_of s.tree inside.options sorts by inside.root in
+      let p = top_parts s sorts by inside lying rest h in
+      let due = unread_due s m inside.root (chain_above [] inside.stack.items) lying.folder lying.entries folder p.part.left lies.folder_is lies.unread p.top.due in
+      is_there s.tree m folder due.0 shallow due.1
+
 -- a list was opened, or it couldn't be
 pub opened_to : (s now : DiskState) (m : Manner) (folder : Folder) (inner : List DirEntry) (due : List Due) (level : Level) → m.sorts ≡ false → folder.depth < m.options.max_depth → due ≡ [] → s.faults ≤ now.faults
     → IsContents s.tree m folder inner
@@ -218,25 +228,28 @@ sound_top s now levels level h clear same readable = sound_join now levels level
 
 module _ {S : Type 0} where
   pub is_sound_top : (now : DiskState) (sorts : Bool) (inside : Inside S) (level : Level) → AreSound now (inside.stack.items ++ level ∷ []) → AreRead inside.stack.items → opens inside.stack.items + open_in level.entries ≤ held_limit sorts inside.options
-      → IsSound now sorts (with_top inside level)
-  is_sound_top now sorts inside level lists read few = record {
+      → AreShallow inside.options.max_depth inside.stack.items → IsShallow inside.options.max_depth level.folder level.entries → IsRead level.entries → IsSound now sorts (with_top inside level)
+  is_sound_top now sorts inside level lists read few below top is_read = record {
     lists = lists;
     read = read;
     rooted = λ none. absurd (cc none);
     few = let a = opens_snoc inside.stack.items level in omega (arith, a, few);
+    shallow = shallow_join inside.options.max_depth inside.stack.items level below top;
+    fresh = fresh_read level.entries level.first level.faults.items is_read;
   }
 
   -- a list more was open at most
   pub keeps_top : (s now : DiskState) (inside : Inside S) (lying level : Level) (more : ℕ) → lying.entries ≡ Unread → AreSound now (inside.stack.items ++ level ∷ []) → now.open_count ≡ s.open_count + open_in level.entries
       → now.open_most ≤ max s.open_most (s.open_count + more) → opens inside.stack.items + more ≤ open_limit inside.options → SameTree s now → s.faults ≤ now.faults → s.listed ≤ now.listed
-      → KeepsWalk s (with_top inside lying) now (with_top inside level)
-  keeps_top s now inside lying level more unread lists count most room tree faults later =
+      → SameOtherThan s level.entries now → ((number : ℕ) → IsOpen s number → IsApart number level.entries) → KeepsWalk s (with_top inside lying) now (with_top inside level)
+  keeps_top s now inside lying level more unread lists count most room tree faults later same apart =
       let a = opens_snoc inside.stack.items lying in
       let b = opens_snoc inside.stack.items level in
       let none = ap open_in unread in
       record {
         lists = lists;
         within = λ others e. (omega (arith, a, b, none, e, count), omega (arith, a, none, e, most, room));
+        others = others_top s now inside.stack.items lying level same apart;
         same = record { options = refl; order = refl; root = refl };
         tree = tree;
         faults = faults;
@@ -246,14 +259,15 @@ module _ {S : Type 0} where
   -- the same, where nothing came on top
   pub keeps_none : (s now : DiskState) (inside new : Inside S) (lying : Level) (more : ℕ) → lying.entries ≡ Unread → SameWalk inside new → levels_of new ≡ inside.stack.items → AreSound now inside.stack.items → now.open_count ≡ s.open_count
       → now.open_most ≤ max s.open_most (s.open_count + more) → opens inside.stack.items + more ≤ open_limit inside.options → SameTree s now → s.faults ≤ now.faults → s.listed ≤ now.listed
-      → KeepsWalk s (with_top inside lying) now new
-  keeps_none s now inside new lying more unread same levels lists count most room tree faults later =
+      → ((number : ℕ) → now.open_list number ≡ s.open_list number) → KeepsWalk s (with_top inside lying) now new
+  keeps_none s now inside new lying more unread same levels lists count most room tree faults later kept =
       let a = opens_snoc inside.stack.items lying in
       let b = ap opens levels in
       let none = ap open_in unread in
       record {
         lists = rw levels lists;
         within = λ others e. (omega (arith, a, b, none, e, count), omega (arith, a, none, e, most, room));
+        others = others_lists s now (inside.stack.items ++ lying ∷ []) (levels_of new) kept (λ number apart. apart_same number inside.stack.items (levels_of new) levels (apart_front number inside.stack.items lying apart).0);
         same = record { options = same.options; order = same.order; root = same.root };
         tree = tree;
         faults = faults;
@@ -326,23 +340,25 @@ module _ {S : Type 0} where
   still_taken inside new same taken = ap (λ (i : Inside S). i.top) same ∙ taken
 
   pub room_sound : (now : DiskState) (sorts by_now : Bool) (inside new : Inside S) → SameWalk inside new → by_now ≡ sorts → AreSound now new.stack.items → AreRead new.stack.items → opens new.stack.items ≤ opens inside.stack.items
-      → opens inside.stack.items ≤ held_limit sorts inside.options → IsSoundBelow now by_now new
-  room_sound now sorts by_now inside new same e lists read fewer few = record {
+      → opens inside.stack.items ≤ held_limit sorts inside.options → AreShallow inside.options.max_depth new.stack.items → IsSoundBelow now by_now new
+  room_sound now sorts by_now inside new same e lists read fewer few shallow = record {
     lists = lists;
     read = read;
     few = let a = ap (held_limit sorts) same.options in let b = ap (λ (s : Bool). held_limit s new.options) e in omega (arith, a, b, fewer, few);
+    shallow = rw same.options shallow;
   }
 
   -- a directory that lies unread stays on top
   pub keeps_room : (s now : DiskState) (inside new : Inside S) (lying : Level) → lying.entries ≡ Unread → SameWalk inside new → AreSound now new.stack.items → StaysWithin 0 s inside.stack.items now new.stack.items
-      → SameTree s now → s.faults ≤ now.faults → s.listed ≤ now.listed → KeepsWalk s (with_top inside lying) now (with_top new lying)
-  keeps_room s now inside new lying unread same lists within tree faults later =
+      → SameTree s now → s.faults ≤ now.faults → s.listed ≤ now.listed → SameOthers s inside.stack.items now new.stack.items → KeepsWalk s (with_top inside lying) now (with_top new lying)
+  keeps_room s now inside new lying unread same lists within tree faults later kept =
       let a = opens_snoc inside.stack.items lying in
       let b = opens_snoc new.stack.items lying in
       let none = ap open_in unread in
       record {
         lists = sound_unread now new.stack.items lying lists unread;
         within = λ others e. let w = within others (omega (arith, a, none, e)) in let count = w.0 in let most = w.1 in (omega (arith, b, none, count), omega (arith, most));
+        others = λ number apart is. let k = kept number (apart_front number inside.stack.items lying apart).0 is in (k.0, apart_unread number new.stack.items lying unread k.1);
         same = record { options = same.options; order = same.order; root = same.root };
         tree = tree;
         faults = faults;
@@ -351,14 +367,15 @@ module _ {S : Type 0} where
 
   -- nothing came on top
   pub keeps_refused : (s now : DiskState) (inside new : Inside S) (lying : Level) → lying.entries ≡ Unread → SameWalk inside new → levels_of new ≡ new.stack.items → AreSound now new.stack.items
-      → StaysWithin 0 s inside.stack.items now new.stack.items → SameTree s now → s.faults ≤ now.faults → s.listed ≤ now.listed → KeepsWalk s (with_top inside lying) now new
-  keeps_refused s now inside new lying unread same levels lists within tree faults later =
+      → StaysWithin 0 s inside.stack.items now new.stack.items → SameTree s now → s.faults ≤ now.faults → s.listed ≤ now.listed → SameOthers s inside.stack.items now new.stack.items → KeepsWalk s (with_top inside lying) now new
+  keeps_refused s now inside new lying unread same levels lists within tree faults later kept =
       let a = opens_snoc inside.stack.items lying in
       let b = ap opens levels in
       let none = ap open_in unread in
       record {
         lists = subst (AreSound now) (sym levels) lists;
         within = λ others e. let w = within others (omega (arith, a, none, e)) in let count = w.0 in let most = w.1 in (omega (arith, b, count), omega (arith, most));
+        others = λ number apart is. let k = kept number (apart_front number inside.stack.items lying apart).0 is in (k.0, apart_same number new.stack.items (levels_of new) levels k.1);
         same = record { options = same.options; order = same.order; root = same.root };
         tree = tree;
         faults = faults;

@@ -1,9 +1,8 @@
 -- The root is looked at.
-use Rattle.std.proofs.Common.{◌≡◌, ◌≢◌, ◌⊎◌, ◌+◌, ◌<◌, ◌≤◌, ℕ, zero, suc, Bool, true, false, cond, List, [], ◌∷◌, ◌++◌, length, map, reverse, Option, Some, None, Err, refl, sym, subst, ap, ◌∙◌, inl, inr, arith, append-nil}
+use Rattle.std.proofs.Common.{◌≡◌, ◌⊎◌, ◌+◌, ◌<◌, ◌≤◌, ℕ, zero, suc, Bool, true, false, cond, List, [], ◌∷◌, ◌++◌, length, map, Option, Some, None, Err, refl, sym, subst, ap, ◌∙◌, inl, inr, arith, append-nil}
 use Rattle.std.specs.Prelude.{IsTrue, option_map}
 use Rattle.std.specs.Option.{option_map_or}
 use Rattle.std.specs.declared.cmp.Ordering.{Ordering}
-use Rattle.sd_edge.specs.Count.{HasRisen}
 use Rattle.sd_edge.specs.Tree.{Node, Tree}
 use Rattle.sd_edge.specs.Disk.{DiskState, SameLists, SameTree}
 use Rattle.walk_rest.specs.declared.entry.DirEntry.{DirEntry}
@@ -16,14 +15,14 @@ use Rattle.walk_rest.specs.declared.level.Entries.TheVariants.{Unread, Open, Kep
 use Rattle.walk_rest.specs.declared.level.Level.{Level}
 use Rattle.walk_rest.specs.Plan.{Item, Plan, done, past, into, Manner, IsPlan, node_to}
 use Rattle.walk_rest.specs.Listing.{Beginning, ends, begins, begins_with, beginning, device_to, manner_of, IsBegun, IsRootPlan}
-use Rattle.walk_rest.specs.Rest.{Fault, Part, Rest, Moves, none, cut, ComesIn, IsNextGone, IsFaultIn}
-use Rattle.walk_rest.specs.Level.{HasPart, HasParts, IsDue, chain_above, with_folder, fault_of, item_of}
+use Rattle.walk_rest.specs.Rest.{Fault, Part, Rest, none, cut, ComesIn, IsNextGone, IsFaultIn}
+use Rattle.walk_rest.specs.Level.{IsDue, chain_above, with_folder, fault_of, item_of}
 use Rattle.walk_rest.proofs.MoveLemmas.{parts_snoc}
 use Rattle.walk_steps.specs.declared.inside.Inside.{Inside}
 use Rattle.walk_steps.specs.Inside.{HasRest, IsRead, IsUnbegun, IsUntaken, SameWalk, entries_in, levels_of, with_top}
-use Rattle.walk_steps.specs.Sound.{AreSound, AllAt, IsApart, IsReadable, IsSound, IsSoundBelow, KeepsWalk, held_limit, open_in, open_limit}
+use Rattle.walk_steps.specs.Sound.{AreSound, AllAt, IsApart, IsReadable, IsShallow, IsSound, IsSoundBelow, KeepsWalk, held_limit, open_in, open_limit}
 use Rattle.walk_steps.specs.Work.{left_to_do, weight_first, weight_in, weight_root}
-use Rattle.walk_steps.specs.Steps.{CannotBegin, LiesUnread, MovesTo, StepsTo, TurnsTo}
+use Rattle.walk_steps.specs.Steps.{CannotBegin, LiesUnread, MovesTo, StepsTo}
 use Rattle.walk_steps.proofs.leave.SoundLemmas.{clear_unread, weight_kept}
 use Rattle.walk_steps.proofs.leave.WithinLemmas.{work_snoc}
 use Rattle.walk_steps.proofs.open.OpenLemmas.{clear_from, is_sound_top, keeps_none, keeps_top, no_top, sound_on, sound_top}
@@ -104,6 +103,11 @@ come_past below part path item plan first is =
     let P : Option Item → Type 0 = λ f. ComesIn below part f part.left item (below ++ record part { left = plan } ∷ []) in
     let Q : Plan → Type 0 = λ x. ComesIn below part None x item (below ++ record part { left = plan } ∷ []) in
     subst P (sym first) (subst Q (sym is) (refl, refl))
+
+unheld_shallow : (n : ℕ) (folder : Option Folder) (e : Entries) → open_in e ≡ 0 → IsShallow n folder e
+unheld_shallow n folder Unread shut = tt
+unheld_shallow n folder (Open list) shut = absurd (omega (arith, shut))
+unheld_shallow n folder (Kept kept) shut = tt
 
 module _ {S : Type 0} where
   -- the root's level lies on top, and its entry, if it has one, is to come
@@ -255,11 +259,11 @@ module _ {S : Type 0} where
       sound_top s now inside.stack.items level sound.lists (clear_from s level.entries inside.stack.items sound.lists (λ number is. apart number)) (λ number a. ap (λ (o : ℕ → _). o number) lists.open_list) readable
 
   pub root_sound : (s now : DiskState) (sorts : S → Bool) (inside begun : Inside S) (level : Level) → begun ≡ record inside { device = begun.device } → IsSoundBelow s (sorts inside.order) inside → SameLists s now
-      → ((number : ℕ) → IsApart number level.entries) → open_in level.entries ≡ 0 → IsReadable now level.folder level.entries → IsSound now (sorts begun.order) (with_top begun level)
-  root_sound s now sorts inside begun level same sound lists apart unheld readable =
+      → ((number : ℕ) → IsApart number level.entries) → open_in level.entries ≡ 0 → IsReadable now level.folder level.entries → IsRead level.entries → IsSound now (sorts begun.order) (with_top begun level)
+  root_sound s now sorts inside begun level same sound lists apart unheld readable read =
       let few = sound.few in
       let P : Inside S → Type 0 = λ i. IsSound now (sorts i.order) (with_top i level) in
-      subst P (sym same) (is_sound_top now (sorts inside.order) (record inside { device = begun.device }) level (root_lists s now (sorts inside.order) inside level sound lists apart readable) sound.read (omega (arith, unheld, few)))
+      subst P (sym same) (is_sound_top now (sorts inside.order) (record inside { device = begun.device }) level (root_lists s now (sorts inside.order) inside level sound lists apart readable) sound.read (omega (arith, unheld, few)) sound.shallow (unheld_shallow inside.options.max_depth level.folder level.entries unheld) read)
 
   pub root_keeps : (s now : DiskState) (sorts : Bool) (inside begun : Inside S) (lying level : Level) → begun ≡ record inside { device = begun.device } → lying.entries ≡ Unread → IsSoundBelow s sorts inside → SameLists s now
       → ((number : ℕ) → IsApart number level.entries) → open_in level.entries ≡ 0 → IsReadable now level.folder level.entries → SameTree s now → s.faults ≤ now.faults → KeepsWalk s (with_top inside lying) now (with_top begun level)
@@ -269,9 +273,9 @@ module _ {S : Type 0} where
       let count = lists.open_count in
       let most = lists.open_most in
       let listed = lists.listed in
-      let k = keeps_top s now inside lying level 0 unread (root_lists s now sorts inside level sound lists apart readable) (omega (arith, count, unheld)) (omega (arith, most)) (omega (arith, few, held)) tree faults (omega (arith, listed)) in
+      let k = keeps_top s now inside lying level 0 unread (root_lists s now sorts inside level sound lists apart readable) (omega (arith, count, unheld)) (omega (arith, most)) (omega (arith, few, held)) tree faults (omega (arith, listed)) (λ number a. ap (λ (o : ℕ → _). o number) lists.open_list) (λ number is. apart number) in
       let P : Inside S → Type 0 = λ i. KeepsWalk s (with_top inside lying) now (with_top i level) in
-      subst P (sym same) (record { lists = k.lists; within = k.within; same = record { options = refl; order = refl; root = refl }; tree = tree; faults = faults; later = k.later })
+      subst P (sym same) (record { lists = k.lists; within = k.within; others = k.others; same = record { options = refl; order = refl; root = refl }; tree = tree; faults = faults; later = k.later })
 
   pub root_refused : (s now : DiskState) (sorts : Bool) (inside begun : Inside S) (lying : Level) → begun ≡ record inside { device = begun.device } → inside.top ≡ None → lying.entries ≡ Unread → IsSoundBelow s sorts inside → SameLists s now
       → SameTree s now → s.faults ≤ now.faults → KeepsWalk s (with_top inside lying) now begun
@@ -282,7 +286,7 @@ module _ {S : Type 0} where
       let listed = lists.listed in
       keeps_none s now inside begun lying 0 unread (record { options = ap (λ (i : Inside S). i.options) same; order = ap (λ (i : Inside S). i.order) same; root = ap (λ (i : Inside S). i.root) same })
       (ap levels_of same ∙ no_top inside top)
-      (sound_on s now inside.stack.items sound.lists (λ number. ap (λ (o : ℕ → _). o number) lists.open_list)) lists.open_count (omega (arith, most)) (omega (arith, few, held)) tree faults (omega (arith, listed))
+      (sound_on s now inside.stack.items sound.lists (λ number. ap (λ (o : ℕ → _). o number) lists.open_list)) lists.open_count (omega (arith, most)) (omega (arith, few, held)) tree faults (omega (arith, listed)) (λ number. ap (λ (o : ℕ → _). o number) lists.open_list)
 
   -- ---- the work that is left
 

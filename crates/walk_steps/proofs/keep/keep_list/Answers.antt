@@ -1,7 +1,7 @@
 use Rattle.std.proofs.Common.{◌≡◌, ◌+◌, ap, inl, inr, arith}
 use Rattle.std.specs.Prelude.{slice_set}
 use Rattle.walk_steps.specs.Sound.{open_in, opens}
-use Rattle.walk_steps.proofs.keep.KeepLemmas.{ReplacesOne, stands, replaced, kept_oldest, kept_work, open_one, readable_at}
+use Rattle.walk_steps.proofs.keep.KeepLemmas.{ReplacesOne, stands, replaced, kept_counted, kept_oldest, kept_work, open_one, readable_at}
 use Rattle.walk_steps.proofs.keep.keep_list.Given as given
 use Rattle.walk_steps.proofs.keep.keep_list.Goals as goal
 
@@ -15,7 +15,7 @@ failed g c =
     let at = stands c.args.levels.now.items c.as_slice.result.now c.in-Some.place c.index_mut.result.now c.as_slice.ensures.value c.in-Some.ensures.found c.index_mut.ensures.value in
     let k = c.keep_level.ensures in
     replaced (g.D.Disk.state c.args.disk.now) (g.D.Disk.state c.keep_level.new.disk) c.args.levels.now.items c.in-Some.place c.index_mut.result.now c.keep_level.new.level at c.requires.sound
-    k.others k.readable k.read k.count k.most (inl c.in_err-keep_level.ensures.refused)
+    k.others k.readable k.read k.count k.most (inl c.in_err-keep_level.ensures.refused) k.folder
 
 pub returns-in_err-keep_level-clause-sound : goal.returns-in_err-keep_level-clause-sound
 returns-in_err-keep_level-clause-sound g c = (failed g c).sound
@@ -37,7 +37,7 @@ kept g c =
     let at = stands c.args.levels.now.items c.as_slice.result.now c.in-Some.place c.index_mut.result.now c.as_slice.ensures.value c.in-Some.ensures.found c.index_mut.ensures.value in
     let k = c.keep_level.ensures in
     replaced (g.D.Disk.state c.args.disk.now) (g.D.Disk.state c.keep_level.new.disk) c.args.levels.now.items c.in-Some.place c.index_mut.result.now c.keep_level.new.level at c.requires.sound
-    k.others k.readable k.read k.count k.most (inr c.in_ok-keep_level.ensures.closed)
+    k.others k.readable k.read k.count k.most (inr c.in_ok-keep_level.ensures.closed) k.folder
 
 -- one list fewer is open
 fewer : (g : given.Over) (c : goal.In_ok-keep_level g) → opens (slice_set c.args.levels.now.items c.in-Some.place c.keep_level.new.level) + 1 ≡ opens c.args.levels.now.items
@@ -75,3 +75,19 @@ pub returns-in_ok-keep_level-clause-work : goal.returns-in_ok-keep_level-clause-
 returns-in_ok-keep_level-clause-work g c = kept_work (g.D.Disk.state c.args.disk.now) (g.D.Disk.state c.keep_level.new.disk) c.args.levels.now.items c.in-Some.place c.index_mut.result.now c.keep_level.new.level
     (stands c.args.levels.now.items c.as_slice.result.now c.in-Some.place c.index_mut.result.now c.as_slice.ensures.value c.in-Some.ensures.found c.index_mut.ensures.value) c.requires.sound
     c.keep_level.ensures.others c.in_ok-keep_level.ensures.work
+
+pub returns-in_err-keep_level-clause-apart : goal.returns-in_err-keep_level-clause-apart
+returns-in_err-keep_level-clause-apart g c = (failed g c).apart
+
+pub returns-in_err-keep_level-clause-shallow : goal.returns-in_err-keep_level-clause-shallow
+returns-in_err-keep_level-clause-shallow g c = (failed g c).shallow
+
+pub returns-in_ok-keep_level-clause-apart : goal.returns-in_ok-keep_level-clause-apart
+returns-in_ok-keep_level-clause-apart g c = (kept g c).apart
+
+pub returns-in_ok-keep_level-clause-shallow : goal.returns-in_ok-keep_level-clause-shallow
+returns-in_ok-keep_level-clause-shallow g c = (kept g c).shallow
+
+pub returns-in_ok-keep_level-clause-counted : goal.returns-in_ok-keep_level-clause-counted
+returns-in_ok-keep_level-clause-counted g c = kept_counted (g.D.Disk.state c.args.disk.now) (g.D.Disk.state c.keep_level.new.disk) c.args.levels.now.items c.in-Some.place c.index_mut.result.now c.keep_level.new.level
+    (stands c.args.levels.now.items c.as_slice.result.now c.in-Some.place c.index_mut.result.now c.as_slice.ensures.value c.in-Some.ensures.found c.index_mut.ensures.value) c.in_ok-keep_level.ensures.due

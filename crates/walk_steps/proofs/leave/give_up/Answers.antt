@@ -1,8 +1,9 @@
-use Rattle.std.proofs.Common.{◌≡◌, ◌+◌, ◌∷◌, ◌++◌, [], Some, List, Option, refl, sym, subst, ◌∙◌, ap, arith, append-nil}
+use Rattle.std.proofs.Common.{◌≡◌, ◌+◌, ◌++◌, List, Option, refl, sym, subst, ◌∙◌, ap, arith, append-nil}
 use Rattle.walk_rest.specs.declared.level.Level.{Level}
 use Rattle.walk_steps.specs.Inside.{levels_of, top_levels}
-use Rattle.walk_steps.specs.Sound.{AreSound, opens, open_in}
+use Rattle.walk_steps.specs.Sound.{AreApart, AreSound, opens, open_in}
 use Rattle.walk_steps.proofs.leave.SoundLemmas.{sound_split, sound_one, sound_kept, opens_snoc}
+use Rattle.walk_steps.proofs.leave.OthersLemmas.{others_closed, others_on}
 use Rattle.walk_steps.proofs.leave.WithinLemmas.{within_fewer, within_on}
 use Rattle.walk_steps.proofs.next.StepLemmas.{top_is, no_items}
 use Rattle.walk_steps.proofs.leave.give_up.Goals as goal
@@ -32,6 +33,7 @@ loop-level-init g c = elim c.match-take.branch [
         sound = sound_kept s last level.entries xs parts.0 parts.2 closed.others;
         same = record { options = refl; order = refl; root = refl };
         within = within_fewer 0 s last (levels_of c.args.inside.now) xs (let k = closed.count in omega (arith, k, few)) closed.most;
+        others = λ number apart is. others_closed s last xs level closed.others number (subst (AreApart number) was apart) is;
         listed = closed.listed;
         tree = closed.tree;
         faults = closed.faults;
@@ -46,6 +48,7 @@ loop-level-init g c = elim c.match-take.branch [
         sound = subst (AreSound s) was c.requires;
         same = record { options = refl; order = refl; root = refl };
         within = within_fewer 0 s s (levels_of c.args.inside.now) xs (omega (arith, few)) refl;
+        others = λ number apart is. (refl, subst (AreApart number) was apart);
         listed = refl;
         tree = record { tree = refl; clock = refl; outcomes = refl };
         faults = refl;
@@ -75,6 +78,8 @@ loop-level-preserved g c =
       same = record { options = inv.same.options; order = inv.same.order; root = inv.same.root };
       within = within_on 0 (g.D.Disk.state c.args.disk.now) s last (levels_of c.args.inside.now) c.loop-level.inside.stack.items left inv.within
           (within_fewer 0 s last c.loop-level.inside.stack.items left (let k = closed.count in omega (arith, k, few)) closed.most);
+      others = others_on (g.D.Disk.state c.args.disk.now) s last (levels_of c.args.inside.now) c.loop-level.inside.stack.items left inv.others
+          (λ number apart is. others_closed s last left level closed.others number (subst (AreApart number) c.in-Some-pop.ensures.items apart) is);
       listed = closed.listed ∙ inv.listed;
       tree = record { tree = closed.tree.tree ∙ inv.tree.tree; clock = closed.tree.clock ∙ inv.tree.clock; outcomes = closed.tree.outcomes ∙ inv.tree.outcomes };
       faults = closed.faults ∙ inv.faults;
@@ -84,3 +89,6 @@ pub returns-clause-within : goal.returns-clause-within
 returns-clause-within g c =
     let none = ap opens (no_items c.loop-level.inside.stack.items (let z = c.in_default-pop.ensures.cases.0 in omega (arith, z, c.loop-level.inside.stack.ok.0))) in
     λ others e. let w = c.loop-level.invariant.within others e in (rw (← none) w.0, w.1)
+
+pub returns-clause-others : goal.returns-clause-others
+returns-clause-others g c = λ number apart is. ((c.loop-level.invariant.others number apart is).0, tt)

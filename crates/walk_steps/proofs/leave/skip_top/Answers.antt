@@ -1,10 +1,11 @@
 use Rattle.std.proofs.Common.{◌≡◌, ◌+◌, ◌∷◌, ◌++◌, [], Some, List, refl, sym, subst, ◌∙◌, ap, arith, append-nil}
 use Rattle.walk_rest.specs.declared.level.Level.{Level}
 use Rattle.walk_steps.specs.Inside.{levels_of}
-use Rattle.walk_steps.specs.Sound.{AreSound, AreRead, opens, open_in}
+use Rattle.walk_steps.specs.Sound.{AreApart, AreShallow, AreSound, AreRead, opens, open_in}
 use Rattle.walk_steps.specs.Work.{weight_all, weight_of}
 use Rattle.walk_steps.proofs.leave.SoundLemmas.{sound_split, sound_one, sound_kept, read_split, opens_snoc, weight_kept, weight_snoc}
 use Rattle.walk_steps.proofs.leave.WithinLemmas.{within_fewer}
+use Rattle.walk_steps.proofs.leave.OthersLemmas.{fresh_top, others_closed, shallow_split}
 use Rattle.walk_steps.proofs.next.StepLemmas.{top_is, skipped, skipped_none, rest_of, rest_parts, knows_at, no_items}
 use Rattle.walk_steps.proofs.leave.skip_top.Given as given
 use Rattle.walk_steps.proofs.leave.skip_top.Goals as goal
@@ -56,6 +57,8 @@ returns-in-Some-pop-clause-sound g c =
       read = (read_split c.pop.new.self.items c.in-Some-pop.below (subst AreRead c.in-Some-pop.ensures.items c.requires.read)).0;
       rooted = λ none. absurd (cc none);
       few = let a = opens_in g c in let f = c.requires.few in omega (arith, a, f);
+      shallow = (shallow_split c.args.inside.now.options.max_depth levels c.in-Some.level (subst (AreShallow c.args.inside.now.options.max_depth) (was_in g c) c.requires.shallow)).0;
+      fresh = fresh_top c.pop.new.self.items (Some c.in-Some-pop.below) (subst AreRead c.in-Some-pop.ensures.items c.requires.read);
     }
 
 pub returns-in-Some-pop-clause-within : goal.returns-in-Some-pop-clause-within
@@ -74,3 +77,14 @@ returns-in-Some-pop-clause-not_more g c =
     let a : weight_all s (levels_of c.args.inside.now) ≡ weight_all s levels + weight_of s level = ap (weight_all s) (was_in g c) ∙ weight_snoc s levels level in
     let same = c.close_level.ensures.listed in
     omega (arith, a, kept, same)
+
+pub returns-in-Some-pop-clause-others : goal.returns-in-Some-pop-clause-others
+returns-in-Some-pop-clause-others g c = λ number apart is.
+    others_closed (g.D.Disk.state c.args.disk.now) (g.D.Disk.state c.close_level.new.disk) (c.pop.new.self.items ++ c.in-Some-pop.below ∷ []) c.in-Some.level c.close_level.ensures.others number (subst (AreApart number) (was_in g c) apart) is
+
+pub returns-in-None-clause-others : goal.returns-in-None-clause-others
+returns-in-None-clause-others g c = λ number apart is.
+    let level = c.in-Some.level in
+    let was = top_is c.args.inside.now level (sym c.take.ensures.value ∙ c.in-Some.is) in
+    let same : levels_of c.args.inside.now ≡ c.pop.new.self.items ++ level ∷ [] = was ∙ ap (λ (xs : List Level). xs ++ level ∷ []) (c.in-None.ensures.items ∙ append-nil c.pop.new.self.items) in
+    (refl, subst (AreApart number) same apart)

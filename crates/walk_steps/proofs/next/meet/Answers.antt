@@ -1,4 +1,4 @@
-use Rattle.std.proofs.Common.{◌≡◌, ◌+◌, ◌≤◌, ◌∷◌, ◌++◌, [], None, Some, Option, Bool, refl, sym, subst, ◌∙◌, ap, arith}
+use Rattle.std.proofs.Common.{◌≡◌, None, Some, Ok, Err, Option, Bool, true, false, inl, refl, sym, subst, ◌∙◌, ap, arith}
 use Rattle.std.specs.Prelude.{option_map}
 use Rattle.walk_rest.specs.declared.entry.DirEntry.{DirEntry}
 use Rattle.walk_rest.specs.Level.{item_of}
@@ -6,14 +6,16 @@ use Rattle.walk_rest.specs.declared.error.Error.{Error}
 use Rattle.walk_rest.specs.declared.error.Error.TheVariants as error
 use Rattle.walk_rest.specs.Plan.{Seen, seen, enters, item_where}
 use Rattle.walk_steps.specs.Seen.{FailsAsSeen}
+use Rattle.walk_steps.specs.Causes.{faults_told}
 use Rattle.walk_rest.specs.Listing.{manner_of}
 use Rattle.walk_steps.specs.Inside.{chain_of, levels_of, with_top}
 use Rattle.walk_steps.specs.Sound.{IsSound}
 use Rattle.walk_steps.specs.Steps.{TurnsTo}
-use Rattle.walk_steps.specs.Work.{left_to_do}
 use Rattle.walk_steps.proofs.leave.SoundLemmas.{sound_split}
 use Rattle.walk_steps.proofs.leave.WithinLemmas.{keeps_on}
 use Rattle.walk_steps.proofs.next.MeetLemmas.{PutsBack, met_stays, met_error, met_enters, back_sound, back_keeps, back_work, seen_here, enters_sound, enters_keeps, enters_work, refused_keeps}
+use Rattle.walk_steps.proofs.next.CauseLemmas.{caused_met, caused_none, caused_ok, counts_same, entered_by, enters_due, error_allowed, fails_for, read_not, top_not}
+use Rattle.walk_steps.proofs.next.ListedLemmas.{enters_hidden, enters_settled, hidden_deep, settled_read}
 use Rattle.walk_steps.proofs.next.meet.Goals as goal
 
 pub returns-in_err-entry-in-Ok-Enters-clause-keeps : goal.returns-in_err-entry-in-Ok-Enters-clause-keeps
@@ -227,3 +229,78 @@ returns-in_ok-named-in-Err-clause-keeps g c =
 
 pub returns-in_ok-named-in-Err-clause-little : goal.returns-in_ok-named-in-Err-clause-little
 returns-in_ok-named-in-Err-clause-little g c = let e = back_work (g.D.Disk.state c.args.disk.now) (g.D.Disk.state c.see.new.disk) (with_top c.args.inside.now c.args.level) c.see.ensures.lists in omega (arith, e)
+
+-- ---- causes and counts
+
+pub returns-then-is_shown-clause-caused : goal.returns-then-is_shown-clause-caused
+returns-then-is_shown-clause-caused g c =
+    caused_ok g.D.Disk.tells (g.D.Disk.state c.args.disk.now) (g.D.Disk.state c.see.new.disk) c.in-Ok-Stays.entry (with_top c.args.inside.now c.args.level)
+    (top_not (Some (Ok c.in-Ok-Stays.entry)) c.args.level (read_not c.args.level.entries c.requires.read))
+
+pub returns-then-is_shown-clause-counted : goal.returns-then-is_shown-clause-counted
+returns-then-is_shown-clause-counted g c = let later = c.see.ensures.faults in inl (omega (arith, later))
+
+pub returns-else-is_shown-clause-caused : goal.returns-else-is_shown-clause-caused
+returns-else-is_shown-clause-caused g c = caused_none g.D.Disk.tells (g.D.Disk.state c.args.disk.now) (g.D.Disk.state c.see.new.disk) (with_top c.args.inside.now c.args.level)
+
+pub returns-else-is_shown-clause-counted : goal.returns-else-is_shown-clause-counted
+returns-else-is_shown-clause-counted g c = let later = c.see.ensures.faults in inl (omega (arith, later))
+
+pub returns-in-Some-clause-caused : goal.returns-in-Some-clause-caused
+returns-in-Some-clause-caused g c =
+    caused_ok g.D.Disk.tells (g.D.Disk.state c.args.disk.now) (g.D.Disk.state c.see.new.disk) c.in-Some.entry c.enter.new.inside
+    (entered_by c.args.inside.now c.enter.new.inside c.args.level c.in-Ok-Enters.entry c.in-Ok-Enters.folder c.in_ok-entry-in-Ok-Enters.field-0 c.in-Some.entry c.in_ok-entry-in-Ok-Enters.ensures.entered c.in-Some.is
+    (rw c.in-Ok-Enters.field-0-is at c.in-Ok-Enters.ensures.sight).1)
+
+pub returns-in-Some-clause-counted : goal.returns-in-Some-clause-counted
+returns-in-Some-clause-counted g c =
+    let later = c.see.ensures.faults in
+    counts_same 0 (g.D.Disk.state c.args.disk.now) (g.D.Disk.state c.see.new.disk) (levels_of (with_top c.args.inside.now c.args.level)) (levels_of c.enter.new.inside)
+    (enters_due c.args.inside.now c.enter.new.inside c.args.level c.in-Ok-Enters.entry c.in-Ok-Enters.folder c.in_ok-entry-in-Ok-Enters.field-0 c.in_ok-entry-in-Ok-Enters.ensures.entered) (inl (omega (arith, later)))
+
+pub returns-in-None-clause-caused : goal.returns-in-None-clause-caused
+returns-in-None-clause-caused g c = caused_none g.D.Disk.tells (g.D.Disk.state c.args.disk.now) (g.D.Disk.state c.see.new.disk) c.enter.new.inside
+
+pub returns-in-None-clause-counted : goal.returns-in-None-clause-counted
+returns-in-None-clause-counted g c =
+    let later = c.see.ensures.faults in
+    counts_same 0 (g.D.Disk.state c.args.disk.now) (g.D.Disk.state c.see.new.disk) (levels_of (with_top c.args.inside.now c.args.level)) (levels_of c.enter.new.inside)
+    (enters_due c.args.inside.now c.enter.new.inside c.args.level c.in-Ok-Enters.entry c.in-Ok-Enters.folder c.in_ok-entry-in-Ok-Enters.field-0 c.in_ok-entry-in-Ok-Enters.ensures.entered) (inl (omega (arith, later)))
+
+pub returns-in_ok-named-in-Err-clause-caused : goal.returns-in_ok-named-in-Err-clause-caused
+returns-in_ok-named-in-Err-clause-caused g c =
+    caused_met g.D.Disk.tells (g.D.Disk.state c.args.disk.now) (g.D.Disk.state c.see.new.disk) c.args.entry c.in_ok-named-in-Err.field-0 (with_top c.args.inside.now c.args.level) (fails_for g.D.Disk.tells (g.D.Disk.state c.args.disk.now) (g.D.Disk.state c.see.new.disk) c.args.inside.now (chain_of (with_top c.args.inside.now c.args.level)) c.args.entry c.in_ok-named-in-Err.field-0 _ c.in_ok-named-in-Err.ensures.same
+    c.see.ensures.faults c.in-Err.ensures.cause c.in-Err.ensures.failed)
+    (top_not (Some (Err c.in_ok-named-in-Err.field-0)) c.args.level (read_not c.args.level.entries c.requires.read))
+
+pub returns-in_ok-named-in-Err-clause-counted : goal.returns-in_ok-named-in-Err-clause-counted
+returns-in_ok-named-in-Err-clause-counted g c =
+    let s = g.D.Disk.state c.args.disk.now in
+    let now = g.D.Disk.state c.see.new.disk in
+    let inside = with_top c.args.inside.now c.args.level in
+    counts_same (faults_told g.D.Disk.tells (Some (Err c.in_ok-named-in-Err.field-0))) s now (levels_of inside) (levels_of inside) refl
+    (error_allowed g.D.Disk.tells s.faults now.faults c.args.entry (chain_of inside) c.in_ok-named-in-Err.field-0 (fails_for g.D.Disk.tells (g.D.Disk.state c.args.disk.now) (g.D.Disk.state c.see.new.disk) c.args.inside.now (chain_of (with_top c.args.inside.now c.args.level)) c.args.entry c.in_ok-named-in-Err.field-0 _ c.in_ok-named-in-Err.ensures.same
+    c.see.ensures.faults c.in-Err.ensures.cause c.in-Err.ensures.failed))
+
+-- ---- what is passed over
+
+pub returns-else-is_shown-clause-hides : goal.returns-else-is_shown-clause-hides
+returns-else-is_shown-clause-hides g c = λ gives.
+    let deep = hidden_deep c.args.inside.now.options c.in-Ok-Stays.entry.depth gives (sym c.is_shown.ensures ∙ c.if-is_shown.false) in
+    let same = rw c.in-Ok-Stays.field-0-is at c.in-Ok-Stays.ensures.sight in
+    omega (arith, deep, same)
+
+pub returns-else-is_shown-clause-settles : goal.returns-else-is_shown-clause-settles
+returns-else-is_shown-clause-settles g c = λ gives. settled_read c.args.inside.now.options.max_depth c.args.level.folder c.args.level.entries c.requires.read
+
+pub returns-in-None-clause-hides : goal.returns-in-None-clause-hides
+returns-in-None-clause-hides g c = λ gives.
+    let deep = enters_hidden c.args.inside.now c.enter.new.inside c.args.level c.in-Ok-Enters.entry c.in-Ok-Enters.folder c.in_ok-entry-in-Ok-Enters.field-0 c.in_ok-entry-in-Ok-Enters.ensures.entered c.in-None.is gives in
+    let same = (rw c.in-Ok-Enters.field-0-is at c.in-Ok-Enters.ensures.sight).0 in
+    omega (arith, deep, same)
+
+pub returns-in-None-clause-settles : goal.returns-in-None-clause-settles
+returns-in-None-clause-settles g c = λ gives.
+    let entered = c.in_ok-entry-in-Ok-Enters.ensures.entered in
+    enters_settled c.args.inside.now c.enter.new.inside c.args.level c.in-Ok-Enters.entry c.in-Ok-Enters.folder c.in_ok-entry-in-Ok-Enters.field-0 c.args.inside.now.options.max_depth entered (rw c.in-Ok-Enters.field-0-is at c.in-Ok-Enters.ensures.sight).1
+    (enters_hidden c.args.inside.now c.enter.new.inside c.args.level c.in-Ok-Enters.entry c.in-Ok-Enters.folder c.in_ok-entry-in-Ok-Enters.field-0 entered c.in-None.is gives)

@@ -1,12 +1,19 @@
-use Rattle.std.proofs.Common.{◌≡◌, ◌+◌, ◌≤◌, ◌<◌, ◌++◌, [], Some, None, Bool, ℕ, List, Option, refl, sym, subst, ◌∙◌, ap, arith, inl, inr, append-nil}
+use Rattle.std.proofs.Common.{◌≡◌, ◌+◌, ◌++◌, [], Some, Bool, Option, refl, sym, subst, ◌∙◌, ap, arith, inl, inr, append-nil}
 use Rattle.walk_rest.specs.declared.level.Level.{Level}
 use Rattle.walk_rest.specs.Plan.{Item}
+use Rattle.walk_steps.specs.Causes.{CountsFaults, IsCaused, faults_due, faults_told}
 use Rattle.walk_steps.specs.Inside.{HasRest, levels_of, top_levels, with_top}
 use Rattle.walk_steps.specs.Steps.{MovesTo, StepsTo, TurnsTo}
-use Rattle.walk_steps.specs.Sound.{IsSound, opens, open_limit}
-use Rattle.walk_steps.specs.Work.{left_to_do, work_in}
-use Rattle.walk_steps.proofs.leave.WithinLemmas.{keeps_on, keeps_same, retop_levels, is_sound_retop, within_on, within_more, within_fewer, gone_lighter}
+use Rattle.walk_steps.specs.Sound.{AreApart, IsSound, opens, open_limit}
+use Rattle.walk_steps.specs.Work.{work_in}
+use Rattle.walk_steps.proofs.leave.OthersLemmas.{others_on}
+use Rattle.walk_steps.proofs.leave.WithinLemmas.{keeps_on, keeps_same, retop_levels, within_on, within_more, gone_lighter}
 use Rattle.walk_steps.proofs.next.StepLemmas.{moves_none, moves_more, moves_last, none_left, rest_retop}
+use Rattle.walk_steps.proofs.next.CauseLemmas.{caused_later, counts_from, counts_on, no_level, still_fits}
+use Rattle.walk_steps.proofs.next.next_item.Given as given
+use Rattle.walk_steps.proofs.leave.SoundLemmas.{sound_front}
+use Rattle.walk_steps.proofs.next.ListedLemmas.{risen_from, risen_on, room_at, room_entered, settled_at, to_list_at, to_list_none}
+use Rattle.walk_steps.specs.Listed.{GivesAtOnce, IsToListOnTop}
 use Rattle.walk_steps.proofs.next.next_item.Goals as goal
 
 pub loop-level-init : goal.loop-level-init
@@ -15,6 +22,13 @@ loop-level-init g c = record {
   keeps = keeps_same (g.D.Disk.state c.args.disk.now) c.args.inside.now c.args.inside.now (record { options = refl; order = refl; root = refl }) refl c.requires.sound.lists;
   less = omega arith;
   moved = λ tells by rest same h. moves_none (g.D.Disk.state c.args.disk.now) (g.S.Order.sorts c.args.inside.now.order) by c.args.inside.now rest h;
+  counted = λ fits. inl (omega arith);
+  once = λ unsorted gives few. (
+    refl,
+    room_entered (g.D.Disk.state c.args.disk.now) (open_limit c.args.inside.now.options) c.args.inside.now.options.max_depth c.args.inside.now.stack.items c.args.inside.now.top
+        (sound_front (g.D.Disk.state c.args.disk.now) c.args.inside.now.stack.items (top_levels c.args.inside.now.top) c.requires.sound.lists) few,
+  );
+  whole = λ tells by count compares sorts gives to_list none. (count, to_list, refl);
 }
 
 pub loop-level-preserved : goal.loop-level-preserved
@@ -45,6 +59,23 @@ loop-level-preserved g c =
           let turned = subst T c.in-Ok-None.field-0-is (c.in-Ok-None.ensures.turns tells by m.new (subst C (sym inv.keeps.same.order) same) (subst H (sym order) has)) in
           let M : Bool → Type 0 = λ b. MovesTo s b by m.new now c.turn.new.inside in
           moves_more s0 s now (g.S.Order.sorts c.args.inside.now.order) by c.loop-level.inside c.turn.new.inside rest inv.keeps.faults k.faults m (subst M order turned));
+      counted = λ fits.
+          (let T : Option Item → Type 0 = λ a. CountsFaults (faults_told g.D.Disk.tells a) s (levels_of mid) now (levels_of c.turn.new.inside) in
+          counts_on 0 s0 s now (levels_of c.args.inside.now) (levels_of c.loop-level.inside) (levels_of c.turn.new.inside) k.faults (inv.counted fits)
+          (counts_from 0 s s now (levels_of c.loop-level.inside) (levels_of mid) (levels_of c.turn.new.inside) (omega arith) (ap faults_due levels)
+          (subst T c.in-Ok-None.field-0-is (c.in-Ok-None.ensures.counted (still_fits g.D.Disk.tells g.S.Order.compares_by g.S.Order.sorts s0 s c.args.inside.now c.loop-level.inside c.in-Some.level fits inv.moved inv.keeps.same (sym c.take.ensures.value ∙ c.in-Some.is))))));
+      once = λ unsorted gives few.
+          (let o = inv.once unsorted gives few in
+          let options = inv.keeps.same.options in
+          let given_here = subst GivesAtOnce (sym options) gives in
+          let passed = (rw c.in-Ok-None.field-0-is at c.in-Ok-None.ensures.passes) (order ∙ unsorted) given_here (room_at c.args.inside.now.options c.loop-level.inside.options c.loop-level.inside.stack.items c.loop-level.inside.top c.in-Some.level inv.keeps.same.options (sym c.take.ensures.value ∙ c.in-Some.is) o.1) in
+          (passed ∙ o.0, inr (settled_at c.args.inside.now.options c.loop-level.inside.options c.turn.new.inside.top inv.keeps.same.options ((rw c.in-Ok-None.field-0-is at c.in-Ok-None.ensures.settles) (subst GivesAtOnce (sym inv.keeps.same.options) gives)))));
+      whole = λ tells by count compares sorts gives to_list none.
+          (let a = inv.keeps.faults in
+          let w = inv.whole tells by count compares sorts gives to_list (λ risen. none (risen_on _ _ _ k.faults risen)) in
+          let e = w.2 in
+          let l = c.in-Ok-None.ensures.listed_whole tells by w.0 (let C : _ → Type 0 = λ o. g.S.Order.compares_by o by in subst C (sym inv.keeps.same.order) compares) (order ∙ sorts) (to_list_at (g.D.Disk.state c.loop-level.disk).tree c.args.inside.now.options c.loop-level.inside.options c.loop-level.inside.top c.in-Some.level w.0 inv.keeps.same.options (sym c.take.ensures.value ∙ c.in-Some.is) w.1) (λ risen. none (risen_from _ _ _ a risen)) in
+          (0, to_list_none (g.D.Disk.state c.turn.new.disk).tree c.args.inside.now.options.max_depth c.turn.new.inside.top (settled_at c.args.inside.now.options c.loop-level.inside.options c.turn.new.inside.top inv.keeps.same.options ((rw c.in-Ok-None.field-0-is at c.in-Ok-None.ensures.settles) (subst GivesAtOnce (sym inv.keeps.same.options) gives))), omega (arith, e, l)));
     }
 
 pub returns-in-Ok-Some-clause-step : goal.returns-in-Ok-Some-clause-step
@@ -116,3 +147,147 @@ returns-clause-within g c =
     let top = sym c.take.ensures.value ∙ c.in_default.is in
     let after = ap (λ (t : Option Level). opens (c.loop-level.inside.stack.items ++ top_levels t)) (c.take.ensures.after ∙ sym top) in
     λ others e. let w = inv.keeps.within others e in (let a = w.0 in omega (arith, a, after), w.1)
+
+-- ---- lists of others
+
+pub returns-in-Ok-Some-clause-others : goal.returns-in-Ok-Some-clause-others
+returns-in-Ok-Some-clause-others g c =
+    let s0 = g.D.Disk.state c.args.disk.now in
+    let s = g.D.Disk.state c.loop-level.disk in
+    let now = g.D.Disk.state c.turn.new.disk in
+    let inv = c.loop-level.invariant in
+    let top = sym c.take.ensures.value ∙ c.in-Some.is in
+    let mid = with_top c.loop-level.inside c.in-Some.level in
+    let put = keeps_same s c.loop-level.inside mid (record { options = refl; order = refl; root = refl }) (retop_levels c.loop-level.inside c.loop-level.inside c.in-Some.level top refl) inv.sound.lists in
+    (keeps_on s0 s now c.args.inside.now c.loop-level.inside c.turn.new.inside inv.keeps (keeps_on s s now c.loop-level.inside mid c.turn.new.inside put c.turn.ensures.keeps)).others
+
+pub returns-in-Err-clause-others : goal.returns-in-Err-clause-others
+returns-in-Err-clause-others g c =
+    let s0 = g.D.Disk.state c.args.disk.now in
+    let s = g.D.Disk.state c.loop-level.disk in
+    let now = g.D.Disk.state c.turn.new.disk in
+    let last = g.D.Disk.state c.give_up.new.disk in
+    let inv = c.loop-level.invariant in
+    let top = sym c.take.ensures.value ∙ c.in-Some.is in
+    let mid = with_top c.loop-level.inside c.in-Some.level in
+    let put = keeps_same s c.loop-level.inside mid (record { options = refl; order = refl; root = refl }) (retop_levels c.loop-level.inside c.loop-level.inside c.in-Some.level top refl) inv.sound.lists in
+    let so_far = (keeps_on s0 s now c.args.inside.now c.loop-level.inside c.turn.new.inside inv.keeps (keeps_on s s now c.loop-level.inside mid c.turn.new.inside put c.turn.ensures.keeps)).others in
+    let all = others_on s0 now last (levels_of c.args.inside.now) (levels_of c.turn.new.inside) [] so_far c.give_up.ensures.others in
+    λ number apart is. let k = all number apart is in (k.0, subst (AreApart number) (sym c.give_up.ensures.gone) k.1)
+
+pub returns-clause-others : goal.returns-clause-others
+returns-clause-others g c =
+    let inv = c.loop-level.invariant in
+    let top = sym c.take.ensures.value ∙ c.in_default.is in
+    λ number apart is. let k = inv.keeps.others number apart is in
+    (k.0, (let P : Option Level → Type 0 = λ t. AreApart number (c.loop-level.inside.stack.items ++ top_levels t) in subst P (sym (c.take.ensures.after ∙ sym top)) k.1))
+
+-- ---- causes and counts
+
+pub returns-in-Ok-Some-clause-counted : goal.returns-in-Ok-Some-clause-counted
+returns-in-Ok-Some-clause-counted g c = λ fits.
+    let s0 = g.D.Disk.state c.args.disk.now in
+    let s = g.D.Disk.state c.loop-level.disk in
+    let now = g.D.Disk.state c.turn.new.disk in
+    let inv = c.loop-level.invariant in
+    let told = faults_told g.D.Disk.tells (Some c.in-Ok-Some.item) in
+    let mid = with_top c.loop-level.inside c.in-Some.level in
+    let levels = retop_levels c.loop-level.inside c.loop-level.inside c.in-Some.level (sym c.take.ensures.value ∙ c.in-Some.is) refl in
+    let T : Option Item → Type 0 = λ a. CountsFaults (faults_told g.D.Disk.tells a) s (levels_of mid) now (levels_of c.turn.new.inside) in
+    counts_on told s0 s now (levels_of c.args.inside.now) (levels_of c.loop-level.inside) (levels_of c.turn.new.inside) c.turn.ensures.keeps.faults (inv.counted fits)
+    (counts_from told s s now (levels_of c.loop-level.inside) (levels_of mid) (levels_of c.turn.new.inside) (omega arith) (ap faults_due levels)
+    (subst T c.in-Ok-Some.field-0-is (c.in-Ok-Some.ensures.counted (still_fits g.D.Disk.tells g.S.Order.compares_by g.S.Order.sorts s0 s c.args.inside.now c.loop-level.inside c.in-Some.level fits inv.moved inv.keeps.same (sym c.take.ensures.value ∙ c.in-Some.is)))))
+
+-- why the answer came
+caused : (g : given.Over) (c : goal.In-Ok-Some g) → IsCaused g.D.Disk.tells (g.D.Disk.state c.args.disk.now) (g.D.Disk.state c.turn.new.disk) (Some c.in-Ok-Some.item) c.turn.new.inside
+caused g c =
+    let T : Option Item → Type 0 = λ a. IsCaused g.D.Disk.tells (g.D.Disk.state c.loop-level.disk) (g.D.Disk.state c.turn.new.disk) a c.turn.new.inside in
+    caused_later g.D.Disk.tells (g.D.Disk.state c.args.disk.now) (g.D.Disk.state c.loop-level.disk) (g.D.Disk.state c.turn.new.disk) (Some c.in-Ok-Some.item) c.turn.new.inside c.loop-level.invariant.keeps.faults
+    (subst T c.in-Ok-Some.field-0-is c.in-Ok-Some.ensures.caused)
+
+pub returns-in-Ok-Some-clause-absent : goal.returns-in-Ok-Some-clause-absent
+returns-in-Ok-Some-clause-absent g c = (caused g c).absent
+
+pub returns-in-Ok-Some-clause-looped : goal.returns-in-Ok-Some-clause-looped
+returns-in-Ok-Some-clause-looped g c = (caused g c).looped
+
+pub returns-in-Ok-Some-clause-entered : goal.returns-in-Ok-Some-clause-entered
+returns-in-Ok-Some-clause-entered g c = (caused g c).entered (λ e. cc e)
+
+pub returns-in-Err-clause-counted : goal.returns-in-Err-clause-counted
+returns-in-Err-clause-counted g c = λ fits.
+    let a = c.loop-level.invariant.keeps.faults in
+    let b = c.turn.ensures.keeps.faults in
+    let d = c.give_up.ensures.faults in
+    let none = ap faults_due c.give_up.ensures.gone in
+    inl (omega (arith, a, b, d, none))
+
+pub returns-in-Err-clause-absent : goal.returns-in-Err-clause-absent
+returns-in-Err-clause-absent g c = λ untold path depth e. absurd (cc e)
+
+pub returns-in-Err-clause-looped : goal.returns-in-Err-clause-looped
+returns-in-Err-clause-looped g c = λ path depth ancestor ident e. absurd (cc e)
+
+pub returns-in-Err-clause-entered : goal.returns-in-Err-clause-entered
+returns-in-Err-clause-entered g c = λ level folder top unread in_it. absurd (no_level c.give_up.new.inside level c.give_up.ensures.gone top)
+
+pub returns-clause-counted : goal.returns-clause-counted
+returns-clause-counted g c = λ fits.
+    let inv = c.loop-level.invariant in
+    let top = sym c.take.ensures.value ∙ c.in_default.is in
+    let after = ap (λ (t : Option Level). faults_due (c.loop-level.inside.stack.items ++ top_levels t)) (c.take.ensures.after ∙ sym top) in
+    elim (inv.counted fits) [ inl h ↦ inl (omega (arith, h, after)) | inr h ↦ inr h ]
+
+pub returns-clause-absent : goal.returns-clause-absent
+returns-clause-absent g c = λ untold path depth e. absurd (cc e)
+
+pub returns-clause-looped : goal.returns-clause-looped
+returns-clause-looped g c = λ path depth ancestor ident e. absurd (cc e)
+
+pub returns-clause-entered : goal.returns-clause-entered
+returns-clause-entered g c = λ level folder top unread in_it. absurd (let none = c.take.ensures.after in cc (none, top))
+
+-- ---- what is listed
+
+pub returns-in-Ok-Some-clause-listed_once : goal.returns-in-Ok-Some-clause-listed_once
+returns-in-Ok-Some-clause-listed_once g c = λ unsorted gives few.
+    let inv = c.loop-level.invariant in
+    let o = inv.once unsorted gives few in
+    let same = o.0 in
+    let a = c.turn.ensures.listed_once (ap g.S.Order.sorts inv.keeps.same.order ∙ unsorted) (subst GivesAtOnce (sym inv.keeps.same.options) gives)
+    (room_at c.args.inside.now.options c.loop-level.inside.options c.loop-level.inside.stack.items c.loop-level.inside.top c.in-Some.level inv.keeps.same.options (sym c.take.ensures.value ∙ c.in-Some.is) o.1) in
+    omega (arith, same, a)
+
+pub returns-in-Err-clause-listed_once : goal.returns-in-Err-clause-listed_once
+returns-in-Err-clause-listed_once g c = λ unsorted gives few.
+    let inv = c.loop-level.invariant in
+    let o = inv.once unsorted gives few in
+    let same = o.0 in
+    let a = c.turn.ensures.listed_once (ap g.S.Order.sorts inv.keeps.same.order ∙ unsorted) (subst GivesAtOnce (sym inv.keeps.same.options) gives)
+    (room_at c.args.inside.now.options c.loop-level.inside.options c.loop-level.inside.stack.items c.loop-level.inside.top c.in-Some.level inv.keeps.same.options (sym c.take.ensures.value ∙ c.in-Some.is) o.1) in
+    let b = c.give_up.ensures.listed in
+    omega (arith, same, a, b)
+
+pub returns-clause-listed_once : goal.returns-clause-listed_once
+returns-clause-listed_once g c = λ unsorted gives few. let o = c.loop-level.invariant.once unsorted gives few in let a = o.0 in omega (arith, a)
+
+pub returns-in-Ok-Some-clause-listed_whole : goal.returns-in-Ok-Some-clause-listed_whole
+returns-in-Ok-Some-clause-listed_whole g c = λ tells by count compares sorts gives to_list none named.
+    let inv = c.loop-level.invariant in
+    let a = inv.keeps.faults in
+    let b = c.turn.ensures.keeps.faults in
+    let w = inv.whole tells by count compares sorts gives to_list (λ risen. none (risen_on _ _ _ b risen)) in
+    let k = w.2 in
+    let l = c.in-Ok-Some.ensures.listed_whole tells by w.0 (let C : _ → Type 0 = λ o. g.S.Order.compares_by o by in subst C (sym inv.keeps.same.order) compares) (ap g.S.Order.sorts inv.keeps.same.order ∙ sorts) (to_list_at (g.D.Disk.state c.loop-level.disk).tree c.args.inside.now.options c.loop-level.inside.options c.loop-level.inside.top c.in-Some.level w.0 inv.keeps.same.options (sym c.take.ensures.value ∙ c.in-Some.is) w.1) (λ risen. none (risen_from _ _ _ a risen)) in
+    omega (arith, k, l)
+
+pub returns-in-Err-clause-listed_whole : goal.returns-in-Err-clause-listed_whole
+returns-in-Err-clause-listed_whole g c = λ tells by count compares sorts gives to_list none named. absurd (named refl)
+
+pub returns-clause-listed_whole : goal.returns-clause-listed_whole
+returns-clause-listed_whole g c = λ tells by count compares sorts gives to_list none named.
+    let w = c.loop-level.invariant.whole tells by count compares sorts gives to_list none in
+    let T : Option Level → Type 0 = λ t. IsToListOnTop (g.D.Disk.state c.loop-level.disk).tree c.args.inside.now.options.max_depth t w.0 in
+    let zero_is : w.0 ≡ 0 = subst T (sym c.take.ensures.value ∙ c.in_default.is) w.1 in
+    let k = w.2 in
+    omega (arith, k, zero_is)

@@ -1,12 +1,16 @@
-use Rattle.std.proofs.Common.{◌≡◌, ◌+◌, ◌≤◌, ◌<◌, [], None, Some, Bool, List, refl, sym, subst, ◌∙◌, ap, arith}
-use Rattle.std.specs.Prelude.{OnOk}
-use Rattle.walk_rest.specs.declared.level.Level.{Level}
-use Rattle.walk_steps.specs.Inside.{with_top}
+use Rattle.std.proofs.Common.{None, Some, Err, inl, length, refl, sym, subst, ◌∙◌, ap, arith}
+use Rattle.walk_rest.specs.declared.error.Error.TheVariants as error
+use Rattle.walk_steps.specs.Causes.{faults_due}
+use Rattle.walk_steps.specs.Inside.{levels_of, with_top}
 use Rattle.walk_steps.specs.Sound.{depth_below}
 use Rattle.walk_steps.proofs.leave.SoundLemmas.{sound_split, sound_one}
 use Rattle.walk_steps.proofs.leave.WithinLemmas.{keeps_on}
-use Rattle.walk_steps.proofs.next.StepLemmas.{no_items}
+use Rattle.walk_steps.proofs.next.CauseLemmas.{caused_disk, caused_none, caused_result, counts_result, counts_same, due_snoc, read_not, top_not}
+use Rattle.walk_steps.proofs.next.StepLemmas.{allowed_one, no_items}
 use Rattle.walk_steps.proofs.next.TakeStepLemmas.{Takes, same_read, take_sound, take_keeps, take_taken, take_left, left_sound, left_keeps, left_less, take_less, take_failed, popped_levels, turned_result, little_result}
+use Rattle.walk_steps.specs.Sound.{AreRead}
+use Rattle.walk_steps.proofs.next.ListedLemmas.{hidden_listed, settled_top}
+use Rattle.walk_steps.proofs.leave.OthersLemmas.{shallow_split}
 use Rattle.walk_steps.proofs.next.take_next.Goals as goal
 
 pub take_entry-requires-clause-readable : goal.take_entry-requires-clause-readable
@@ -155,3 +159,61 @@ returns-in-Err-clause-keeps g c =
     let e = c.take_entry.ensures in
     let t : Takes s now c.args.level c.take_entry.new.level = record { same = e.same; readable = e.readable; others = e.others; open_lists = e.open; tree = e.tree; faults = e.faults; later = e.later } in
     take_keeps s now (g.S.Order.sorts c.args.inside.now.order) c.args.inside.now c.args.level c.take_entry.new.level t c.requires.sound
+
+-- ---- causes and counts
+
+pub returns-in-Ok-None-clause-caused : goal.returns-in-Ok-None-clause-caused
+returns-in-Ok-None-clause-caused g c = caused_none g.D.Disk.tells (g.D.Disk.state c.args.disk.now) (g.D.Disk.state c.close_level.new.disk) _
+
+pub returns-in-Ok-None-clause-counted : goal.returns-in-Ok-None-clause-counted
+returns-in-Ok-None-clause-counted g c =
+    let later = c.take_entry.ensures.faults in
+    let same = c.close_level.ensures.faults in
+    let xs = c.args.inside.now.stack.items in
+    let a = due_snoc xs c.args.level in
+    let b = ap length c.requires.faultless in
+    let d = ap faults_due (popped_levels c.pop.new.self.items c.pop.result xs c.pop.ensures.items) in
+    inl (omega (arith, later, same, a, b, d))
+
+pub returns-in-Ok-Some-clause-caused : goal.returns-in-Ok-Some-clause-caused
+returns-in-Ok-Some-clause-caused g c =
+    caused_result g.D.Disk.tells (g.D.Disk.state c.args.disk.now) (g.D.Disk.state c.take_entry.new.disk) (g.D.Disk.state c.meet.new.disk) c.meet.result c.meet.new.inside c.take_entry.ensures.faults c.meet.ensures.caused
+
+pub returns-in-Ok-Some-clause-counted : goal.returns-in-Ok-Some-clause-counted
+returns-in-Ok-Some-clause-counted g c =
+    let xs = c.args.inside.now.stack.items in
+    let a = due_snoc xs c.args.level in
+    let b = due_snoc xs c.take_entry.new.level in
+    let d = ap length c.take_entry.ensures.same.faults in
+    counts_result g.D.Disk.tells (g.D.Disk.state c.args.disk.now) (g.D.Disk.state c.take_entry.new.disk) (g.D.Disk.state c.meet.new.disk) (levels_of (with_top c.args.inside.now c.args.level)) (levels_of (with_top c.args.inside.now c.take_entry.new.level))
+    (levels_of c.meet.new.inside) c.meet.result c.take_entry.ensures.faults (omega (arith, a, b, d)) c.meet.ensures.counted
+
+pub returns-in-Err-Failed-clause-caused : goal.returns-in-Err-Failed-clause-caused
+returns-in-Err-Failed-clause-caused g c =
+    caused_disk g.D.Disk.tells (g.D.Disk.state c.args.disk.now) (g.D.Disk.state c.take_entry.new.disk) None c.depth_in-depth.result _
+    (top_not (Some (Err (error.Disk None c.depth_in-depth.result))) c.take_entry.new.level (read_not c.take_entry.new.level.entries (same_read c.args.level.entries c.take_entry.new.level.entries c.take_entry.ensures.same.entries c.requires.read)))
+
+pub returns-in-Err-Failed-clause-counted : goal.returns-in-Err-Failed-clause-counted
+returns-in-Err-Failed-clause-counted g c =
+    let xs = c.args.inside.now.stack.items in
+    let a = due_snoc xs c.args.level in
+    let b = due_snoc xs c.take_entry.new.level in
+    let d = ap length c.take_entry.ensures.same.faults in
+    counts_same 1 (g.D.Disk.state c.args.disk.now) (g.D.Disk.state c.take_entry.new.disk) (levels_of (with_top c.args.inside.now c.args.level)) (levels_of (with_top c.args.inside.now c.take_entry.new.level)) (omega (arith, a, b, d))
+    (allowed_one _ _ (c.take_entry.ensures.cause (rw c.in-Err-Failed.field-0-is at c.in-Err-Failed.is)))
+
+-- ---- what is listed
+
+pub returns-in-Ok-None-clause-settles : goal.returns-in-Ok-None-clause-settles
+returns-in-Ok-None-clause-settles g c = λ gives.
+    settled_top c.args.inside.now.options.max_depth c.pop.new.self.items c.pop.result (subst AreRead (sym (popped_levels c.pop.new.self.items c.pop.result c.args.inside.now.stack.items c.pop.ensures.items)) c.requires.sound.read)
+
+pub returns-in-Ok-None-clause-passes : goal.returns-in-Ok-None-clause-passes
+returns-in-Ok-None-clause-passes g c = λ gives. c.close_level.ensures.listed ∙ (rw c.in-Ok-None.field-0-is at c.in-Ok-None.ensures.none_listed)
+
+pub returns-in-Ok-Some-clause-passes : goal.returns-in-Ok-Some-clause-passes
+returns-in-Ok-Some-clause-passes g c = λ gives.
+    let n = c.args.inside.now.options.max_depth in
+    let level = c.args.level in
+    hidden_listed n c.in-Ok-Some.entry.depth (g.D.Disk.state c.args.disk.now).listed (g.D.Disk.state c.take_entry.new.disk).listed (g.D.Disk.state c.meet.new.disk).listed level.folder level.entries c.meet.result
+    (shallow_split n c.args.inside.now.stack.items level c.requires.sound.shallow).1 (rw c.in-Ok-Some.field-0-is at c.in-Ok-Some.ensures.depth) c.take_entry.ensures.later c.take_entry.ensures.at_most_one c.meet.ensures.listed (c.meet.ensures.hides gives)

@@ -1,14 +1,16 @@
-use Rattle.std.proofs.Common.{◌≡◌, ◌≤◌, length, arith, [], ◌∷◌, ◌++◌, reverse, List, Bool, None, refl, sym, subst, ◌∙◌, ap}
+use Rattle.std.proofs.Common.{◌≡◌, ◌+◌, ◌≤◌, inl, Some, Err, length, arith, [], ◌∷◌, ◌++◌, reverse, List, Bool, None, refl, sym, subst, ◌∙◌, ap}
 use Rattle.walk_rest.specs.declared.level.Level.{Level}
 use Rattle.walk_rest.specs.declared.entry.DirEntry.{DirEntry}
 use Rattle.walk_rest.specs.declared.level.Entries.TheVariants.{Kept}
 use Rattle.walk_rest.specs.declared.error.Error.{Error}
 use Rattle.walk_rest.specs.Plan.{Item}
 use Rattle.std.specs.Prelude.{Option}
-use Rattle.walk_steps.specs.Inside.{with_top}
+use Rattle.walk_steps.specs.Causes.{CountsFaults, IsCaused, IsEnteredBy, faults_due, faults_told}
+use Rattle.walk_steps.specs.Inside.{levels_of, with_top}
 use Rattle.walk_steps.specs.Sound.{AllAt}
 use Rattle.walk_steps.specs.Steps.{CannotBegin, TurnsTo}
 use Rattle.walk_steps.proofs.open.RootLemmas.{at_root_none, at_root_one, looks, root_begun, root_failed, root_keeps, root_less, root_refused, root_sound}
+use Rattle.walk_steps.proofs.next.CauseLemmas.{begin_allowed, caused_begin, caused_none, counts_same, due_snoc, top_not}
 use Rattle.walk_steps.proofs.open.read_root.Goals as goal
 use Rattle.walk_steps.proofs.open.read_root.Goals.{in-Ok+in_ok-push-in-Ok, in-Err+in_ok-named-in-Err}
 
@@ -62,7 +64,7 @@ pub returns-clause-sound : goal.returns-clause-sound
 returns-clause-sound g c =
     let b = c.begin.ensures in
     let level : Level = record { folder = None; first = None; entries = Kept c.match-begin.kept; faults = c.new.result } in
-    root_sound (g.D.Disk.state c.args.disk.now) (g.D.Disk.state c.begin.new.disk) g.S.Order.sorts c.args.inside.now c.begin.new.inside level b.same c.requires.sound b.lists (λ number. tt) refl (all_at g c)
+    root_sound (g.D.Disk.state c.args.disk.now) (g.D.Disk.state c.begin.new.disk) g.S.Order.sorts c.args.inside.now c.begin.new.inside level b.same c.requires.sound b.lists (λ number. tt) refl (all_at g c) tt
 
 pub returns-clause-keeps : goal.returns-clause-keeps
 returns-clause-keeps g c = λ lying lies.
@@ -90,3 +92,44 @@ returns-clause-less g c = λ lying lies.
     let level : Level = record { folder = None; first = None; entries = Kept c.match-begin.kept; faults = c.new.result } in
     let one = at_most_one g c in
     root_less (g.D.Disk.state c.args.disk.now) (g.D.Disk.state c.begin.new.disk) c.args.inside.now c.begin.new.inside lying level b.same lies b.lists refl c.new.ensures.items refl (omega (arith, one))
+
+top_at : (g : _) (c : goal.Joined-inside g) (answer : Option Item) → IsEnteredBy answer (Some (record { folder = None; first = None; entries = Kept c.match-begin.kept; faults = c.new.result }))
+top_at g c answer = top_not answer (record { folder = None; first = None; entries = Kept c.match-begin.kept; faults = c.new.result }) (λ e. cc e)
+
+pub returns-clause-caused : goal.returns-clause-caused
+returns-clause-caused g c =
+    let s = g.D.Disk.state c.args.disk.now in
+    let now = g.D.Disk.state c.begin.new.disk in
+    let inside = c.args.inside.now in
+    let level : Level = record { folder = None; first = None; entries = Kept c.match-begin.kept; faults = c.new.result } in
+    let new = with_top c.begin.new.inside level in
+    let P : Option Item → Type 0 = λ answer. IsCaused g.D.Disk.tells s now answer new in
+    elim c.match-begin.branch [
+      | in-Ok+in_ok-push-in-Ok w ↦ subst P (sym w.answer-is) (caused_none g.D.Disk.tells s now new)
+      | in-Err+in_ok-named-in-Err w ↦
+          let failed = w.in_ok-named-in-Err.field-0 in
+          let F : Error → Type 0 = CannotBegin g.D.Disk.tells s now inside.options inside.root in
+          let cause = subst F (sym w.in_ok-named-in-Err.ensures.same) w.in-Err.ensures.failed in
+          subst P (sym w.answer-is) (caused_begin g.D.Disk.tells s now inside.options inside.root failed new cause (top_at g c (Some (Err failed))))
+    ]
+
+pub returns-clause-counted : goal.returns-clause-counted
+returns-clause-counted g c =
+    let s = g.D.Disk.state c.args.disk.now in
+    let now = g.D.Disk.state c.begin.new.disk in
+    let inside = c.args.inside.now in
+    let b = c.begin.ensures in
+    let level : Level = record { folder = None; first = None; entries = Kept c.match-begin.kept; faults = c.new.result } in
+    let new = with_top c.begin.new.inside level in
+    let stack : levels_of new ≡ inside.stack.items ++ level ∷ [] = ap (λ (i : _). i.stack.items ++ level ∷ []) b.same in
+    let same : faults_due (levels_of new) ≡ faults_due inside.stack.items = (let e = ap faults_due stack in let d = due_snoc inside.stack.items level in let n = ap length c.new.ensures.items in omega (arith, e, d, n)) in
+    let later = b.faults in
+    let P : Option Item → Type 0 = λ answer. CountsFaults (faults_told g.D.Disk.tells answer) s inside.stack.items now (levels_of new) in
+    elim c.match-begin.branch [
+      | in-Ok+in_ok-push-in-Ok w ↦ subst P (sym w.answer-is) (counts_same 0 s now inside.stack.items (levels_of new) same (inl (omega (arith, later))))
+      | in-Err+in_ok-named-in-Err w ↦
+          let failed = w.in_ok-named-in-Err.field-0 in
+          let F : Error → Type 0 = CannotBegin g.D.Disk.tells s now inside.options inside.root in
+          let cause = subst F (sym w.in_ok-named-in-Err.ensures.same) w.in-Err.ensures.failed in
+          subst P (sym w.answer-is) (counts_same (faults_told g.D.Disk.tells (Some (Err failed))) s now inside.stack.items (levels_of new) same (begin_allowed g.D.Disk.tells s now inside.options inside.root failed later cause))
+    ]

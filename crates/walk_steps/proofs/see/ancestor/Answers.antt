@@ -1,4 +1,4 @@
-use Rattle.std.proofs.Common.{◌≡◌, ◌∷◌, ◌++◌, [], List, sym, ◌∙◌, ap}
+use Rattle.std.proofs.Common.{◌≡◌, [], List, sym, ◌∙◌, ap}
 use Rattle.walk_rest.specs.declared.level.Level.{Level}
 use Rattle.walk_rest.specs.Level.{chain_above}
 use Rattle.walk_steps.specs.Seen.{ancestor_path}

@@ -1,0 +1,59 @@
+-- How many entries a step lists.
+use Rattle.std.specs.Prelude.{◌≡◌, ◌⊎◌, ◌+◌, ◌≤◌, ◌<◌, ℕ, false, List, [], ◌∷◌, length, Option, Some, None}
+use Rattle.sd_edge.specs.Tree.{Tree}
+use Rattle.sd_edge.specs.declared.meta.RawEntry.{RawEntry}
+use Rattle.walk_rest.specs.declared.level.Folder.{Folder}
+use Rattle.walk_rest.specs.declared.level.Entries.{Entries}
+use Rattle.walk_rest.specs.declared.level.Entries.TheVariants.{Unread, Open, Kept}
+use Rattle.walk_rest.specs.declared.level.Level.{Level}
+use Rattle.walk_rest.specs.declared.options.Options.{Options}
+use Rattle.walk_rest.specs.Plan.{ListsNames}
+use Rattle.walk_steps.specs.Sound.{opens}
+
+-- each entry is given as it comes: there is no least depth, and a directory comes before its contents
+pub record GivesAtOnce (options : Options) : Type 0 where
+  pub least : options.min_depth ≡ 0
+  pub before : options.contents_first ≡ false
+
+-- ---- directories that are entered at once
+
+abbrev pub folders_in : Option Folder → ℕ
+folders_in None = 0
+folders_in (Some folder) = 1
+
+-- how many directories are entered: levels with a folder
+abbrev pub entered_in : List Level → ℕ
+entered_in [] = 0
+entered_in (level ∷ levels) = folders_in level.folder + entered_in levels
+
+-- ---- what a step lists whole
+
+-- so many entries are listed as it is read: all those of a directory that lies unread and below this depth
+abbrev pub IsToList : Tree → ℕ → Option Folder → Entries → ℕ → Type 0
+IsToList tree deepest None entries count = count ≡ 0
+IsToList tree deepest (Some folder) Unread count =
+    ((deepest ≤ folder.depth) × (count ≡ 0)) ⊎ ((folder.depth < deepest) × ((listed : List RawEntry) × ListsNames tree folder.path listed × (count ≡ length listed)))
+IsToList tree deepest (Some folder) (Open list) count = count ≡ 0
+IsToList tree deepest (Some folder) (Kept kept) count = count ≡ 0
+
+-- so many entries are listed as the topmost level is read
+abbrev pub IsToListOnTop : Tree → ℕ → Option Level → ℕ → Type 0
+IsToListOnTop tree deepest None count = count ≡ 0
+IsToListOnTop tree deepest (Some level) count = IsToList tree deepest level.folder level.entries count
+
+-- ---- parts of it
+
+-- nothing is listed as it is read
+abbrev pub IsSettled : ℕ → Option Folder → Entries → Type 0
+IsSettled deepest None entries = Unit {0}
+IsSettled deepest (Some folder) Unread = deepest ≤ folder.depth
+IsSettled deepest (Some folder) (Open list) = Unit {0}
+IsSettled deepest (Some folder) (Kept kept) = Unit {0}
+
+abbrev pub IsTopSettled : ℕ → Option Level → Type 0
+IsTopSettled deepest None = Unit {0}
+IsTopSettled deepest (Some level) = IsSettled deepest level.folder level.entries
+
+-- one more list may be open, or none will be
+abbrev pub HasRoom : ℕ → ℕ → List Level → Option Level → Type 0
+HasRoom limit deepest stack top = (opens stack < limit) ⊎ IsTopSettled deepest top
