@@ -1,0 +1,1 @@
+-- Steps one after another, and what collecting them gives.
