@@ -1,16 +1,18 @@
 -- What the calls of a walk do.
-use Rattle.std.specs.Prelude.{◌≡◌, ◌⊎◌, ◌≤◌, Bool, true, false, IsTrue, ◌&&◌, is_some, Option, Some, None, Ok, Err, IfNone, [], List}
+use Rattle.std.specs.Prelude.{◌≡◌, ◌⊎◌, ◌≤◌, ℕ, Bool, true, false, IsTrue, ◌&&◌, is_some, Option, Some, None, Ok, Err, IfNone, [], List}
+use Rattle.std.proofs.Common.{sym, subst}
 use Rattle.sd_edge.specs.Disk.{DiskState, SameTree}
 use Rattle.walk_rest.specs.declared.error.Error.TheVariants as error
 use Rattle.walk_rest.specs.declared.level.Entries.{Entries}
 use Rattle.walk_rest.specs.declared.level.Entries.TheVariants.{Unread, Open, Kept}
 use Rattle.walk_rest.specs.declared.level.Level.{Level}
+use Rattle.walk_rest.specs.declared.options.Options.{Options}
 use Rattle.walk_rest.specs.Plan.{Comparison, Item, is_directory}
 use Rattle.walk_rest.specs.Rest.{Rest}
 use Rattle.walk_steps.specs.declared.inside.Inside.{Inside}
 use Rattle.walk_steps.specs.Inside.{HasRest, SameWalk, levels_of}
 use Rattle.walk_steps.specs.Sound.{IsSound, StaysWithin, open_limit}
-use Rattle.walk_steps.specs.Steps.{SkipsTo, StepsTo}
+use Rattle.walk_steps.specs.Steps.{LiesUnread, SkipsTo, StepsTo}
 use Rattle.walk_steps.specs.Work.{left_to_do}
 
 -- ---- the last item
@@ -32,6 +34,18 @@ lies_unread None = false
 lies_unread (Some level) = is_some level.folder && is_unread level.entries
 
 module _ {S : Type 0} where
+  -- ---- the beginning
+
+  -- the walk goes so, and only the root's level stands, unread
+  pub record Begins (options : Options) (order : S) (root : List ℕ) (inside : Inside S) : Type 0 where
+    pub options_are : inside.options ≡ options
+    pub order_is : inside.order ≡ order
+    pub root_is : inside.root ≡ root
+    pub lower : inside.stack.items ≡ []
+    pub top : Level
+    pub on_top : inside.top ≡ Some top
+    pub unread : LiesUnread top None
+
   -- ---- a step
 
   -- What `next` gives of a walk, and what it leaves.
@@ -63,6 +77,14 @@ module _ {S : Type 0} where
     pub listed : new.listed ≡ old.listed
     pub tree : SameTree old new
     pub faults : new.faults ≡ old.faults
+
+  -- ---- the order stays
+
+  pub still_sound : (sorts : S → Bool) (state : DiskState) (old new : Inside S) → SameWalk old new → IsSound state (sorts old.order) new → IsSound state (sorts new.order) new
+  still_sound sorts state old new same sound = subst (λ (order : S). IsSound state (sorts order) new) (sym same.order) sound
+
+  pub still_compares : (can : S → Type 0) (old new : Inside S) → SameWalk old new → can old.order → can new.order
+  still_compares can old new same may = subst can (sym same.order) may
 
 -- ---- the end
 

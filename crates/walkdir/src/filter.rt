@@ -3,7 +3,8 @@
 ghost use Rattle.std.specs.Prelude.{◌≡◌, ◌≤◌};
 ghost use Rattle.std.specs.Fn.{FnReturnsAt};
 ghost use Rattle.std.specs.Iterator.{IsFinite, size};
-ghost use Rattle.walkdir.specs.Filter.{Filters};
+ghost use Rattle.std.proofs.Common.{sym, subst};
+ghost use Rattle.walkdir.specs.Filter.{Filters, PassesOver, filters_go_on, filters_end};
 
 use crate::{DirEntry, Error, Walk};
 use std::iter::FusedIterator;
@@ -33,7 +34,10 @@ impl<W: Walk + Drop, P: Fn(&DirEntry) -> bool + Drop> FilterEntry<W, P> {
     }
 
     /// The walk without the entries that this predicate refuses too, and without what lies below them.
-    pub fn filter_entry<Q: Fn(&DirEntry) -> bool + Drop>(self, predicate: Q) -> FilterEntry<FilterEntry<W, P>, Q>
+    pub fn filter_entry<Q: Fn(&DirEntry) -> bool + Drop>(
+        self,
+        predicate: Q,
+    ) -> FilterEntry<FilterEntry<W, P>, Q>
         ensures { result ≡ record { walk = self; predicate = predicate } }
     {
         FilterEntry::new(self, predicate)
@@ -55,12 +59,10 @@ impl<W: Walk + Drop, P: Fn(&DirEntry) -> bool + Drop> Iterator for FilterEntry<W
             match item {
                 Err(error) => return Some(Err(error)),
                 Ok(entry) => {
-                    if (self.predicate)(&entry) {
+                    if meets(&self.predicate, &entry) {
                         return Some(Ok(entry));
                     }
-                    if self.walk.just_entered() {
-                        self.walk.skip_current_dir();
-                    }
+                    pass_over(&mut self.walk);
                 }
             }
         }
@@ -68,18 +70,26 @@ impl<W: Walk + Drop, P: Fn(&DirEntry) -> bool + Drop> Iterator for FilterEntry<W
     }
 }
 
-impl<W: Walk + Drop, P: Drop> FusedIterator for FilterEntry<W, P> where FilterEntry<W, P>: Iterator {}
+impl<W: Walk + Drop, P: Drop> FusedIterator for FilterEntry<W, P>
+where
+    FilterEntry<W, P>: Iterator,
+{}
 
 impl<W: Walk + Drop, P: Fn(&DirEntry) -> bool + Drop> Walk for FilterEntry<W, P> {
     ghost skips = { λ s t. (t.predicate ≡ s.predicate) × W.skips s.walk t.walk };
 
     ghost has_entered = { λ s. W.has_entered s.walk };
 
-    ghost goes_on = { λ old answer new can ends gives. ? };
+    ghost goes_on = { λ old answer new can ends gives.
+        let on = filters_go_on (λ walk. W.can_next walk × IsFinite (W.remaining walk)) (λ a given b may now. W.goes_on a given b may.0 may.1 now)
+        (λ a b may now. W.skips_on a b may.0 may.1 now) old.walk answer new.walk (can.0, can.1) gives.1 in
+        ((on.0, on.1, subst P.IsAlwaysCallable (sym gives.0) can.2), on.1) };
 
-    ghost skips_on = { λ old new can ends skips. ? };
+    ghost skips_on = { λ old new can ends skips.
+        let on = W.skips_on old.walk new.walk can.0 can.1 skips.1 in
+        ((on.0, on.1, subst P.IsAlwaysCallable (sym skips.0) can.2), on.1) };
 
-    ghost fused = { λ old mid answer new ended gives. ? };
+    ghost fused = { λ old mid answer new ended gives. filters_end W.fused old.walk mid.walk answer new.walk ended.1 gives.1 };
 
     fn skip_current_dir(&mut self) {
         self.walk.skip_current_dir();
@@ -91,5 +101,27 @@ impl<W: Walk + Drop, P: Fn(&DirEntry) -> bool + Drop> Walk for FilterEntry<W, P>
 
     fn close(self) {
         self.walk.close();
+    }
+}
+
+/// Whether an entry meets a predicate.
+fn meets<P: Fn(&DirEntry) -> bool>(predicate: &P, entry: &DirEntry) -> bool
+    requires { P.IsAlwaysCallable predicate.now }
+    ensures { FnReturnsAt P.Fn predicate.now entry.now result }
+{
+    predicate(entry)
+}
+
+/// Leaves the directory of the last entry, if the walk has just entered it.
+fn pass_over<W: Walk>(walk: &mut W)
+    requires can { W.can_next walk.old }
+    requires ends { IsFinite (W.remaining walk.old) }
+    ensures can { W.can_next walk.new }
+    ensures ends { IsFinite (W.remaining walk.new) }
+    ensures not_more { size (W.remaining walk.new) ≤ size (W.remaining walk.old) }
+    ensures over { PassesOver W.has_entered W.skips walk.old walk.new }
+{
+    if walk.just_entered() {
+        walk.skip_current_dir();
     }
 }

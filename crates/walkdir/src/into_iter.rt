@@ -1,16 +1,14 @@
 //! A walk over a disk.
 
-ghost use Rattle.std.specs.Prelude.{◌≡◌, ◌+◌, ◌≤◌, ◌&&◌, [], Bool, false, IsTrue, IfOk, IfErr};
+ghost use Rattle.std.specs.Prelude.{◌≡◌, ◌<◌, ◌≤◌, ◌&&◌, false, IsTrue, IfOk, IfErr, OnSome};
 ghost use Rattle.std.specs.Iterator.{at_most};
-ghost use Rattle.sd_edge.specs.Disk.{SameTree};
+ghost use Rattle.sd_edge.specs.Disk.{SameLists, SameTree};
 ghost use Rattle.sd_edge.specs.Files.{Describes};
 ghost use Rattle.walk_rest.specs.Errors.{IsRefusedFor};
-ghost use Rattle.walk_rest.specs.Plan.{Comparison};
-ghost use Rattle.walk_rest.specs.Rest.{Rest};
-ghost use Rattle.walk_steps.specs.Inside.{HasRest, levels_of};
+ghost use Rattle.walk_steps.specs.Inside.{levels_of};
 ghost use Rattle.walk_steps.specs.Sound.{AreSound, IsSound};
 ghost use Rattle.walk_steps.specs.Work.{left_to_do};
-ghost use Rattle.walkdir.specs.Steps.{ClosesAll, GivesNext, SkipsTop, is_directory_item, lies_unread};
+ghost use Rattle.walkdir.specs.Steps.{ClosesAll, GivesNext, SkipsTop, is_directory_item, lies_unread, still_compares, still_sound};
 
 use crate::{FilterEntry, Walk};
 use sd_edge::{Disk, Meta};
@@ -92,7 +90,7 @@ impl<'d, D: Disk, S: Order + Drop> IntoIter<'d, D, S, Inside<S>> {
 
     /// Closes every list that it holds.
     pub fn close(self)
-        requires { AreSound (D.state self.entry.disk.now) (levels_of self.entry.inside) }
+        requires { AreSound (D.state self.disk.now) (levels_of self.inside) }
         ensures { ClosesAll (D.state self.entry.disk.now) (levels_of self.entry.inside) (D.state self.exit.0.now) }
     {
         let IntoIter {
@@ -109,7 +107,7 @@ impl<'d, D: Disk, S: Order + Drop> IntoIter<'d, D, S, Inside<S>> {
         self,
         predicate: P,
     ) -> FilterEntry<IntoIter<'d, D, S>, P>
-        ensures { result ≡ record { walk = self; predicate = predicate } }
+        ensures { (result.walk ≡ self.entry) × (result.predicate ≡ predicate) }
     {
         FilterEntry::new(self, predicate)
     }
@@ -139,11 +137,13 @@ impl<'d, D: Disk, S: Order + Drop> Walk for IntoIter<'d, D, S, Inside<S>> {
 
     ghost has_entered = { λ s. s.gave_directory && lies_unread s.inside.top };
 
-    ghost goes_on = { λ old answer new can ends gives. ? };
+    ghost goes_on = { λ old answer new can ends gives.
+        ((still_sound S.sorts (D.state new.disk.now) old.inside new.inside gives.1.same gives.1.sound, still_compares S.can_compare old.inside new.inside gives.1.same can.1), tt) };
 
-    ghost skips_on = { λ old new can ends skips. ? };
+    ghost skips_on = { λ old new can ends skips.
+        ((still_sound S.sorts (D.state new.disk.now) old.inside new.inside skips.1.same skips.1.sound, still_compares S.can_compare old.inside new.inside skips.1.same can.1), tt) };
 
-    ghost fused = { λ old mid answer new ended gives. ? };
+    ghost fused = { λ old mid answer new ended gives. gives.1.over ended.1.ended };
 
     fn skip_current_dir(&mut self) {
         skip(self.disk, &mut self.inside, &mut self.gave_directory);
@@ -154,6 +154,7 @@ impl<'d, D: Disk, S: Order + Drop> Walk for IntoIter<'d, D, S, Inside<S>> {
     }
 
     fn close(self)
+        requires { AreSound (D.state self.disk.now) (levels_of self.inside) }
         ensures { ClosesAll (D.state self.entry.disk.now) (levels_of self.entry.inside) (D.state self.exit.0.now) }
     {
         let IntoIter {

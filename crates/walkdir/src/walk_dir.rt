@@ -1,20 +1,18 @@
 //! What is walked, and how.
 
-ghost use Rattle.std.specs.Prelude.{◌≡◌, ◌+◌, ◌≤◌, min, max, IfOk};
-ghost use Rattle.sd_edge.specs.Tree.{Tree};
+ghost use Rattle.std.specs.Prelude.{◌≡◌, false, min, max, IfOk};
 ghost use Rattle.walk_rest.specs.Plan.{Comparison, Plan};
 ghost use Rattle.walk_rest.specs.Listing.{IsRootPlan, first_options, manner_of};
 ghost use Rattle.walk_rest.specs.Rest.{start};
 ghost use Rattle.walk_steps.specs.Inside.{HasRest, levels_of};
 ghost use Rattle.walk_steps.specs.Sound.{IsSound, opens};
+ghost use Rattle.walkdir.specs.Steps.{Begins};
 
 use crate::IntoIter;
 use sd_edge::{Disk, NoMemory, Text};
 use std::alloc::Global;
 use std::cmp::Ordering;
-use walk_rest::{
-    ByCmp, ByFileName, ByKey, DirEntry, Entries, Level, Options, Order, Unsorted,
-};
+use walk_rest::{ByCmp, ByFileName, ByKey, DirEntry, Entries, Level, Options, Order, Unsorted};
 use walk_steps::Inside;
 
 /// A root that is walked, and how. Its setters take and give it.
@@ -166,7 +164,9 @@ impl<S> WalkDir<S> {
     }
 
     /// What the walk keeps at first.
-    fn begun(self) -> Inside<S> {
+    fn begun(self) -> Inside<S>
+        ensures { Begins self.options self.order self.root result }
+    {
         Inside {
             alloc: self.alloc,
             options: self.options,
