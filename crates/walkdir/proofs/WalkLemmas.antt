@@ -1,18 +1,20 @@
 -- How walks begin and end.
 use Rattle.std.proofs.Common.{rules, ◌≡◌, ◌≤◌, ◌+◌, ◌∙◌, ℕ, Bool, true, false, List, [], ◌∷◌, ◌++◌, Option, Some, None, refl, sym, subst, ap, inl, inr, arith}
-use Rattle.std.specs.Prelude.{max, is_none, map, option_map}
-use Rattle.sd_edge.specs.Disk.{DiskState}
+use Rattle.std.specs.Prelude.{max, is_none, map, option_map, reverse}
+use Rattle.sd_edge.specs.Tree.{Tree}
+use Rattle.sd_edge.specs.Disk.{DiskState, OpenList}
 use Rattle.walk_rest.specs.declared.level.Level.{Level}
 use Rattle.walk_rest.specs.declared.level.Folder.{Folder}
 use Rattle.walk_rest.specs.declared.level.Entries.{Entries}
+use Rattle.walk_rest.specs.declared.level.Entries.TheVariants.{Unread, Open, Kept}
 use Rattle.walk_rest.specs.declared.options.Options.{Options}
-use Rattle.walk_rest.specs.Plan.{Comparison, Manner, Plan}
+use Rattle.walk_rest.specs.Plan.{Comparison, IsContents, IsPlan, Manner, Plan, entry_below}
 use Rattle.walk_rest.specs.Listing.{IsRootPlan, manner_of}
 use Rattle.walk_rest.specs.Rest.{Rest, start, none}
-use Rattle.walk_rest.specs.Level.{HasPart, HasParts, IsDue, fault_of, item_of, with_folder}
+use Rattle.walk_rest.specs.Level.{HasPart, HasParts, IsDue, fault_of, item_of, left_in, with_folder}
 use Rattle.walk_steps.specs.declared.inside.Inside.{Inside}
-use Rattle.walk_steps.specs.Inside.{HasRest, IsUnbegun, IsUntaken, levels_of, top_levels}
-use Rattle.walk_steps.specs.Sound.{IsSound, IsReadable, AreApartFrom, AreSound, AreRead, open_in, opens}
+use Rattle.walk_steps.specs.Inside.{HasRest, IsUnbegun, IsUntaken, KnowsDevice, SameWalk, levels_of, top_levels}
+use Rattle.walk_steps.specs.Sound.{IsSound, IsReadable, AreApartFrom, AreSound, AreRead, StaysWithin, open_in, open_limit, opens}
 use Rattle.walk_steps.specs.Steps.{LiesUnread}
 use Rattle.walkdir.specs.Steps.{Begins, GivesNext}
 
@@ -23,6 +25,46 @@ none_is (Some x) is = absurd (cc is)
 no_parts : (state : DiskState) (manner : Manner) (root : List ℕ) (rest : Rest) → HasParts state manner root [] [] rest → rest ≡ []
 no_parts state manner root [] has = refl
 no_parts state manner root (part ∷ rest) has = absurd has
+
+-- ---- lists that stay
+
+readable_kept : (old new : DiskState) (folder : Option Folder) (entries : Entries) → new.open_list ≡ old.open_list → IsReadable old folder entries → IsReadable new folder entries
+readable_kept old new folder Unread same readable = tt
+readable_kept old new None (Open list) same readable = absurd readable
+readable_kept old new (Some folder) (Open list) same readable = ((readable.0.0, ap (λ lists. lists list.number) same ∙ readable.0.1), readable.1)
+readable_kept old new None (Kept kept) same readable = readable
+readable_kept old new (Some folder) (Kept kept) same readable = readable
+
+sound_kept : (old new : DiskState) (levels : List Level) → new.open_list ≡ old.open_list → AreSound old levels → AreSound new levels
+sound_kept old new [] same sound = tt
+sound_kept old new (level ∷ levels) same sound = (readable_kept old new level.folder level.entries same sound.0, sound.1, sound_kept old new levels same sound.2)
+
+due_kept : (old new : DiskState) (manner : Manner) (root : List ℕ) (chain : List Folder) (folder : Option Folder) (entries : Entries) (plan : Plan)
+    → new.tree ≡ old.tree → new.open_list ≡ old.open_list → IsDue old manner root chain folder entries plan → IsDue new manner root chain folder entries plan
+due_kept old new manner root chain None Unread plan tree lists due = (due.0, subst (λ (t : Tree). IsRootPlan t manner root plan) (sym tree) due.1)
+due_kept old new manner root chain (Some folder) Unread plan tree lists due =
+    (due.0, subst (λ (t : Tree). IsContents t manner folder due.0) (sym tree) due.1, subst (λ (t : Tree). IsPlan t manner chain due.0 plan) (sym tree) due.2)
+due_kept old new manner root chain None (Open list) plan tree lists due = absurd due
+due_kept old new manner root chain (Some folder) (Open list) plan tree lists due =
+    subst (λ (left : ℕ → Option OpenList). IsPlan new.tree manner chain (map (entry_below folder) (left_in (left list.number))) plan) (sym lists)
+    (subst (λ (t : Tree). IsPlan t manner chain (map (entry_below folder) (left_in (old.open_list list.number))) plan) (sym tree) due)
+due_kept old new manner root chain None (Kept kept) plan tree lists due = subst (λ (t : Tree). IsPlan t manner chain (reverse kept.items) plan) (sym tree) due
+due_kept old new manner root chain (Some folder) (Kept kept) plan tree lists due = subst (λ (t : Tree). IsPlan t manner chain (reverse kept.items) plan) (sym tree) due
+
+parts_kept : (old new : DiskState) (manner : Manner) (root : List ℕ) (chain : List Folder) (levels : List Level) (rest : Rest)
+    → new.tree ≡ old.tree → new.open_list ≡ old.open_list → HasParts old manner root chain levels rest → HasParts new manner root chain levels rest
+parts_kept old new manner root chain [] [] tree lists has = tt
+parts_kept old new manner root chain [] (part ∷ parts) tree lists has = absurd has
+parts_kept old new manner root chain (level ∷ levels) [] tree lists has = absurd has
+parts_kept old new manner root chain (level ∷ levels) (part ∷ parts) tree lists has = (
+  record {
+    folder = has.0.folder;
+    first = has.0.first;
+    due = due_kept old new manner root (with_folder level.folder chain) level.folder level.entries part.left tree lists has.0.due;
+    faults = has.0.faults;
+  },
+  parts_kept old new manner root (with_folder level.folder chain) levels parts tree lists has.1,
+)
 
 -- a root's level, as a part
 root_part : (state : DiskState) (manner : Manner) (root : List ℕ) (level : Level) (plan : Plan) → LiesUnread level None → IsRootPlan state.tree manner root plan
@@ -65,6 +107,41 @@ module _ {S : Type 0} where
         tree = record { tree = refl; clock = refl; outcomes = refl };
         faults = omega arith;
       }
+
+  -- what a call leaves that opens and reads no list
+  pub still_sound_after : (old new : DiskState) (sorts : Bool) (inside : Inside S) → new.open_list ≡ old.open_list → IsSound old sorts inside → IsSound new sorts inside
+  still_sound_after old new sorts inside same sound =
+      record { lists = sound_kept old new (levels_of inside) same sound.lists; read = sound.read; rooted = sound.rooted; few = sound.few }
+
+  pub still_rest_after : (old new : DiskState) (sorts : Bool) (by : Comparison) (inside : Inside S) (rest : Rest) → new.tree ≡ old.tree → new.open_list ≡ old.open_list
+      → HasRest old sorts by inside rest → HasRest new sorts by inside rest
+  still_rest_after old new sorts by inside rest tree lists has = record {
+    parts = subst (λ (t : Tree). HasParts new (manner_of t inside.options sorts by inside.root) inside.root [] (levels_of inside) rest) (sym tree)
+        (parts_kept old new (manner_of old.tree inside.options sorts by inside.root) inside.root [] (levels_of inside) rest tree lists has.parts);
+    device = subst (λ (t : Tree). KnowsDevice t inside) (sym tree) has.device;
+  }
+
+  -- one step after others
+  pub within_next : (old mid new : DiskState) (before between after : Inside S) → SameWalk before between
+      → StaysWithin (open_limit before.options) old (levels_of before) mid (levels_of between)
+      → StaysWithin (open_limit between.options) mid (levels_of between) new (levels_of after) → StaysWithin (open_limit before.options) old (levels_of before) new (levels_of after)
+  within_next old mid new before between after same h k = λ others e.
+      let a = h others e in
+      let b = k others a.0 in
+      let most = a.1 in
+      let more = b.1 in
+      let limit = ap open_limit same.options in
+      (b.0, omega (arith, most, more, limit))
+
+  -- the lists that were left are closed
+  pub within_end : (old mid new : DiskState) (before between : Inside S) → StaysWithin (open_limit before.options) old (levels_of before) mid (levels_of between)
+      → StaysWithin 0 mid (levels_of between) new [] → StaysWithin (open_limit before.options) old (levels_of before) new []
+  within_end old mid new before between h k = λ others e.
+      let a = h others e in
+      let b = k others a.0 in
+      let most = a.1 in
+      let more = b.1 in
+      (b.0, omega (arith, most, more))
 
   -- ---- the beginning
 

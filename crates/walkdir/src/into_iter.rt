@@ -1,15 +1,19 @@
 //! A walk over a disk.
 
-ghost use Rattle.std.specs.Prelude.{◌≡◌, ◌<◌, ◌≤◌, ◌&&◌, false, IsTrue, IfOk, IfErr, OnSome};
+ghost use Rattle.std.specs.Prelude.{◌≡◌, ◌<◌, ◌≤◌, ◌&&◌, [], Bool, false, IsTrue, IfOk, IfErr, OnSome};
 ghost use Rattle.std.specs.Iterator.{at_most};
 ghost use Rattle.sd_edge.specs.Disk.{SameLists, SameTree};
 ghost use Rattle.sd_edge.specs.Files.{Describes};
 ghost use Rattle.walk_rest.specs.Errors.{IsRefusedFor};
-ghost use Rattle.walk_steps.specs.Inside.{levels_of};
-ghost use Rattle.walk_steps.specs.Sound.{AreSound, IsSound};
+ghost use Rattle.walk_rest.specs.Plan.{Comparison};
+ghost use Rattle.walk_rest.specs.Rest.{Rest};
+ghost use Rattle.walk_steps.specs.Inside.{HasRest, levels_of};
+ghost use Rattle.walk_steps.specs.Sound.{AreSound, IsSound, StaysWithin, open_limit};
 ghost use Rattle.walk_steps.specs.Work.{left_to_do};
+ghost use Rattle.walkdir.specs.Collect.{IsAll, WhyNotAll, below_root};
 ghost use Rattle.walkdir.specs.Steps.{ClosesAll, GivesNext, SkipsTop, is_directory_item, lies_unread, still_compares, still_sound};
 
+use crate::collect::collect;
 use crate::{FilterEntry, Walk};
 use sd_edge::{Disk, Meta};
 use std::iter::FusedIterator;
@@ -75,7 +79,7 @@ impl<'d, D: Disk, S: Order + Drop> IntoIter<'d, D, S, Inside<S>> {
         self.gave_directory && lies_unread(&self.inside.top)
     }
 
-    /// What `DirEntry::metadata` answers.
+    /// The kind of an entry's node, and a regular file's number of bytes, as `DirEntry::metadata` answers. The walk stays as it was.
     pub fn metadata(&mut self, entry: &DirEntry) -> Result<Meta, Error>
         ensures same_reference { self.new.disk.ghost_name ≡ self.old.disk.ghost_name }
         ensures answer { IsTrue D.tells → IfOk result (Describes (D.state self.old.disk.now) entry.now.path entry.now.followed) }
@@ -84,6 +88,9 @@ impl<'d, D: Disk, S: Order + Drop> IntoIter<'d, D, S, Inside<S>> {
         ensures tree { SameTree (D.state self.old.disk.now) (D.state self.new.disk.now) }
         ensures lists { SameLists (D.state self.old.disk.now) (D.state self.new.disk.now) }
         ensures same { (self.new.inside ≡ self.old.inside) × (self.new.gave_directory ≡ self.old.gave_directory) }
+        ensures sound { (sorts : Bool) → IsSound (D.state self.old.disk.now) sorts self.old.inside → IsSound (D.state self.new.disk.now) sorts self.new.inside }
+        ensures rest { (sorts : Bool) (by : Comparison) (rest : Rest) → HasRest (D.state self.old.disk.now) sorts by self.old.inside rest
+            → HasRest (D.state self.new.disk.now) sorts by self.new.inside rest }
     {
         entry.metadata(self.inside.alloc, self.disk)
     }
@@ -100,6 +107,29 @@ impl<'d, D: Disk, S: Order + Drop> IntoIter<'d, D, S, Inside<S>> {
             order: _order,
         } = self;
         close_all(disk, inside);
+    }
+
+    /// All entries of the walk, or its first error, or `TooMany` at the entry below the root with this number. Closes every list that it holds.
+    pub fn collect_capped(self, cap: u64) -> Result<Vec<DirEntry>, Error>
+        requires sound { IsSound (D.state self.disk.now) (S.sorts self.inside.order) self.inside }
+        requires order { S.can_compare self.inside.order }
+        requires cap { 0 < cap }
+        ensures all { IsTrue D.tells → (by : Comparison) (rest : Rest) → S.compares_by self.entry.inside.order by
+            → HasRest (D.state self.entry.disk.now) (S.sorts self.entry.inside.order) by self.entry.inside rest → IfOk result (λ entries. IsAll rest entries.items) }
+        ensures few { IfOk result (λ entries. below_root entries.items < cap) }
+        ensures failed { IsTrue D.tells → (by : Comparison) (rest : Rest) → S.compares_by self.entry.inside.order by
+            → HasRest (D.state self.entry.disk.now) (S.sorts self.entry.inside.order) by self.entry.inside rest → IfErr result (WhyNotAll rest cap) }
+        ensures closed { StaysWithin (open_limit self.entry.inside.options) (D.state self.entry.disk.now) (levels_of self.entry.inside) (D.state self.exit.0.now) [] }
+        ensures tree { SameTree (D.state self.entry.disk.now) (D.state self.exit.0.now) }
+        ensures faults { (D.state self.entry.disk.now).faults ≤ (D.state self.exit.0.now).faults }
+    {
+        let IntoIter {
+            disk,
+            inside,
+            gave_directory: _gave_directory,
+            order: _order,
+        } = self;
+        collect(disk, inside, cap)
     }
 
     /// The walk without the entries that the predicate refuses, and without what lies below them.
