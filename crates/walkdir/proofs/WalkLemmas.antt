@@ -1,0 +1,178 @@
+-- How walks begin and end.
+use Rattle.std.proofs.Common.{rules, ◌≡◌, ◌≤◌, ◌+◌, ◌∙◌, ℕ, Bool, true, false, List, [], ◌∷◌, ◌++◌, Option, Some, None, refl, sym, subst, ap, inl, inr, arith}
+use Rattle.std.specs.Prelude.{max, is_none, map, option_map, reverse}
+use Rattle.sd_edge.specs.Tree.{Tree}
+use Rattle.sd_edge.specs.Disk.{DiskState, OpenList}
+use Rattle.walk_rest.specs.declared.level.Level.{Level}
+use Rattle.walk_rest.specs.declared.level.Folder.{Folder}
+use Rattle.walk_rest.specs.declared.level.Entries.{Entries}
+use Rattle.walk_rest.specs.declared.level.Entries.TheVariants.{Unread, Open, Kept}
+use Rattle.walk_rest.specs.declared.options.Options.{Options}
+use Rattle.walk_rest.specs.Plan.{Comparison, IsContents, IsPlan, Manner, Plan, entry_below}
+use Rattle.walk_rest.specs.Listing.{IsRootPlan, manner_of}
+use Rattle.walk_rest.specs.Rest.{Rest, start, none}
+use Rattle.walk_rest.specs.Level.{HasPart, HasParts, IsDue, fault_of, item_of, left_in, with_folder}
+use Rattle.walk_steps.specs.declared.inside.Inside.{Inside}
+use Rattle.walk_steps.specs.Inside.{HasRest, IsUnbegun, IsUntaken, KnowsDevice, SameWalk, levels_of, top_levels}
+use Rattle.walk_steps.specs.Sound.{IsSound, IsReadable, AreApartFrom, AreSound, AreRead, StaysWithin, open_in, open_limit, opens}
+use Rattle.walk_steps.specs.Steps.{LiesUnread}
+use Rattle.walkdir.specs.Steps.{Begins, GivesNext}
+
+pub none_is : {X : Type 0} (value : Option X) → is_none value ≡ true → value ≡ None
+none_is None is = refl
+none_is (Some x) is = absurd (cc is)
+
+no_parts : (state : DiskState) (manner : Manner) (root : List ℕ) (rest : Rest) → HasParts state manner root [] [] rest → rest ≡ []
+no_parts state manner root [] has = refl
+no_parts state manner root (part ∷ rest) has = absurd has
+
+-- ---- lists that stay
+
+readable_kept : (old new : DiskState) (folder : Option Folder) (entries : Entries) → new.open_list ≡ old.open_list → IsReadable old folder entries → IsReadable new folder entries
+readable_kept old new folder Unread same readable = tt
+readable_kept old new None (Open list) same readable = absurd readable
+readable_kept old new (Some folder) (Open list) same readable = ((readable.0.0, ap (λ lists. lists list.number) same ∙ readable.0.1), readable.1)
+readable_kept old new None (Kept kept) same readable = readable
+readable_kept old new (Some folder) (Kept kept) same readable = readable
+
+sound_kept : (old new : DiskState) (levels : List Level) → new.open_list ≡ old.open_list → AreSound old levels → AreSound new levels
+sound_kept old new [] same sound = tt
+sound_kept old new (level ∷ levels) same sound = (readable_kept old new level.folder level.entries same sound.0, sound.1, sound_kept old new levels same sound.2)
+
+due_kept : (old new : DiskState) (manner : Manner) (root : List ℕ) (chain : List Folder) (folder : Option Folder) (entries : Entries) (plan : Plan)
+    → new.tree ≡ old.tree → new.open_list ≡ old.open_list → IsDue old manner root chain folder entries plan → IsDue new manner root chain folder entries plan
+due_kept old new manner root chain None Unread plan tree lists due = (due.0, subst (λ (t : Tree). IsRootPlan t manner root plan) (sym tree) due.1)
+due_kept old new manner root chain (Some folder) Unread plan tree lists due =
+    (due.0, subst (λ (t : Tree). IsContents t manner folder due.0) (sym tree) due.1, subst (λ (t : Tree). IsPlan t manner chain due.0 plan) (sym tree) due.2)
+due_kept old new manner root chain None (Open list) plan tree lists due = absurd due
+due_kept old new manner root chain (Some folder) (Open list) plan tree lists due =
+    subst (λ (left : ℕ → Option OpenList). IsPlan new.tree manner chain (map (entry_below folder) (left_in (left list.number))) plan) (sym lists)
+    (subst (λ (t : Tree). IsPlan t manner chain (map (entry_below folder) (left_in (old.open_list list.number))) plan) (sym tree) due)
+due_kept old new manner root chain None (Kept kept) plan tree lists due = subst (λ (t : Tree). IsPlan t manner chain (reverse kept.items) plan) (sym tree) due
+due_kept old new manner root chain (Some folder) (Kept kept) plan tree lists due = subst (λ (t : Tree). IsPlan t manner chain (reverse kept.items) plan) (sym tree) due
+
+parts_kept : (old new : DiskState) (manner : Manner) (root : List ℕ) (chain : List Folder) (levels : List Level) (rest : Rest)
+    → new.tree ≡ old.tree → new.open_list ≡ old.open_list → HasParts old manner root chain levels rest → HasParts new manner root chain levels rest
+parts_kept old new manner root chain [] [] tree lists has = tt
+parts_kept old new manner root chain [] (part ∷ parts) tree lists has = absurd has
+parts_kept old new manner root chain (level ∷ levels) [] tree lists has = absurd has
+parts_kept old new manner root chain (level ∷ levels) (part ∷ parts) tree lists has = (
+  record {
+    folder = has.0.folder;
+    first = has.0.first;
+    due = due_kept old new manner root (with_folder level.folder chain) level.folder level.entries part.left tree lists has.0.due;
+    faults = has.0.faults;
+  },
+  parts_kept old new manner root (with_folder level.folder chain) levels parts tree lists has.1,
+)
+
+-- a root's level, as a part
+root_part : (state : DiskState) (manner : Manner) (root : List ℕ) (level : Level) (plan : Plan) → LiesUnread level None → IsRootPlan state.tree manner root plan
+    → HasPart state manner root (with_folder level.folder []) level (record { folder = None; first = None; left = plan; faults = [] })
+root_part state manner root level plan lies planned = record {
+  folder = sym lies.folder_is;
+  first = ap (option_map item_of) (sym lies.first);
+  due = subst (λ (folder : Option Folder). IsDue state manner root (with_folder folder []) folder level.entries plan) (sym lies.folder_is)
+      (subst (λ (entries : Entries). IsDue state manner root [] None entries plan) (sym lies.unread) (refl, planned));
+  faults = ap (map fault_of) (sym lies.faultless);
+}
+
+module _ {S : Type 0} where
+  -- the levels of a walk of which nothing is on top
+  no_levels : (state : DiskState) (sorts : Bool) (inside : Inside S) → IsSound state sorts inside → inside.top ≡ None → levels_of inside ≡ []
+  no_levels state sorts inside sound over =
+      ap (λ (top : Option Level). inside.stack.items ++ top_levels top) over ∙ ap (λ (lower : List Level). lower ++ []) (sound.rooted over)
+
+  -- a walk that is over gives nothing and stays
+  pub over_gives : (tells sorts : Bool) (ComparesBy : Comparison → Type 0) (state : DiskState) (inside : Inside S)
+      → IsSound state sorts inside → inside.top ≡ None → GivesNext tells sorts ComparesBy state inside None state inside
+  over_gives tells sorts ComparesBy state inside sound gone =
+      let over = no_levels state sorts inside sound gone in
+      record {
+        step = λ told by rest compares has.
+            (let over_too = no_parts state (manner_of state.tree inside.options sorts by inside.root) inside.root rest (subst (λ (levels : List Level). HasParts state (manner_of state.tree inside.options sorts by inside.root) inside.root [] levels rest) over has.parts) in
+            inr (record {
+              cuts = 0;
+              new = rest;
+              is_step = record { mid = rest; moves = none; answers = (over_too, over_too) };
+              left = has;
+              allowed = inl (omega arith);
+            }));
+        over = λ e. refl;
+        ended = over;
+        gave_up = λ e. over;
+        sound = sound;
+        same = record { options = refl; order = refl; root = refl };
+        within = λ others e. (e, search (rules, arith));
+        tree = record { tree = refl; clock = refl; outcomes = refl };
+        faults = omega arith;
+      }
+
+  -- what a call leaves that opens and reads no list
+  pub still_sound_after : (old new : DiskState) (sorts : Bool) (inside : Inside S) → new.open_list ≡ old.open_list → IsSound old sorts inside → IsSound new sorts inside
+  still_sound_after old new sorts inside same sound =
+      record { lists = sound_kept old new (levels_of inside) same sound.lists; read = sound.read; rooted = sound.rooted; few = sound.few }
+
+  pub still_rest_after : (old new : DiskState) (sorts : Bool) (by : Comparison) (inside : Inside S) (rest : Rest) → new.tree ≡ old.tree → new.open_list ≡ old.open_list
+      → HasRest old sorts by inside rest → HasRest new sorts by inside rest
+  still_rest_after old new sorts by inside rest tree lists has = record {
+    parts = subst (λ (t : Tree). HasParts new (manner_of t inside.options sorts by inside.root) inside.root [] (levels_of inside) rest) (sym tree)
+        (parts_kept old new (manner_of old.tree inside.options sorts by inside.root) inside.root [] (levels_of inside) rest tree lists has.parts);
+    device = subst (λ (t : Tree). KnowsDevice t inside) (sym tree) has.device;
+  }
+
+  -- one step after others
+  pub within_next : (old mid new : DiskState) (before between after : Inside S) → SameWalk before between
+      → StaysWithin (open_limit before.options) old (levels_of before) mid (levels_of between)
+      → StaysWithin (open_limit between.options) mid (levels_of between) new (levels_of after) → StaysWithin (open_limit before.options) old (levels_of before) new (levels_of after)
+  within_next old mid new before between after same h k = λ others e.
+      let a = h others e in
+      let b = k others a.0 in
+      let most = a.1 in
+      let more = b.1 in
+      let limit = ap open_limit same.options in
+      (b.0, omega (arith, most, more, limit))
+
+  -- the lists that were left are closed
+  pub within_end : (old mid new : DiskState) (before between : Inside S) → StaysWithin (open_limit before.options) old (levels_of before) mid (levels_of between)
+      → StaysWithin 0 mid (levels_of between) new [] → StaysWithin (open_limit before.options) old (levels_of before) new []
+  within_end old mid new before between h k = λ others e.
+      let a = h others e in
+      let b = k others a.0 in
+      let most = a.1 in
+      let more = b.1 in
+      (b.0, omega (arith, most, more))
+
+  -- ---- the beginning
+
+  begun_levels : (options : Options) (order : S) (root : List ℕ) (inside : Inside S) (begins : Begins options order root inside) → levels_of inside ≡ begins.top ∷ []
+  begun_levels options order root inside begins =
+      ap (λ (top : Option Level). inside.stack.items ++ top_levels top) begins.on_top ∙ ap (λ (lower : List Level). lower ++ begins.top ∷ []) begins.lower
+
+  pub begun_opens : (options : Options) (order : S) (root : List ℕ) (inside : Inside S) → Begins options order root inside → opens (levels_of inside) ≡ 0
+  begun_opens options order root inside begins =
+      ap opens (begun_levels options order root inside begins) ∙ ap (λ (entries : Entries). open_in entries + 0) begins.unread.unread
+
+  pub begun_rest : (state : DiskState) (sorts : Bool) (by : Comparison) (options : Options) (order : S) (root : List ℕ) (inside : Inside S) (plan : Plan)
+      → Begins options order root inside → IsRootPlan state.tree (manner_of state.tree options sorts by root) root plan → HasRest state sorts by inside (start plan)
+  begun_rest state sorts by options order root inside plan begins planned =
+      let levels = begun_levels options order root inside begins in
+      record {
+        parts = subst (λ (how : Options). HasParts state (manner_of state.tree how sorts by inside.root) inside.root [] (levels_of inside) (start plan)) (sym begins.options_are)
+            (subst (λ (path : List ℕ). HasParts state (manner_of state.tree options sorts by path) path [] (levels_of inside) (start plan)) (sym begins.root_is)
+            (subst (λ (all : List Level). HasParts state (manner_of state.tree options sorts by root) root [] all (start plan)) (sym levels)
+            (root_part state (manner_of state.tree options sorts by root) root begins.top plan begins.unread planned, tt)));
+        device = λ counts. inl (subst IsUnbegun (sym levels) (begins.unread.folder_is, subst IsUntaken (sym begins.unread.unread) tt));
+      }
+
+  pub begun_sound : (state : DiskState) (sorts : Bool) (options : Options) (order : S) (root : List ℕ) (inside : Inside S)
+      → Begins options order root inside → IsSound state sorts inside
+  begun_sound state sorts options order root inside begins =
+      let levels = begun_levels options order root inside begins in
+      record {
+        lists = subst (AreSound state) (sym levels)
+            (subst (λ (entries : Entries). IsReadable state begins.top.folder entries × AreApartFrom entries [] × Unit {0}) (sym begins.unread.unread) (tt, tt, tt));
+        read = subst AreRead (sym begins.lower) tt;
+        rooted = λ gone. begins.lower;
+        few = let a = begun_opens options order root inside begins in omega (arith, a);
+      }

@@ -1,0 +1,3 @@
+-- What collecting gives.
+pub mod RestLemmas
+pub mod CollectLemmas

@@ -1,0 +1,47 @@
+-- Steps one after another, and what collecting them gives.
+use Rattle.std.specs.Prelude.{◌≡◌, ◌+◌, ◌⊎◌, ℕ, nat_lt, List, [], ◌∷◌, map, Option, Some, Ok, Err, if◌then◌else◌}
+use Rattle.walk_rest.specs.declared.entry.DirEntry.{DirEntry}
+use Rattle.walk_rest.specs.declared.error.Error.{Error}
+use Rattle.walk_rest.specs.declared.error.Error.TheVariants as error
+use Rattle.walk_rest.specs.Plan.{Item}
+use Rattle.walk_rest.specs.Rest.{Rest, HasNoFaults, IsStep, due_in}
+
+abbrev pub entry_item : DirEntry → Item
+entry_item entry = Ok entry
+
+-- steps with so many cuts in all gave these items
+abbrev pub Gives : ℕ → Rest → List Item → Rest → Type 0
+Gives cuts rest [] new = (cuts ≡ 0) × (new ≡ rest)
+Gives cuts rest (item ∷ items) new = (first : ℕ) × (more : ℕ) × (mid : Rest) × (first + more ≡ cuts) × IsStep first rest (Some item) mid × Gives more mid items new
+
+-- how many of the entries lie below the root
+abbrev pub below_root : List DirEntry → ℕ
+below_root [] = 0
+below_root (entry ∷ entries) = (if nat_lt 0 entry.depth then 1 else 0) + below_root entries
+
+-- these are all entries that were due, and nothing else was
+pub record IsAll (rest : Rest) (entries : List DirEntry) : Type 0 where
+  pub faultless : HasNoFaults rest
+  pub all : due_in rest ≡ map entry_item entries
+
+-- steps gave these entries, and the next one gave this error
+pub record FirstFails (rest : Rest) (failed : Error) : Type 0 where
+  pub entries : List DirEntry
+  pub cuts : ℕ
+  pub mid : Rest
+  pub gives : Gives cuts rest (map entry_item entries) mid
+  pub last : ℕ
+  pub new : Rest
+  pub fails : IsStep last mid (Some (Err failed)) new
+
+-- steps gave so many entries below the root
+pub record GivesAsMany (rest : Rest) (cap : ℕ) : Type 0 where
+  pub entries : List DirEntry
+  pub cuts : ℕ
+  pub new : Rest
+  pub gives : Gives cuts rest (map entry_item entries) new
+  pub many : below_root entries ≡ cap
+
+-- why not all entries were collected
+abbrev pub WhyNotAll : Rest → ℕ → Error → Type 0
+WhyNotAll rest cap failed = (failed ≡ error.NoMemory) ⊎ (FirstFails rest failed ⊎ ((failed ≡ error.TooMany) × GivesAsMany rest cap))

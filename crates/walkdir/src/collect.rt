@@ -1,0 +1,72 @@
+//! Collecting the entries of a walk.
+
+ghost use Rattle.std.specs.Prelude.{◌≡◌, ◌<◌, ◌≤◌, [], IsTrue, IfOk, IfErr};
+ghost use Rattle.sd_edge.specs.Disk.{SameTree};
+ghost use Rattle.walk_rest.specs.Plan.{Comparison};
+ghost use Rattle.walk_rest.specs.Rest.{Rest};
+ghost use Rattle.walk_steps.specs.Inside.{HasRest, SameWalk, levels_of};
+ghost use Rattle.walk_steps.specs.Sound.{IsSound, StaysWithin, open_limit};
+ghost use Rattle.walkdir.specs.Collect.{IsAll, WhyNotAll, below_root};
+
+use sd_edge::Disk;
+use walk_rest::{DirEntry, Error, Order};
+use walk_steps::{Inside, give_up, next_item};
+
+/// All entries of a walk, or its first error, or `TooMany` at the entry below the root with this number. Closes every list that the walk holds.
+pub(crate) fn collect<D: Disk, S: Order + Drop>(
+    disk: &mut D,
+    inside: Inside<S>,
+    cap: u64,
+) -> Result<Vec<DirEntry>, Error>
+    requires sound { IsSound (D.state disk.old) (S.sorts inside.order) inside }
+    requires order { S.can_compare inside.order }
+    requires cap { 0 < cap }
+    ensures all { IsTrue D.tells → (by : Comparison) (rest : Rest) → S.compares_by inside.order by → HasRest (D.state disk.old) (S.sorts inside.order) by inside rest
+        → IfOk result (λ entries. IsAll rest entries.items) }
+    ensures few { IfOk result (λ entries. below_root entries.items < cap) }
+    ensures failed { IsTrue D.tells → (by : Comparison) (rest : Rest) → S.compares_by inside.order by → HasRest (D.state disk.old) (S.sorts inside.order) by inside rest
+        → IfErr result (WhyNotAll rest cap) }
+    ensures closed { StaysWithin (open_limit inside.options) (D.state disk.old) (levels_of inside) (D.state disk.new) [] }
+    ensures tree { SameTree (D.state disk.old) (D.state disk.new) }
+    ensures faults { (D.state disk.old).faults ≤ (D.state disk.new).faults }
+{
+    let mut inside = inside;
+    let collected = collect_from(disk, &mut inside, cap);
+    give_up(disk, &mut inside);
+    collected
+}
+
+/// All entries of a walk, or its first error, or `TooMany` at the entry below the root with this number.
+fn collect_from<D: Disk, S: Order>(
+    disk: &mut D,
+    inside: &mut Inside<S>,
+    cap: u64,
+) -> Result<Vec<DirEntry>, Error>
+    requires sound { IsSound (D.state disk.old) (S.sorts inside.old.order) inside.old }
+    requires order { S.can_compare inside.old.order }
+    requires cap { 0 < cap }
+    ensures all { IsTrue D.tells → (by : Comparison) (rest : Rest) → S.compares_by inside.old.order by
+        → HasRest (D.state disk.old) (S.sorts inside.old.order) by inside.old rest → IfOk result (λ entries. IsAll rest entries.items) }
+    ensures few { IfOk result (λ entries. below_root entries.items < cap) }
+    ensures failed { IsTrue D.tells → (by : Comparison) (rest : Rest) → S.compares_by inside.old.order by
+        → HasRest (D.state disk.old) (S.sorts inside.old.order) by inside.old rest → IfErr result (WhyNotAll rest cap) }
+    ensures sound { IsSound (D.state disk.new) (S.sorts inside.new.order) inside.new }
+    ensures same { SameWalk inside.old inside.new }
+    ensures within { StaysWithin (open_limit inside.old.options) (D.state disk.old) (levels_of inside.old) (D.state disk.new) (levels_of inside.new) }
+    ensures tree { SameTree (D.state disk.old) (D.state disk.new) }
+    ensures faults { (D.state disk.old).faults ≤ (D.state disk.new).faults }
+{
+    let mut entries = Vec::new(inside.alloc);
+    let mut below = 0u64;
+    while let Some(item) = next_item(disk, inside) {
+        let entry = item?;
+        if entry.depth > 0 {
+            below += 1;
+            if below == cap {
+                return Err(Error::TooMany);
+            }
+        }
+        entries.push(entry)?;
+    }
+    Ok(entries)
+}

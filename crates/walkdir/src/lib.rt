@@ -1,0 +1,20 @@
+//! Ordered walks over the directories of a disk.
+#![tactic(auto)]
+
+mod collect;
+mod filter;
+mod into_iter;
+mod walk;
+mod walk_dir;
+
+pub use filter::FilterEntry;
+pub use into_iter::IntoIter;
+pub use walk::Walk;
+pub use walk_dir::WalkDir;
+pub use walk_rest::{
+    ByCmp, ByFileName, ByKey, DirEntry, DirEntryExt, Error, ErrorKind, Options, Order, Unsorted,
+    device_num,
+};
+
+/// What a call of a walk answers.
+pub type Result<T> = std::result::Result<T, Error>;

@@ -1,0 +1,46 @@
+//! What filters stand on.
+
+ghost use Rattle.std.specs.Prelude.{◌≡◌, ◌≤◌, Bool, false, Option, None};
+ghost use Rattle.std.specs.Iterator.{IsFinite, size};
+ghost use Rattle.walk_rest.specs.Plan.{Item};
+
+use crate::{DirEntry, Error};
+
+/// A walk, directory by directory.
+pub trait Walk: Iterator<Item = Result<DirEntry, Error>> {
+    /// What leaving a directory does.
+    ghost skips: { Self → Self → Type 0 };
+
+    /// The last item was an entry of kind `Directory` that was entered and not left since.
+    ghost has_entered: { Self → Bool };
+
+    /// Leaves the directory that was entered last, with all that is due of it. Does nothing where only the root stands.
+    fn skip_current_dir(&mut self)
+        requires can { Self.can_next self.old }
+        requires ends { IsFinite (Self.remaining self.old) }
+        ensures can { Self.can_next self.new }
+        ensures ends { IsFinite (Self.remaining self.new) }
+        ensures not_more { size (Self.remaining self.new) ≤ size (Self.remaining self.old) }
+        ensures skips { skips self.old self.new }
+        ensures left { has_entered self.new ≡ false };
+
+    /// Whether the last item was an entry of kind `Directory` that was entered and not left since.
+    fn just_entered(&self) -> bool
+        ensures { result ≡ has_entered self.now };
+
+    /// Closes every list that it holds.
+    fn close(self)
+    where
+        Self: Sized,
+        requires { Self.can_next self };
+
+    /// After a `next` there may be another, also where it gave `None`.
+    ghost goes_on: { (old : Self) (answer : Option Item) (new : Self) → Self.can_next old → IsFinite (Self.remaining old) → Self.next_gives old answer new
+        → Self.can_next new × IsFinite (Self.remaining new) };
+
+    /// After a skip there may be a `next`.
+    ghost skips_on: { (old new : Self) → Self.can_next old → IsFinite (Self.remaining old) → skips old new → Self.can_next new × IsFinite (Self.remaining new) };
+
+    /// After `None` always `None` comes.
+    ghost fused: { (old mid : Self) (answer : Option Item) (new : Self) → Self.next_gives old None mid → Self.next_gives mid answer new → answer ≡ None };
+}
