@@ -1,6 +1,6 @@
 -- How walks begin and end.
-use Rattle.std.proofs.Common.{rules, ◌≡◌, ◌≤◌, ◌+◌, ◌∙◌, ℕ, Bool, true, false, List, [], ◌∷◌, ◌++◌, Option, Some, None, refl, sym, subst, ap, inl, inr, arith}
-use Rattle.std.specs.Prelude.{max, is_none, map, option_map, reverse}
+use Rattle.std.proofs.Common.{rules, ◌≡◌, ◌+◌, ◌∙◌, ℕ, Bool, true, List, [], ◌∷◌, ◌++◌, Option, Some, None, refl, sym, subst, ap, inl, inr, arith}
+use Rattle.std.specs.Prelude.{is_none, map, option_map, reverse}
 use Rattle.sd_edge.specs.Tree.{Tree}
 use Rattle.sd_edge.specs.Disk.{DiskState, OpenList}
 use Rattle.walk_rest.specs.declared.level.Level.{Level}

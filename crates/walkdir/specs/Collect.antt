@@ -1,5 +1,5 @@
 -- Steps one after another, and what collecting them gives.
-use Rattle.std.specs.Prelude.{◌≡◌, ◌+◌, ◌⊎◌, ℕ, nat_lt, List, [], ◌∷◌, map, Option, Some, Ok, Err, if◌then◌else◌}
+use Rattle.std.specs.Prelude.{◌≡◌, ◌+◌, ◌⊎◌, ℕ, nat_lt, List, [], ◌∷◌, map, Some, Ok, Err, if◌then◌else◌}
 use Rattle.walk_rest.specs.declared.entry.DirEntry.{DirEntry}
 use Rattle.walk_rest.specs.declared.error.Error.{Error}
 use Rattle.walk_rest.specs.declared.error.Error.TheVariants as error

@@ -1,3 +1,4 @@
 pub mod Steps
 pub mod Filter
 pub mod Collect
+pub mod Examples

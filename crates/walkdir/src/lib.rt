@@ -2,11 +2,16 @@
 #![tactic(auto)]
 
 mod collect;
+mod examples;
 mod filter;
 mod into_iter;
 mod walk;
 mod walk_dir;
 
+pub use examples::{
+    collections_are_as_in_the_examples, depths_are_as_in_the_examples,
+    filters_are_as_in_the_examples,
+};
 pub use filter::FilterEntry;
 pub use into_iter::IntoIter;
 pub use walk::Walk;

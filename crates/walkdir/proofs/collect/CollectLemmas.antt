@@ -1,5 +1,5 @@
 -- What a collector has gathered.
-use Rattle.std.proofs.Common.{◌≡◌, ◌+◌, ◌≤◌, ◌⊎◌, ℕ, Bool, true, false, cond, List, [], ◌∷◌, ◌++◌, map, Option, Some, None, Ok, Err, refl, sym, ◌∙◌, ap, subst, inl, inr, arith}
+use Rattle.std.proofs.Common.{◌≡◌, ◌+◌, ◌≤◌, ◌⊎◌, ℕ, Bool, true, false, cond, List, [], ◌∷◌, ◌++◌, map, Option, Some, None, Ok, Err, refl, ◌∙◌, ap, inl, inr, arith}
 use Rattle.std.specs.Prelude.{nat_lt}
 use Rattle.std.proofs.lemmas.List.{map-append}
 use Rattle.std.proofs.lemmas.Bool.{ltb-true}
@@ -10,7 +10,7 @@ use Rattle.walk_rest.specs.declared.error.Error.TheVariants as error
 use Rattle.walk_rest.specs.Plan.{Comparison, Item}
 use Rattle.walk_rest.specs.Rest.{Rest}
 use Rattle.walk_steps.specs.declared.inside.Inside.{Inside}
-use Rattle.walk_steps.specs.Inside.{HasRest, SameWalk}
+use Rattle.walk_steps.specs.Inside.{HasRest}
 use Rattle.walk_steps.specs.Steps.{StepsTo}
 use Rattle.walkdir.specs.Collect.{entry_item, Gives, below_root, IsAll, WhyNotAll}
 use Rattle.walkdir.proofs.collect.RestLemmas.{gives_more, all_given}

@@ -1,15 +1,10 @@
-use Rattle.std.proofs.Common.{rules, ◌≡◌, ◌+◌, ◌<◌, ◌≤◌, ◌∷◌, ◌++◌, Option, Some, None, Ok, Err, refl, sym, subst, ◌∙◌, ap, arith, true, false, inl, inr}
+use Rattle.std.proofs.Common.{◌≡◌, Option, Some, Ok, subst, ◌∙◌, ap, arith, true, false}
 use Rattle.std.proofs.lemmas.Bool.{lt-ltb}
 use Rattle.walk_rest.specs.Plan.{Item}
-use Rattle.walk_steps.specs.declared.inside.Inside.{Inside}
-use Rattle.walk_steps.specs.Inside.{SameWalk, levels_of}
-use Rattle.walk_steps.specs.Sound.{StaysWithin, open_limit}
-use Rattle.sd_edge.specs.Disk.{SameTree}
 use Rattle.walkdir.specs.Collect.{below_root}
 use Rattle.walkdir.specs.Steps.{still_compares}
 use Rattle.walkdir.proofs.WalkLemmas.{within_next}
-use Rattle.walkdir.proofs.collect.CollectLemmas.{StepsBy, StepsOrEnds, not_less, below_snoc, collect_fails, collect_more, collect_caps, collect_all}
-use Rattle.walkdir.proofs.collect.collect_from.Given as given
+use Rattle.walkdir.proofs.collect.CollectLemmas.{StepsBy, StepsOrEnds, not_less, below_snoc, collect_more, collect_caps, collect_all}
 use Rattle.walkdir.proofs.collect.collect_from.Goals as goal
 use Rattle.walkdir.proofs.collect.collect_from.Goals.{then-entry-gt0+else-below-cap, else-entry-gt0}
 

@@ -1,4 +1,4 @@
-use Rattle.std.proofs.Common.{rules, ◌≡◌, ◌∙◌, sym}
+use Rattle.std.proofs.Common.{rules}
 use Rattle.walkdir.proofs.WalkLemmas.{none_is, over_gives}
 use Rattle.walkdir.proofs.into_iter.step.Goals as goal
 

@@ -1,6 +1,6 @@
-use Rattle.std.proofs.Common.{rules, ◌≡◌, ◌≤◌, ◌<◌, sym, subst, refl, true, false, Some, None, Ok, Err, ◌∙◌, ap, arith}
+use Rattle.std.proofs.Common.{rules, ◌≡◌, subst, true, false, Some, Ok, Err, ◌∙◌, arith}
 use Rattle.std.specs.Fn.{FnReturnsAt}
-use Rattle.walkdir.specs.Filter.{Filters, ended, fails, meets, passes}
+use Rattle.walkdir.specs.Filter.{ended, fails, meets, passes}
 use Rattle.walkdir.proofs.filter.FilterEntryIterator.next.Goals as goal
 
 pub returns-in-Err-clause-steps : goal.returns-in-Err-clause-steps

@@ -1,11 +1,9 @@
-use Rattle.std.proofs.Common.{◌≡◌, ◌∙◌, ap, sym, subst}
+use Rattle.std.proofs.Common.{◌∙◌, ap, sym, subst}
 use Rattle.walk_rest.specs.Rest.{start}
 use Rattle.walk_steps.specs.declared.inside.Inside.{Inside}
 use Rattle.walk_steps.specs.Inside.{HasRest, levels_of}
 use Rattle.walk_steps.specs.Sound.{IsSound, opens}
-use Rattle.walkdir.specs.Steps.{Begins}
 use Rattle.walkdir.proofs.WalkLemmas.{begun_opens, begun_rest, begun_sound}
-use Rattle.walkdir.proofs.walk_dir.WalkDir.into_iter.Given as given
 use Rattle.walkdir.proofs.walk_dir.WalkDir.into_iter.Goals as goal
 
 pub returns-clause-order : goal.returns-clause-order
