@@ -14,7 +14,8 @@ use Rattle.walk_rest.specs.Rest.{Rest, start, none}
 use Rattle.walk_rest.specs.Level.{HasPart, HasParts, IsDue, fault_of, item_of, left_in, with_folder}
 use Rattle.walk_steps.specs.declared.inside.Inside.{Inside}
 use Rattle.walk_steps.specs.Inside.{HasRest, IsUnbegun, IsUntaken, KnowsDevice, SameWalk, levels_of, top_levels}
-use Rattle.walk_steps.specs.Sound.{IsSound, IsReadable, AreApartFrom, AreSound, AreRead, StaysWithin, open_in, open_limit, opens}
+use Rattle.walk_steps.specs.Listed.{IsToListOnTop}
+use Rattle.walk_steps.specs.Sound.{IsSound, IsFresh, IsReadable, IsShallow, IsTopFresh, AreApartFrom, AreShallow, AreSound, AreRead, StaysWithin, open_in, open_limit, opens}
 use Rattle.walk_steps.specs.Steps.{LiesUnread}
 use Rattle.walkdir.specs.Steps.{Begins, GivesNext}
 
@@ -104,14 +105,23 @@ module _ {S : Type 0} where
         sound = sound;
         same = record { options = refl; order = refl; root = refl };
         within = λ others e. (e, search (rules, arith));
+        others = λ number apart opened. (refl, apart);
         tree = record { tree = refl; clock = refl; outcomes = refl };
         faults = omega arith;
+        counted = λ fits. inl (omega arith);
+        absent = λ untold path depth e. absurd (cc e);
+        looped = λ path depth ancestor ident e. absurd (cc e);
+        entered = λ level folder top unread of. absurd (cc (gone, top));
+        listed_once = λ unsorted plain few. omega arith;
+        listed_whole = λ told by count compares sorted plain counted_on risen named.
+            let none : count ≡ 0 = subst (λ (top : Option Level). IsToListOnTop state.tree inside.options.max_depth top count) gone counted_on in
+            omega arith;
       }
 
   -- what a call leaves that opens and reads no list
   pub still_sound_after : (old new : DiskState) (sorts : Bool) (inside : Inside S) → new.open_list ≡ old.open_list → IsSound old sorts inside → IsSound new sorts inside
   still_sound_after old new sorts inside same sound =
-      record { lists = sound_kept old new (levels_of inside) same sound.lists; read = sound.read; rooted = sound.rooted; few = sound.few }
+      record { lists = sound_kept old new (levels_of inside) same sound.lists; read = sound.read; rooted = sound.rooted; few = sound.few; shallow = sound.shallow; fresh = sound.fresh }
 
   pub still_rest_after : (old new : DiskState) (sorts : Bool) (by : Comparison) (inside : Inside S) (rest : Rest) → new.tree ≡ old.tree → new.open_list ≡ old.open_list
       → HasRest old sorts by inside rest → HasRest new sorts by inside rest
@@ -175,4 +185,8 @@ module _ {S : Type 0} where
         read = subst AreRead (sym begins.lower) tt;
         rooted = λ gone. begins.lower;
         few = let a = begun_opens options order root inside begins in omega (arith, a);
+        shallow = subst (AreShallow inside.options.max_depth) (sym levels)
+            (subst (λ (entries : Entries). IsShallow inside.options.max_depth begins.top.folder entries × Unit {0}) (sym begins.unread.unread) (tt, tt));
+        fresh = subst IsTopFresh (sym begins.on_top)
+            (subst (λ (entries : Entries). IsFresh entries begins.top.first begins.top.faults.items) (sym begins.unread.unread) (begins.unread.first, begins.unread.faultless));
       }

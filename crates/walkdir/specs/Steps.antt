@@ -1,6 +1,7 @@
 -- What the calls of a walk do.
-use Rattle.std.specs.Prelude.{◌≡◌, ◌⊎◌, ◌≤◌, ℕ, Bool, true, false, IsTrue, ◌&&◌, is_some, Option, Some, None, Ok, Err, IfNone, [], List}
+use Rattle.std.specs.Prelude.{◌≡◌, ◌≢◌, ◌⊎◌, ◌≤◌, ◌+◌, ℕ, Bool, true, false, IsTrue, ◌&&◌, is_some, Option, Some, None, Ok, Err, IfNone, [], List}
 use Rattle.std.proofs.Common.{sym, subst}
+use Rattle.sd_edge.specs.Count.{HasRisen}
 use Rattle.sd_edge.specs.Disk.{DiskState, SameTree}
 use Rattle.walk_rest.specs.declared.error.Error.TheVariants as error
 use Rattle.walk_rest.specs.declared.level.Entries.{Entries}
@@ -10,8 +11,10 @@ use Rattle.walk_rest.specs.declared.options.Options.{Options}
 use Rattle.walk_rest.specs.Plan.{Comparison, Item, is_directory}
 use Rattle.walk_rest.specs.Rest.{Rest}
 use Rattle.walk_steps.specs.declared.inside.Inside.{Inside}
-use Rattle.walk_steps.specs.Inside.{HasRest, SameWalk, levels_of}
-use Rattle.walk_steps.specs.Sound.{IsSound, StaysWithin, open_limit}
+use Rattle.walk_steps.specs.Causes.{CountsAbsent, CountsFaults, IsEnteredBy, IsLoopOf, faults_told}
+use Rattle.walk_steps.specs.Inside.{HasRest, SameWalk, chain_of, levels_of}
+use Rattle.walk_steps.specs.Listed.{GivesAtOnce, IsToListOnTop, entered_in}
+use Rattle.walk_steps.specs.Sound.{IsSound, SameOthers, StaysWithin, open_limit}
 use Rattle.walk_steps.specs.Steps.{LiesUnread, SkipsTo, StepsTo}
 use Rattle.walk_steps.specs.Work.{left_to_do}
 
@@ -62,8 +65,23 @@ module _ {S : Type 0} where
     pub sound : IsSound new sorts now
     pub same : SameWalk before now
     pub within : StaysWithin (open_limit before.options) old (levels_of before) new (levels_of now)
+    -- lists that aren't the walk's stay as they are
+    pub others : SameOthers old (levels_of before) new (levels_of now)
     pub tree : SameTree old new
     pub faults : old.faults ≤ new.faults
+    -- faults that were told or came to be due, of a walk whose rest is known where its disk tells its tree, were counted
+    pub counted : (IsTrue tells → (by : Comparison) × (rest : Rest) × ComparesBy by × HasRest old sorts by before rest)
+        → CountsFaults (faults_told tells answer) old (levels_of before) new (levels_of now)
+    pub absent : CountsAbsent tells old answer new
+    pub looped : IsLoopOf (chain_of now) answer
+    -- a directory that lies unread on top was entered by this step
+    pub entered : IsEnteredBy answer now.top
+    -- a walk that doesn't sort lists one entry at most, as long as no more directories are entered than lists may be open
+    pub listed_once : sorts ≡ false → GivesAtOnce before.options → entered_in (levels_of before) ≤ open_limit before.options → new.listed ≤ old.listed + 1
+    -- one that sorts lists the directory whole that the step before entered, and nothing else
+    pub listed_whole : IsTrue tells → (by : Comparison) (count : ℕ) → ComparesBy by → sorts ≡ true → GivesAtOnce before.options
+        → IsToListOnTop old.tree before.options.max_depth before.top count → (HasRisen old.faults new.faults → ⊥) → answer ≢ Some (Err error.NoMemory)
+        → new.listed ≡ old.listed + count
 
   -- ---- a skip
 
@@ -73,6 +91,7 @@ module _ {S : Type 0} where
     pub sound : IsSound new sorts now
     pub same : SameWalk before now
     pub within : StaysWithin 0 old (levels_of before) new (levels_of now)
+    pub others : SameOthers old (levels_of before) new (levels_of now)
     pub not_more : left_to_do new now ≤ left_to_do old before
     pub listed : new.listed ≡ old.listed
     pub tree : SameTree old new
@@ -91,6 +110,7 @@ module _ {S : Type 0} where
 -- These levels' lists are closed, and nothing else changed.
 pub record ClosesAll (old : DiskState) (levels : List Level) (new : DiskState) : Type 0 where
   pub within : StaysWithin 0 old levels new []
+  pub others : SameOthers old levels new []
   pub listed : new.listed ≡ old.listed
   pub tree : SameTree old new
   pub faults : new.faults ≡ old.faults
