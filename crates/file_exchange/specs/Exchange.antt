@@ -4,6 +4,10 @@ use Rattle.sd_edge.specs.Tree.{NameList, Tree, SameBut, node_at, file_at}
 use Rattle.sd_edge.specs.Paths.{parts_of, parent_of}
 use Rattle.sd_edge.specs.Files.{path_text}
 use Rattle.sd_edge.specs.Disk.{DiskState}
+use Rattle.sd_edge.specs.declared.fault.DiskFault.{DiskFault}
+use Rattle.sd_edge.specs.declared.fault.DiskFault.TheVariants as disk
+use Rattle.file_exchange.specs.declared.fault.ExchangeFault.{ExchangeFault}
+use Rattle.file_exchange.specs.declared.fault.ExchangeFault.TheVariants as exchange
 use Rattle.file_exchange.specs.Causes.{HasRisenBy}
 use Rattle.file_exchange.specs.Reserved.{FirstFree}
 
@@ -38,3 +42,16 @@ pub record LeavesBytes (old : Tree) (place : NameList) (bytes : List ℕ) (new :
 -- One counted fault leaves no temporary file: every other place is as before, or a second one was counted.
 abbrev pub IsCleared : DiskState → NameList → DiskState → Type 0
 IsCleared old place new = SameBut place old.tree new.tree ⊎ HasRisenBy 2 old.faults new.faults
+
+-- ---- faults
+
+-- the fault of a refused move, or of putting it on the medium; want of memory is told as in every other step
+abbrev pub as_move : DiskFault → ExchangeFault
+as_move disk.Absent = exchange.Move disk.Absent
+as_move disk.Taken = exchange.Move disk.Taken
+as_move disk.Failed = exchange.Move disk.Failed
+as_move disk.NoMemory = exchange.Disk disk.NoMemory
+
+-- the disk failed before the move, or in it
+abbrev pub HasFailed : ExchangeFault → Type 0
+HasFailed fault = (fault ≡ exchange.Disk disk.Failed) ⊎ (fault ≡ exchange.Move disk.Failed)

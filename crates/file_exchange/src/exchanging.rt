@@ -1,14 +1,15 @@
 //! One file's exchange.
 
-ghost use Rattle.std.specs.Prelude.{◌≡◌, ◌≢◌, ◌⊎◌, ◌≤◌, false, IsTrue, IfOk, OnOk, OnErr, IsErrOf, IfSome, IfNone};
+ghost use Rattle.std.specs.Prelude.{◌≡◌, ◌≢◌, ◌⊎◌, ◌≤◌, false, IsTrue, IfOk, IfErr, OnOk, OnErr, IsErrOf, IfSome, IfNone};
+ghost use Rattle.sd_edge.specs.Tree.{node_at};
 ghost use Rattle.sd_edge.specs.Paths.{parts_of, parent_of, SameWays};
 ghost use Rattle.sd_edge.specs.Disk.{SameLists, SameTree};
 ghost use Rattle.sd_edge.specs.Files.{Removes};
 ghost use Rattle.sd_edge.specs.Crashes.{IsDurable, KeepsSettled};
 ghost use Rattle.file_exchange.specs.Causes.{HasCauseOf, HasRisenBy};
 ghost use Rattle.file_exchange.specs.Reserved.{NoneFree, reserved_names};
-ghost use Rattle.file_exchange.specs.Exchange.{IsFilePath, Exchanges, LeavesBytes, IsCleared};
-ghost use Rattle.file_exchange.specs.Temporary.{CreatesTemporary, IsReady, Moves, MayHaveMoved, FillLeaves, SettlesFolder, IsRemoved};
+ghost use Rattle.file_exchange.specs.Exchange.{IsFilePath, Exchanges, LeavesBytes, IsCleared, HasFailed};
+ghost use Rattle.file_exchange.specs.Temporary.{CreatesTemporary, IsReady, ChangesOnly, Moves, MayHaveMoved, FillLeaves, SettlesFolder, IsRemoved};
 ghost use Rattle.file_exchange.specs.Crash.{IsNewFile, ExchangeLeaves};
 
 use crate::ExchangeFault;
@@ -22,7 +23,7 @@ use std::alloc::Global;
 ///
 /// On a disk that tells its tree the path has no links, `.` or `..`, and leads to a regular file. Refuses with a counted
 /// fault, where no reserved name of the folder is free, or for want of memory; the file is then old, or new where the
-/// renaming or the folder's sync failed. One counted fault leaves no temporary file.
+/// answer is `Move` or want of memory. One counted fault leaves no temporary file.
 ///
 /// There a crash at any moment leaves the file as one at entry could have left it, or with its mode and the new bytes; it
 /// may leave anything at that reserved name; and all else as one at entry could have left it. After `Ok` each
@@ -39,12 +40,16 @@ pub fn exchange<D: Disk>(
     ensures crash { IsTrue D.tells → ExchangeLeaves (parts_of path.now) bytes.now (D.state disk.old) (D.state disk.new) }
     ensures durable { IsTrue D.tells → OnOk result (IsDurable (IsNewFile (D.state disk.old).tree (parts_of path.now) bytes.now) (D.state disk.old) (D.state disk.new)) }
     ensures settled { IsTrue D.tells → KeepsSettled (D.state disk.old) (D.state disk.new) }
-    ensures cleared { IsTrue D.tells → IsErrOf result (ExchangeFault.Disk DiskFault.Failed) → IsCleared (D.state disk.old) (parts_of path.now) (D.state disk.new) }
+    ensures old { IsTrue D.tells → IsErrOf result (ExchangeFault.Disk DiskFault.Failed)
+        → node_at (D.state disk.new).tree (parts_of path.now) ≡ node_at (D.state disk.old).tree (parts_of path.now) }
+    ensures cleared { IsTrue D.tells → IfErr result (λ fault. HasFailed fault → IsCleared (D.state disk.old) (parts_of path.now) (D.state disk.new)) }
     ensures none_free { IsTrue D.tells → IsErrOf result ExchangeFault.NoName → NoneFree (D.state disk.old).tree (parent_of (parts_of path.now)) }
     ensures not_written { IsTrue D.tells → IsErrOf result ExchangeFault.NoName → SameTree (D.state disk.old) (D.state disk.new) }
     ensures none_free_untold { D.tells ≡ false → IsErrOf result ExchangeFault.NoName → HasRisenBy reserved_names (D.state disk.old).faults (D.state disk.new).faults }
     ensures lists { SameLists (D.state disk.old) (D.state disk.new) }
     ensures cause { HasCauseOf ExchangeFault.Disk D.tells (D.state disk.old) (D.state disk.new) result }
+    ensures move_cause { HasCauseOf ExchangeFault.Move D.tells (D.state disk.old) (D.state disk.new) result }
+    ensures memory { IsErrOf result (ExchangeFault.Move DiskFault.NoMemory) → ⊥ }
 {
     let Some(temporary) = create_temporary(alloc, disk, path)? else {
         return Err(ExchangeFault::NoName);
@@ -52,7 +57,7 @@ pub fn exchange<D: Disk>(
     let temporary = temporary.as_str();
     match fill_and_rename(disk, temporary, path, bytes) {
         Ok(()) => settle(disk, path),
-        Err(fault) => Err(ExchangeFault::Disk(clear(disk, temporary, fault))),
+        Err(fault) => Err(clear(disk, temporary, fault)),
     }
 }
 
@@ -90,31 +95,35 @@ fn fill_and_rename<D: Disk>(
     temporary: &str,
     path: &str,
     bytes: &[u8],
-) -> Result<(), DiskFault>
+) -> Result<(), ExchangeFault>
     requires { IsTrue D.tells → IsReady (D.state disk.old) temporary.now path.now }
     ensures moved { IsTrue D.tells → OnOk result (Moves (D.state disk.old) temporary.now path.now bytes.now (D.state disk.new)) }
     ensures refused { IsTrue D.tells → OnErr result (MayHaveMoved (D.state disk.old) temporary.now path.now bytes.now (D.state disk.new)) }
     ensures crash { IsTrue D.tells → FillLeaves (D.state disk.old) temporary.now path.now bytes.now (D.state disk.new) }
+    ensures old { IsTrue D.tells → IsErrOf result (ExchangeFault.Disk DiskFault.Failed) → ChangesOnly temporary.now (D.state disk.old).tree (D.state disk.new).tree }
     ensures ways { IsTrue D.tells → SameWays (D.state disk.old).tree (D.state disk.new).tree }
     ensures lists { SameLists (D.state disk.old) (D.state disk.new) }
-    ensures cause { HasCauseOf (λ fault. fault) D.tells (D.state disk.old) (D.state disk.new) result }
+    ensures cause { HasCauseOf ExchangeFault.Disk D.tells (D.state disk.old) (D.state disk.new) result }
+    ensures move_cause { HasCauseOf ExchangeFault.Move D.tells (D.state disk.old) (D.state disk.new) result }
+    ensures memory { IsErrOf result (ExchangeFault.Move DiskFault.NoMemory) → ⊥ }
+    ensures not_no_name { IsErrOf result ExchangeFault.NoName → ⊥ }
 {
     disk.write_file(temporary, bytes)?;
     disk.sync(temporary)?;
-    disk.rename(temporary, path)
+    disk.rename(temporary, path).map_err(ExchangeFault::of_move)
 }
 
 /// Removes the temporary file after a fault. Answers with the fault, or with want of memory where
 /// the removal has it.
-fn clear<D: Disk>(disk: &mut D, temporary: &str, fault: DiskFault) -> DiskFault
+fn clear<D: Disk>(disk: &mut D, temporary: &str, fault: ExchangeFault) -> ExchangeFault
     ensures tree { IsTrue D.tells → SameTree (D.state disk.old) (D.state disk.new) ⊎ Removes (D.state disk.old) temporary.now (D.state disk.new) }
-    ensures cleared { IsTrue D.tells → result ≢ DiskFault.NoMemory → IsRemoved (D.state disk.old) temporary.now (D.state disk.new) }
-    ensures fault { (result ≡ DiskFault.NoMemory) ⊎ (result ≡ fault) }
+    ensures cleared { IsTrue D.tells → result ≢ ExchangeFault.Disk DiskFault.NoMemory → IsRemoved (D.state disk.old) temporary.now (D.state disk.new) }
+    ensures fault { (result ≡ ExchangeFault.Disk DiskFault.NoMemory) ⊎ (result ≡ fault) }
     ensures faults { (D.state disk.old).faults ≤ (D.state disk.new).faults }
     ensures lists { SameLists (D.state disk.old) (D.state disk.new) }
 {
     match disk.remove(temporary) {
-        Err(DiskFault::NoMemory) => DiskFault::NoMemory,
+        Err(DiskFault::NoMemory) => ExchangeFault::Disk(DiskFault::NoMemory),
         _ => fault,
     }
 }
@@ -124,10 +133,13 @@ fn settle<D: Disk>(disk: &mut D, path: &str) -> Result<(), ExchangeFault>
     requires { IsTrue D.tells → IsFilePath (D.state disk.old).tree path.now }
     ensures settled { IsTrue D.tells → OnOk result (SettlesFolder (D.state disk.old) path.now (D.state disk.new)) }
     ensures refused { IsTrue D.tells → OnErr result (SameTree (D.state disk.old) (D.state disk.new)) }
+    ensures moved { IsErrOf result (ExchangeFault.Disk DiskFault.Failed) → ⊥ }
     ensures not_no_name { IsErrOf result ExchangeFault.NoName → ⊥ }
     ensures lists { SameLists (D.state disk.old) (D.state disk.new) }
     ensures cause { HasCauseOf ExchangeFault.Disk D.tells (D.state disk.old) (D.state disk.new) result }
+    ensures move_cause { HasCauseOf ExchangeFault.Move D.tells (D.state disk.old) (D.state disk.new) result }
+    ensures memory { IsErrOf result (ExchangeFault.Move DiskFault.NoMemory) → ⊥ }
 {
-    disk.sync_dir(folder_path(path))?;
-    Ok(())
+    disk.sync_dir(folder_path(path))
+        .map_err(ExchangeFault::of_move)
 }

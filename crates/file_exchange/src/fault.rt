@@ -2,6 +2,7 @@
 
 ghost use Rattle.std.specs.Prelude.{◌≡◌};
 ghost use Rattle.file_exchange.specs.declared.fault.ExchangeFault.TheVariants as exchange_fault;
+ghost use Rattle.file_exchange.specs.Exchange.{as_move};
 
 use sd_edge::DiskFault;
 use thiserror::Error;
@@ -12,9 +13,13 @@ pub enum ExchangeFault {
     /// Every reserved name of the file's folder is taken. Nothing was written.
     #[error("no free temporary name")]
     NoName,
-    /// The disk failed, or there is no memory left.
+    /// The disk refused a step before the move, and the file is its old one; or there is no memory left.
     #[error("{0}")]
     Disk(DiskFault),
+    /// The disk refused to put the new file in the file's place, or to put that on the medium. The file is old or new.
+    /// Never for want of memory.
+    #[error("failed to move file: {0}")]
+    Move(DiskFault),
 }
 
 impl From<DiskFault> for ExchangeFault {
@@ -22,5 +27,17 @@ impl From<DiskFault> for ExchangeFault {
 
     fn from(fault: DiskFault) -> ExchangeFault {
         ExchangeFault::Disk(fault)
+    }
+}
+
+impl ExchangeFault {
+    /// The fault of a move that the disk refused, or of putting it on the medium.
+    pub(crate) fn of_move(fault: DiskFault) -> ExchangeFault
+        ensures { result ≡ as_move fault }
+    {
+        match fault {
+            DiskFault::NoMemory => ExchangeFault::Disk(fault),
+            _ => ExchangeFault::Move(fault),
+        }
     }
 }

@@ -79,6 +79,14 @@ impl Error {
     }
 }
 
+impl From<RegexFault> for Error {
+    ghost from_gives = { λ fault error. error.kind ≡ kind.Regex fault };
+
+    fn from(fault: RegexFault) -> Error {
+        Error::new(ErrorKind::Regex(fault))
+    }
+}
+
 impl From<NoMemory> for Error {
     ghost from_gives = { λ _ error. error.kind ≡ kind.NoMemory };
 

@@ -95,8 +95,15 @@ impl RegexMatcher {
     {
         match self.slots.take() {
             Some(slots) if slots.len() == self.groups as usize + 1 => Ok(slots),
-            _ => Slots::new(self.alloc, self.groups),
+            _ => self.new_slots(),
         }
+    }
+
+    /// Slots for the groups of the pattern.
+    fn new_slots(&self) -> Result<Slots, NoMemory>
+        ensures { IfOk result (λ slots. length slots ≡ groups_of self.now.searcher + 1) }
+    {
+        Slots::new(self.alloc, self.groups)
     }
 }
 
@@ -126,6 +133,9 @@ impl Matcher for RegexMatcher {
     ghost lawful_groups = { λ matcher text place end within is captures. lawful_spans (tree_of matcher.searcher) matcher.whole text place end within is };
 
     fn find_at(&self, haystack: &[u8], at: usize) -> Result<Option<Match>, NoMemory> {
+        if let Some(found) = self.pattern.searcher.find_text(haystack, at) {
+            return Ok(found);
+        }
         let mut slots = self.take_slots()?;
         self.pattern.searcher.search_at(haystack, at, &mut slots)?;
         let found = slots.get(0);

@@ -1,6 +1,7 @@
 -- What a search finds, and how slots hold it.
-use Rattle.std.specs.Prelude.{◌≡◌, ⊤, ℕ, ◌<◌, ◌≤◌, Bool, true, false, List, length, map, replicate, Option, Some, None, if◌then◌else◌}
+use Rattle.std.specs.Prelude.{◌≡◌, ⊤, ℕ, ◌+◌, ◌<◌, ◌≤◌, Bool, true, false, List, length, map, replicate, Option, Some, None, if◌then◌else◌}
 use Rattle.grep_matcher.specs.Span.{Span}
+use Rattle.hir_tree.specs.Groups.{ends_of}
 use Rattle.hir_tree.specs.PlainText.{stands_at}
 
 -- a group that is set ends where it starts, or later
@@ -28,3 +29,12 @@ IsFound each from to false slots = IsOfLeast each from to None × (slots ≡ rep
 -- the place, where the bytes stand there
 abbrev pub place_found : List ℕ → List ℕ → ℕ → Option ℕ
 place_found bytes text at = if stands_at bytes text at then Some at else None
+
+-- the span of the bytes, where they stand at the place
+abbrev pub span_found : List ℕ → List ℕ → ℕ → Option Span
+span_found bytes text at = if stands_at bytes text at then Some (record { start = at; end = at + length bytes }) else None
+
+-- the span of the whole match, which is group 0, if there is a match
+abbrev pub whole_span : Option (List (Option (ℕ × ℕ))) → Option Span
+whole_span None = None
+whole_span (Some groups) = span_of (ends_of groups 0)

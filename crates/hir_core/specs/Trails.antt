@@ -24,7 +24,7 @@ put_back (Some start) starts = start ∷ starts
 
 -- a way, with what the frame says undone
 abbrev pub undone : Frame → Way → Way
-undone (frame.Try q) w = w
+undone (frame.Try q at) w = w
 undone frame.Begun w = way (drop 1 w.starts) w.run
 undone (frame.Ended i start before) w =
     way (put_back start w.starts) (record { at = w.run.at; groups = slice_set w.run.groups i before; seen = w.run.seen })
@@ -32,7 +32,7 @@ undone (frame.Ended i start before) w =
 -- the alternatives that frames stand for, the next one first, on the way back from this one
 abbrev pub alternatives : List Frame → Way → List Stop
 alternatives [] w = []
-alternatives (frame.Try q ∷ fs) w = (q, w) ∷ alternatives fs w
+alternatives (frame.Try q at ∷ fs) w = (q, placed_at at w) ∷ alternatives fs w
 alternatives (frame.Begun ∷ fs) w = alternatives fs (undone frame.Begun w)
 alternatives (frame.Ended i start before ∷ fs) w = alternatives fs (undone (frame.Ended i start before) w)
 

@@ -17,7 +17,7 @@ use std::alloc::Global;
 
 /// What one turn of a thread comes to.
 #[derive(Drop)]
-enum Turn {
+pub enum Turn {
     /// The thread is a match.
     Match,
     /// The thread goes on at this spot, or else an alternative is tried.
@@ -26,7 +26,7 @@ enum Turn {
 
 /// The spot that a spot leads to without a byte, if there is one; a second one is put before the alternatives. Refuses for want
 /// of memory alone.
-fn lead(spot: &Spot, text: &[u8], trail: &mut Trail) -> Result<Option<usize>, NoMemory>
+pub fn lead(spot: &Spot, text: &[u8], trail: &mut Trail) -> Result<Option<usize>, NoMemory>
     requires { trail.old.at ≤ length text.now }
     ensures { IfOk result
         (λ on. stops_on on trail.new ≡ leads text.now spot.now (way_of trail.old) ++ stops_of trail.old) }

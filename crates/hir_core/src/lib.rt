@@ -4,6 +4,8 @@
 //! matches, says the crate `hir_tree`, which is passed on here.
 #![tactic(auto)]
 
+mod block;
+mod blocks;
 mod closure;
 mod compile;
 mod later;
@@ -18,6 +20,7 @@ mod size;
 mod slots;
 mod spot;
 mod stack_search;
+mod starts;
 mod trail;
 mod visited;
 

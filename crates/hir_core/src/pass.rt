@@ -19,7 +19,7 @@ use std::mem;
 
 /// The best match so far, in a list that is used again.
 #[derive(Drop)]
-struct Best {
+pub struct Best {
     /// The place of the text where it ends, if there is one.
     end: Option<usize>,
     /// What its groups hold.
@@ -27,8 +27,23 @@ struct Best {
 }
 
 impl Best {
+    /// No match.
+    pub fn new(alloc: Global) -> Best
+        ensures { best_in result ≡ None }
+    {
+        let groups = Vec::new(alloc);
+        Best { end: None, groups }
+    }
+
+    /// Drops the match, if there is one.
+    pub fn clear(&mut self)
+        ensures { best_in self.new ≡ None }
+    {
+        self.end = None;
+    }
+
     /// Takes the match of a trail in the place of what it has, if there is one. Refuses for want of memory alone.
-    fn update(&mut self, found: bool, trail: &Trail) -> Result<(), NoMemory>
+    pub fn update(&mut self, found: bool, trail: &Trail) -> Result<(), NoMemory>
         ensures { IfOk result (λ _. best_in self.new ≡ option_or (match_of found trail.now) (best_in self.old)) }
     {
         if found {
@@ -40,10 +55,17 @@ impl Best {
     }
 
     /// Whether there is a match.
-    fn is_some(&self) -> bool
+    pub fn is_some(&self) -> bool
         ensures { result ≡ is_some (best_in self.now) }
     {
         self.end.is_some()
+    }
+
+    /// What the groups of the match hold.
+    pub fn groups(&self) -> &[Option<(usize, usize)>]
+        ensures { result.now ≡ self.now.groups.items }
+    {
+        &self.groups
     }
 }
 
@@ -64,10 +86,9 @@ impl Pass {
         ensures threads { result.threads ≡ [] }
         ensures best { best_in result.best ≡ None }
     {
-        let groups = Vec::new(alloc);
         Pass {
             threads: Later::new(alloc),
-            best: Best { end: None, groups },
+            best: Best::new(alloc),
             closure: Closure::new(alloc),
         }
     }
@@ -186,7 +207,7 @@ impl Pass {
         ensures ticks { TicksAtMost L.noted ((length text.now + 1 - at) * counted spots.now) steps.old steps.new }
     {
         self.threads.clear();
-        self.best.end = None;
+        self.best.clear();
         let mut looked = at;
         let mut place = self.next_place(filter, text, at, &mut looked);
         while place <= text.len() {
@@ -203,6 +224,6 @@ impl Pass {
     pub fn groups(&self) -> &[Option<(usize, usize)>]
         ensures { result.now ≡ self.now.best.groups.items }
     {
-        &self.best.groups
+        self.best.groups()
     }
 }

@@ -1,10 +1,11 @@
 //! Patterns that are one text, and the search for one.
 
 ghost use Rattle.std.specs.Prelude.{◌≡◌, ◌+◌, ◌-◌, ◌<◌, ◌≤◌, ◌++◌, length, map, option_map, IfOk, IfSome, OnOk, Some, None, if◌then◌else◌};
-ghost use Rattle.hir_core.specs.Found.{IsFound, IsOfLeast, place_found};
+ghost use Rattle.hir_core.specs.Found.{IsFound, IsOfLeast, place_found, span_found};
 ghost use Rattle.hir_tree.specs.PlainText.{joined_all, text_found, text_of};
 
 use crate::{Bytes, Hir, Slots};
+use grep_matcher::Match;
 use memchr::memmem::{Finder, FinderBuilder};
 use sd_base::NoMemory;
 use std::alloc::Global;
@@ -112,6 +113,16 @@ impl TextFinder {
         match self.finder.find(&text[at..]) {
             None => None,
             Some(offset) => Some(at + offset),
+        }
+    }
+
+    /// The span of the bytes at the least place of a text, from one on, where they stand.
+    pub fn find_span(&self, text: &[u8], at: usize) -> Option<Match>
+        ensures { IsOfLeast (span_found self.now text.now) at (length text.now) result }
+    {
+        match self.find(text, at) {
+            None => None,
+            Some(start) => Some(Match::new(start, start + self.bytes().len())),
         }
     }
 

@@ -1,18 +1,21 @@
 //! Searching texts for a pattern.
 
-ghost use Rattle.std.specs.Prelude.{◌≡◌, ◌+◌, ◌-◌, ◌*◌, ◌≤◌, length, replicate, None, IfOk, IfErr};
+ghost use Rattle.std.specs.Prelude.{◌≡◌, ◌+◌, ◌-◌, ◌*◌, ◌≤◌, length, replicate, None, is_some, IfOk, IfErr, IfSome};
 ghost use Rattle.hir_tree.specs.Cores.{core_of};
-ghost use Rattle.hir_core.specs.Found.{IsFound};
+ghost use Rattle.hir_core.specs.Found.{IsFound, IsOfLeast, whole_span};
+ghost use Rattle.hir_tree.specs.PlainText.{text_of};
 ghost use Rattle.hir_tree.specs.Runs.{preferred};
 ghost use Rattle.hir_tree.specs.Spots.{groups_of, spots_of};
 ghost use Rattle.hir_tree.specs.Tree.{tree_of};
 ghost use Rattle.sd_base.specs.Steps.{TicksAtMost};
 
+use crate::blocks::{PLACES, SPOTS};
 use crate::compile::program;
 use crate::plain::TextFinder;
 use crate::scan::Scan;
 use crate::spot::Spot;
 use crate::{Hir, Slots, group_count, stack_search};
+use grep_matcher::Match;
 use sd_base::{Ledger, NoMemory, Silent, Steps};
 use std::alloc::Global;
 use std::marker::Model;
@@ -76,6 +79,19 @@ impl Searcher {
         &self.hir
     }
 
+    /// The search for a pattern that is one text, which takes neither slots nor memory: the span of the least place from `at` on
+    /// where the text stands. `None` where the pattern isn't one text.
+    pub fn find_text(&self, text: &[u8], at: usize) -> Option<Option<Match>>
+        ensures is_text { is_some result ≡ is_some (text_of self.now) }
+        ensures found { IfSome result (λ found. IsOfLeast
+            (λ place. whole_span (preferred (core_of self.now) (groups_of self.now) text.now place)) at (length text.now) found) }
+    {
+        match &self.text {
+            None => None,
+            Some(finder) => Some(finder.find_span(text, at)),
+        }
+    }
+
     /// Whether a place from `at` on has a match. The slots then hold the preferred match of the least such place, and else
     /// they are unset, also where the search refuses. It refuses for want of memory alone.
     pub fn search_at(&self, text: &[u8], at: usize, slots: &mut Slots) -> Result<bool, NoMemory>
@@ -89,9 +105,41 @@ impl Searcher {
         if let Some(finder) = &self.text {
             return Ok(finder.search(text, at, slots));
         }
-        let filter = self.filter.as_ref();
-        let mut steps = Steps::new(Silent);
-        slots.search(&self.spots, filter, text, at, self.groups, &mut steps)
+        self.search_by_blocks(text, at, slots, PLACES)
+    }
+
+    /// [`search_at`](Searcher::search_at) over blocks of so many places, at least one and at most 256, each of which is searched depth
+    /// first. A pattern without a filter, or of more than 256 spots, is searched place by place.
+    pub fn search_by_blocks(
+        &self,
+        text: &[u8],
+        at: usize,
+        slots: &mut Slots,
+        places: usize,
+    ) -> Result<bool, NoMemory>
+        requires within { at ≤ length text.now }
+        requires slots { length slots.old ≡ groups_of self.now + 1 }
+        ensures found { IfOk result (λ found.
+            IsFound (preferred (core_of self.now) (groups_of self.now) text.now) at (length text.now) found slots.new) }
+        ensures kept { length slots.new ≡ length slots.old }
+        ensures refused { IfErr result (λ _. slots.new ≡ replicate (length slots.old) None) }
+    {
+        match &self.filter {
+            Some(filter) if self.spots.len() <= SPOTS => {
+                slots.search_by_blocks(&self.spots, filter, text, at, self.groups, places)
+            }
+            filter => {
+                let mut steps = Steps::new(Silent);
+                slots.search(
+                    &self.spots,
+                    filter.as_ref(),
+                    text,
+                    at,
+                    self.groups,
+                    &mut steps,
+                )
+            }
+        }
     }
 
     /// [`search_at`](Searcher::search_at) with counted steps: one for each visit of a spot that takes a byte or a character,

@@ -8,6 +8,7 @@ ghost use Rattle.hir_core.specs.Program.{ClosesFall};
 ghost use Rattle.hir_core.specs.Scan.{IsFilterOf};
 ghost use Rattle.sd_base.specs.Steps.{TicksAtMost};
 
+use crate::blocks::Blocks;
 use crate::pass::Pass;
 use crate::scan::Scan;
 use crate::spot::Spot;
@@ -22,8 +23,10 @@ use std::marker::Model;
 #[derive(Drop)]
 pub struct Slots {
     spans: Vec<Option<Match>>,
-    /// The search, and its lists.
+    /// The search place by place, and its lists.
     pass: Pass,
+    /// The search block by block, and its lists.
+    blocks: Blocks,
 }
 
 impl Model for Slots {
@@ -43,7 +46,12 @@ impl Slots {
         let mut spans = Vec::new(alloc);
         spans.resize(groups as usize + 1, None)?;
         let pass = Pass::new(alloc);
-        Ok(Slots { spans, pass })
+        let blocks = Blocks::new(alloc);
+        Ok(Slots {
+            spans,
+            pass,
+            blocks,
+        })
     }
 
     /// How many slots there are: one more than the greatest group's number.
@@ -112,6 +120,33 @@ impl Slots {
             return Ok(false);
         }
         set(&mut self.spans, self.pass.groups());
+        Ok(true)
+    }
+
+    /// The same for a program that has a filter, over blocks of so many places.
+    pub(crate) fn search_by_blocks(
+        &mut self,
+        spots: &[Spot],
+        filter: &Scan,
+        text: &[u8],
+        at: usize,
+        groups: u32,
+        places: usize,
+    ) -> Result<bool, NoMemory>
+        requires falls { ClosesFall spots.now }
+        requires filters { IsFilterOf spots.now filter.now }
+        requires few { length spots.now ≤ 256 }
+        requires within { at ≤ length text.now }
+        requires slots { length self.old ≡ groups + 1 }
+        ensures found { IfOk result (λ found. IsFound (groups_found text.now spots.now groups) at (length text.now) found self.new) }
+        ensures kept { length self.new ≡ length self.old }
+        ensures refused { IfErr result (λ _. self.new ≡ replicate (length self.old) None) }
+    {
+        unset(&mut self.spans);
+        if !self.blocks.search(spots, filter, text, at, groups, places)? {
+            return Ok(false);
+        }
+        set(&mut self.spans, self.blocks.groups());
         Ok(true)
     }
 }

@@ -1,9 +1,9 @@
 //! The thread of a search that is followed, and what else is to be tried at its place.
 
-ghost use Rattle.std.specs.Prelude.{◌≡◌, ℕ, ◌∷◌, [], IfOk, None, slice_index_or, slice_set};
+ghost use Rattle.std.specs.Prelude.{◌≡◌, ◌+◌, ◌^◌, ◌<◌, ℕ, ◌∷◌, [], IfOk, None, slice_index_or, slice_set};
 ghost use Rattle.hir_core.specs.Program.{opened, closed, way};
 ghost use Rattle.hir_tree.specs.Runs as runs;
-ghost use Rattle.hir_core.specs.Trails.{way_of, stops_of, stops_on, undone, ComesBack};
+ghost use Rattle.hir_core.specs.Trails.{way_of, placed_at, stops_of, stops_on, undone, ComesBack};
 
 use sd_base::NoMemory;
 use std::alloc::Global;
@@ -11,8 +11,8 @@ use std::alloc::Global;
 /// What is done when a search comes back to an alternative.
 #[derive(Drop)]
 pub enum Frame {
-    /// This spot is tried.
-    Try(usize),
+    /// This spot is tried, at this place of the text.
+    Try(usize, usize),
     /// The start of the innermost group is taken off again.
     Begun,
     /// What a group held is put back, and its start, if it had one.
@@ -23,7 +23,7 @@ pub enum Frame {
     },
 }
 
-/// The captures of the thread that is followed, and the alternatives at its place, which share them.
+/// The captures of the thread that is followed, and the alternatives on its way, which share them.
 #[derive(Drop)]
 pub struct Trail {
     /// The place of the text.
@@ -32,7 +32,7 @@ pub struct Trail {
     pub starts: Vec<usize>,
     /// What the groups hold.
     pub groups: Vec<Option<(usize, usize)>>,
-    /// The alternatives, the first to be tried last, and between them what is undone on the way back to them.
+    /// The alternatives, the first to be tried last, each with its place, and between them what is undone on the way back to them.
     pub frames: Vec<Frame>,
 }
 
@@ -84,12 +84,21 @@ impl Trail {
         self.frames.clear();
     }
 
+    /// Goes on by so many bytes.
+    pub fn move_on(&mut self, bytes: usize)
+        requires { self.old.at + bytes < 2 ^ 64 }
+        ensures way { way_of self.new ≡ placed_at (self.old.at + bytes) (way_of self.old) }
+        ensures stops { stops_of self.new ≡ stops_of self.old }
+    {
+        self.at += bytes;
+    }
+
     /// A spot is to be tried before the alternatives. Refuses for want of memory alone.
     pub fn push(&mut self, spot: usize) -> Result<(), NoMemory>
         ensures way { way_of self.new ≡ way_of self.old }
         ensures stops { IfOk result (λ _. stops_of self.new ≡ (spot, way_of self.old) ∷ stops_of self.old) }
     {
-        self.frames.push(Frame::Try(spot))?;
+        self.frames.push(Frame::Try(spot, self.at))?;
         Ok(())
     }
 
@@ -125,7 +134,7 @@ impl Trail {
         ensures frames { IfOk result (λ _. self.new.frames ≡ self.old.frames) }
     {
         match frame {
-            Frame::Try(_) => {}
+            Frame::Try(_, _) => {}
             Frame::Begun => {
                 self.starts.pop();
             }
@@ -152,7 +161,8 @@ impl Trail {
             return Ok(on);
         }
         while let Some(frame) = self.frames.pop() {
-            if let Frame::Try(spot) = frame {
+            if let Frame::Try(spot, at) = frame {
+                self.at = at;
                 return Ok(Some(spot));
             }
             self.undo(frame)?;

@@ -1,4 +1,4 @@
-//! Which spots were visited at a place.
+//! Which spots were visited at a place, or at each place of a block.
 
 ghost use Rattle.std.specs.Prelude.{◌≡◌, ◌<◌, [], false, true, length, replicate, slice_set, IfOk};
 ghost use Rattle.hir_core.specs.Pass.{was_visited};
@@ -7,15 +7,17 @@ use sd_base::NoMemory;
 use std::alloc::Global;
 use std::marker::Model;
 
-/// For each spot, whether it was visited at this place. Contracts see a list of truths.
+/// For each spot, whether it was visited at this place, or for each spot and place whether it was in this block. Contracts see a list
+/// of truths.
 ///
-/// Each spot has a stamp, and is visited where its stamp is that of the place. So going to the next place costs one step.
+/// Each has a stamp, and is visited where its stamp is that of the place or the block. So going to the next costs one step, but for each
+/// 255th, where all stamps are taken off.
 #[derive(Drop)]
 pub struct Visited {
     /// The stamp of each spot.
-    stamps: Vec<usize>,
+    stamps: Vec<u8>,
     /// The stamp of the place. No stamp of a spot is greater.
-    stamp: usize,
+    stamp: u8,
 }
 
 impl Model for Visited {
@@ -44,7 +46,7 @@ impl Visited {
     pub fn next_place(&mut self, spots: usize) -> Result<(), NoMemory>
         ensures { IfOk result (λ _. self.new ≡ replicate spots false) }
     {
-        if self.stamps.len() == spots && self.stamp < usize::MAX {
+        if self.stamps.len() == spots && self.stamp < u8::MAX {
             self.stamp += 1;
             return Ok(());
         }

@@ -4,7 +4,7 @@
 #![tactic(auto)]
 
 #[cfg(test)]
-mod chosen_files;
+mod choice;
 #[cfg(test)]
 mod memory_disks;
 #[cfg(test)]

@@ -1,9 +1,3 @@
--- What the laws of what is chosen and replaced, of what a walk gives, and of what a crash leaves, use.
-pub mod BelowLemmas
-pub mod ChosenLemmas
+-- What the laws of what is replaced, and of what a crash leaves, use.
 pub mod CrashImageLemmas
-pub mod InOrderLemmas
-pub mod ListedLemmas
 pub mod OneReplacementLemmas
-pub mod PickLemmas
-pub mod ReachedLemmas

@@ -7,7 +7,7 @@ use Rattle.sd_edge.specs.Disk.{DiskState, outcomes_now}
 use Rattle.sd_edge.specs.Crashes.{LeavesSince, IsDurable}
 use Rattle.file_exchange.specs.Reserved.{Free}
 use Rattle.sd_core.specs.Words.{TreeOrder}
-use Rattle.sd_core.specs.Chosen.{IsChosen}
+use Rattle.chosen_files.specs.Chosen.{IsChosen}
 use Rattle.sd_core.specs.Rewriting.{IsNewContent}
 
 -- ---- some files, those at the places of which a fact holds

@@ -5,8 +5,8 @@ use Rattle.sd_edge.specs.declared.fault.DiskFault.TheVariants as disk
 use Rattle.sd_core.specs.declared.error.Error.{Error}
 use Rattle.sd_core.specs.declared.error.Error.TheVariants as error
 use Rattle.sd_core.specs.declared.error.JobFault.TheVariants.{TempName}
-use Rattle.sd_core.specs.declared.globs.GlobsError.{GlobsError}
-use Rattle.sd_core.specs.declared.globs.GlobsError.TheVariants as globs
+use Rattle.chosen_files.specs.declared.globs.GlobsError.{GlobsError}
+use Rattle.chosen_files.specs.declared.globs.GlobsError.TheVariants as globs
 use Rattle.sd_core.specs.declared.listing.ListingError.{ListingError}
 use Rattle.sd_core.specs.declared.listing.ListingError.TheVariants as listing
 use Rattle.sd_core.specs.declared.rewriting.RewritingError.{RewritingError}

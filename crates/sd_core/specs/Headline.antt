@@ -5,7 +5,7 @@ use Rattle.sd_edge.specs.Tree.{NameList, Tree, node_at, file_at}
 use Rattle.sd_edge.specs.Paths.{reached, parent_of}
 use Rattle.sd_edge.specs.Files.{path_text}
 use Rattle.sd_core.specs.Words.{TreeOrder}
-use Rattle.sd_core.specs.Chosen.{Chosen}
+use Rattle.chosen_files.specs.Chosen.{Chosen}
 use Rattle.sd_core.specs.Rewriting.{NewBytes, IsOldOrNew}
 use Rattle.file_exchange.specs.Reserved.{Free, NoneFree}
 use Rattle.sd_core.specs.declared.error.FailedJobs.{FailedJobs}

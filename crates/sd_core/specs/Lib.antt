@@ -1,10 +1,6 @@
-pub mod Chosen
 pub mod Crash
 pub mod Errors
-pub mod Examples
-pub mod Globs
 pub mod Headline
-pub mod Picks
 pub mod Report
 pub mod Rewriting
 pub mod Run

@@ -62,6 +62,7 @@ pub record LeavesFile (old : Tree) (place : NameList) (find replacement : List â
 abbrev pub as_rewriting : ExchangeFault â†’ RewritingError
 as_rewriting exchange.NoName = rewriting.NoName
 as_rewriting (exchange.Disk fault) = rewriting.Disk fault
+as_rewriting (exchange.Move fault) = rewriting.Disk fault
 
 -- ---- what a crash leaves
 

@@ -7,7 +7,7 @@ use Rattle.sd_core.specs.declared.report.Report.{Report}
 use Rattle.sd_core.specs.declared.top.Why.{Why}
 use Rattle.sd_core.specs.declared.top.Why.TheVariants.{Done, Fault, NotYet}
 use Rattle.sd_core.specs.Words.{TreeOrder}
-use Rattle.sd_core.specs.Chosen.{Chosen}
+use Rattle.chosen_files.specs.Chosen.{Chosen}
 use Rattle.file_exchange.specs.Reserved.{Free}
 use Rattle.sd_core.specs.Report.{report_text, AppendsPrefix}
 use Rattle.sd_core.specs.Headline.{RewritesTree}

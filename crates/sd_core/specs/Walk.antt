@@ -8,7 +8,7 @@ use Rattle.sd_edge.specs.Files.{kind_of, path_text}
 use Rattle.sd_edge.specs.Lists.{directory_of, TellAll}
 use Rattle.sd_edge.specs.declared.meta.RawEntry.{RawEntry}
 use Rattle.sd_core.specs.declared.listing.Pending.{Pending}
-use Rattle.sd_core.specs.Chosen.{Chosen}
+use Rattle.chosen_files.specs.Chosen.{Chosen}
 
 -- ---- what a listing leaves
 
@@ -66,10 +66,6 @@ pub record IsPendingAt (tree : Tree) (place : NameList) (pending : Pending) : Ty
   pub node : Node
   pub stands : node_at tree place ≡ Some node
   pub kind_is : pending.kind ≡ kind_of node.content
-
--- the place is the other one, or below it
-abbrev pub IsWithin : NameList → NameList → Type 0
-IsWithin top place = (names : NameList) × (place ≡ top ++ names)
 
 -- the paths of the chosen files below a directory, in the order of their places
 pub record ListsBelow (tree : Tree) (top : NameList) (globs : List (List ℕ)) (paths : List (List ℕ)) : Type 0 where

@@ -3,8 +3,8 @@
 ghost use Rattle.std.specs.Prelude.{◌≡◌, ◌<◌, ◌↔◌, [], length, slice_get, Some, IsTrue};
 ghost use Rattle.sd_core.specs.Errors.{IsErrorOf, IsErrorOfGlobs, IsErrorOfListing};
 
-use crate::globs::GlobsError;
 use crate::listing::ListingError;
+use chosen_files::GlobsError;
 use sd_edge::{DiskFault, Text};
 use std::fmt;
 use std::marker::Model;

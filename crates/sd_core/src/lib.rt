@@ -5,7 +5,6 @@
 #![tactic(auto)]
 
 mod error;
-mod examples;
 mod globs;
 mod laws;
 mod listing;
@@ -17,9 +16,8 @@ mod top;
 mod words;
 
 pub use error::{Error, FailedJobs, JobFault, Result};
-pub use examples::{files_are_picked_as_in_the_examples, walks_are_plain_as_in_the_examples};
 pub use laws::{
     a_crash_leaves_chosen_files_old_or_new, a_crash_leaves_rewritten_files_new,
-    a_whole_walk_lists_all, chosen_is_the_listing, one_list_of_chosen_files, one_list_of_new_bytes,
+    one_list_of_new_bytes,
 };
 pub use top::{Ended, Why, run};

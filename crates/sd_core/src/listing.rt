@@ -9,10 +9,11 @@ ghost use Rattle.sd_edge.specs.Files.{LeadsNowhere};
 ghost use Rattle.sd_edge.specs.Lists.{IsOpen, SameOtherLists, SameOpen, directory_of};
 ghost use Rattle.sd_edge.specs.declared.meta.RawEntry.{RawEntry};
 ghost use Rattle.sd_core.specs.declared.listing.ListingError.TheVariants as listing_error;
-ghost use Rattle.sd_core.specs.Globs.{FitsAny};
-ghost use Rattle.sd_core.specs.Chosen.{IsChosen, ListsChosen};
+ghost use Rattle.chosen_files.specs.Globs.{FitsAny};
+ghost use Rattle.chosen_files.specs.Chosen.{IsChosen, ListsChosen};
 ghost use Rattle.file_exchange.specs.Causes.{HasCauseOf};
-ghost use Rattle.sd_core.specs.Walk.{listable, TakesEntries, LeavesLists, HasLeft, ListsNames, child_text, StacksEntries, IsFolderAt, IsPendingAt, IsWithin, ListsBelow};
+ghost use Rattle.sd_core.specs.Walk.{listable, TakesEntries, LeavesLists, HasLeft, ListsNames, child_text, StacksEntries, IsFolderAt, IsPendingAt, ListsBelow};
+ghost use Rattle.chosen_files.specs.Picks.{IsWithin};
 
 use glob_match::Glob;
 use sd_edge::{Disk, DiskFault, Kind, ListId, NoMemory, RawEntry, Text};

@@ -60,7 +60,7 @@ impl From<ExchangeFault> for RewritingError {
     fn from(fault: ExchangeFault) -> RewritingError {
         match fault {
             ExchangeFault::NoName => RewritingError::NoName,
-            ExchangeFault::Disk(fault) => RewritingError::Disk(fault),
+            ExchangeFault::Disk(fault) | ExchangeFault::Move(fault) => RewritingError::Disk(fault),
         }
     }
 }

@@ -8,7 +8,7 @@ ghost use Rattle.sd_core.specs.declared.error.Error.{Error};
 ghost use Rattle.sd_core.specs.declared.error.FailedJobs.{FailedJobs};
 ghost use Rattle.sd_core.specs.Errors.{IsErrorOfFile};
 ghost use Rattle.file_exchange.specs.Causes.{HasCauseOf};
-ghost use Rattle.sd_core.specs.Globs.{IsFirstInvalid};
+ghost use Rattle.chosen_files.specs.Globs.{IsFirstInvalid};
 ghost use Rattle.sd_core.specs.Walk.{LeavesLists};
 ghost use Rattle.sd_core.specs.WordsRead.{order_of};
 ghost use Rattle.sd_core.specs.Crash.{IsChosenBy, RewritesLeave, RewritesLast};

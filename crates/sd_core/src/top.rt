@@ -10,7 +10,7 @@ ghost use Rattle.sd_edge.specs.declared.fault.DiskFault.{DiskFault};
 ghost use Rattle.sd_core.specs.declared.error.Error.{Error};
 ghost use Rattle.sd_core.specs.declared.error.FailedJobs.{FailedJobs};
 ghost use Rattle.sd_core.specs.Words.{TreeOrder, tree_order};
-ghost use Rattle.sd_core.specs.Globs.{IsValid, IsFirstInvalid};
+ghost use Rattle.chosen_files.specs.Globs.{IsValid, IsFirstInvalid};
 ghost use Rattle.sd_core.specs.Walk.{LeavesLists};
 ghost use Rattle.sd_core.specs.Crash.{IsOldOrNewImage, IsNewImage};
 ghost use Rattle.sd_core.specs.Headline.{LeavesTree, HasNoRoom};

@@ -1,2 +1,3 @@
 -- What the proofs about taking an entry use.
 pub mod TakeLemmas
+pub mod WaitsLemmas

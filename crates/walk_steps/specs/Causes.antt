@@ -53,9 +53,10 @@ module _ {S : Type 0} where
 abbrev pub CountsAbsent : Bool → DiskState → Option Item → DiskState → Type 0
 CountsAbsent tells old answer new = tells ≡ false → (path : List ℕ) (depth : ℕ) → answer ≡ Some (Err (Absent path depth)) → old.faults < new.faults
 
--- the identity that an item `Loop` carries is the one that is kept for the directory of the chain that it names
-abbrev pub IsLoopOf : List Folder → Option Item → Type 0
-IsLoopOf chain answer = (path : List ℕ) (depth : ℕ) (ancestor : List ℕ) (ident : Ident) → answer ≡ Some (Err (Loop path depth ancestor ident)) → IsLoopIn chain (Loop path depth ancestor ident)
+-- an item `Loop` comes only where links are followed; the identity that it carries is the one that is kept for the directory of the chain that it names
+abbrev pub IsLoopOf : Bool → List Folder → Option Item → Type 0
+IsLoopOf follows chain answer =
+    (path : List ℕ) (depth : ℕ) (ancestor : List ℕ) (ident : Ident) → answer ≡ Some (Err (Loop path depth ancestor ident)) → IsLoopIn follows chain (Loop path depth ancestor ident)
 
 -- ---- what was entered
 
@@ -80,5 +81,6 @@ IsSightOf entry (Enters seen folder) = (seen.depth ≡ entry.depth) × IsFolderO
 module _ {S : Type 0} where
   pub record IsCaused (tells : Bool) (old new : DiskState) (answer : Option Item) (now : Inside S) : Type 0 where
     pub absent : CountsAbsent tells old answer new
-    pub looped : IsLoopOf (chain_of now) answer
+    pub looped : IsLoopOf now.options.follow_links (chain_of now) answer
+    pub uncapped : answer ≡ Some (Err TooMany) → ⊥
     pub entered : (answer ≡ None → ⊥) → IsEnteredBy answer now.top

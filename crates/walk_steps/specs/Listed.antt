@@ -1,13 +1,15 @@
 -- How many entries a step lists.
-use Rattle.std.specs.Prelude.{◌≡◌, ◌⊎◌, ◌+◌, ◌≤◌, ◌<◌, ℕ, false, List, [], ◌∷◌, length, Option, Some, None}
+use Rattle.std.specs.Prelude.{◌≡◌, ◌⊎◌, ◌+◌, ◌≤◌, ◌<◌, ℕ, false, nat_lt, if◌then◌else◌, List, [], ◌∷◌, length, Option, Some, None, Ok, Err}
+use Rattle.sd_edge.specs.Disk.{DiskState}
 use Rattle.sd_edge.specs.Tree.{Tree}
 use Rattle.sd_edge.specs.declared.meta.RawEntry.{RawEntry}
+use Rattle.walk_rest.specs.declared.entry.DirEntry.{DirEntry}
 use Rattle.walk_rest.specs.declared.level.Folder.{Folder}
 use Rattle.walk_rest.specs.declared.level.Entries.{Entries}
 use Rattle.walk_rest.specs.declared.level.Entries.TheVariants.{Unread, Open, Kept}
 use Rattle.walk_rest.specs.declared.level.Level.{Level}
 use Rattle.walk_rest.specs.declared.options.Options.{Options}
-use Rattle.walk_rest.specs.Plan.{ListsNames}
+use Rattle.walk_rest.specs.Plan.{Item, ListsNames}
 use Rattle.walk_steps.specs.Sound.{opens}
 
 -- each entry is given as it comes: there is no least depth, and a directory comes before its contents
@@ -40,6 +42,42 @@ IsToList tree deepest (Some folder) (Kept kept) count = count ≡ 0
 abbrev pub IsToListOnTop : Tree → ℕ → Option Level → ℕ → Type 0
 IsToListOnTop tree deepest None count = count ≡ 0
 IsToListOnTop tree deepest (Some level) count = IsToList tree deepest level.folder level.entries count
+
+-- ---- entries below the root
+
+-- an entry counts where it lies below the root
+abbrev pub below_one : DirEntry → ℕ
+below_one entry = if nat_lt 0 entry.depth then 1 else 0
+
+-- how many entries below the root an answer gives
+abbrev pub gives_below : Option Item → ℕ
+gives_below None = 0
+gives_below (Some (Ok entry)) = below_one entry
+gives_below (Some (Err failed)) = 0
+
+abbrev pub waits_first : Option DirEntry → ℕ
+waits_first None = 0
+waits_first (Some entry) = below_one entry
+
+-- the root's own entry lies in no folder
+abbrev pub waits_kept : Option Folder → Entries → ℕ
+waits_kept None entries = 0
+waits_kept (Some folder) Unread = 0
+waits_kept (Some folder) (Open list) = 0
+waits_kept (Some folder) (Kept kept) = length kept.items
+
+abbrev pub waits_of : Level → ℕ
+waits_of level = waits_first level.first + waits_kept level.folder level.entries
+
+-- how many entries below the root are kept to be given
+abbrev pub waits_in : List Level → ℕ
+waits_in [] = 0
+waits_in (level ∷ levels) = waits_of level + waits_in levels
+
+-- Each entry below the root that is given was listed: so many that are given, with those that wait now and didn't before, are at most as many as the
+-- count of listed entries rose.
+abbrev pub GivesListed : ℕ → DiskState → List Level → DiskState → List Level → Type 0
+GivesListed given old before new after = given + waits_in after + old.listed ≤ waits_in before + new.listed
 
 -- ---- parts of it
 

@@ -27,14 +27,15 @@ IsFailureAt entry failed = (failed ≡ error.Disk (Some entry.path) entry.depth)
 abbrev pub FailsAsSeen : ℕ → ℕ → DirEntry → Seen → Error → Type 0
 FailsAsSeen before now entry seen failed = (failed ≡ error.NoMemory) ⊎ ((IsFailureAt entry failed × HasRisen before now) ⊎ (seen ≡ fails failed))
 
--- the loop's identity is the one that is kept for the directory that it names
-abbrev pub IsLoopIn : List Folder → Error → Type 0
-IsLoopIn chain failed = (path : List ℕ) × (depth : ℕ) × (ident : Ident) × (folder : Folder) × (failed ≡ error.Loop path depth folder.path ident) × (ancestor_with ident chain ≡ Some folder)
+-- links are followed, and the loop's identity is the one that is kept for the directory that it names
+abbrev pub IsLoopIn : Bool → List Folder → Error → Type 0
+IsLoopIn follows chain failed =
+    (path : List ℕ) × (depth : ℕ) × (ident : Ident) × (folder : Folder) × (failed ≡ error.Loop path depth folder.path ident) × (ancestor_with ident chain ≡ Some folder) × IsTrue follows
 
 -- on any other disk: for want of memory, the disk failed and counted it, it told of nothing and counted that, or its identities show a loop
-abbrev pub HasCauseAt : ℕ → ℕ → DirEntry → List Folder → Error → Type 0
-HasCauseAt before now entry chain failed =
-    (failed ≡ error.NoMemory) ⊎ ((IsFailureAt entry failed × HasRisen before now) ⊎ (((failed ≡ error.Absent entry.path entry.depth) × (before < now)) ⊎ IsLoopIn chain failed))
+abbrev pub HasCauseAt : Bool → ℕ → ℕ → DirEntry → List Folder → Error → Type 0
+HasCauseAt follows before now entry chain failed =
+    (failed ≡ error.NoMemory) ⊎ ((IsFailureAt entry failed × HasRisen before now) ⊎ (((failed ≡ error.Absent entry.path entry.depth) × (before < now)) ⊎ IsLoopIn follows chain failed))
 
 -- the walk goes by this manner, as far as an entry is concerned
 module _ {S : Type 0} where

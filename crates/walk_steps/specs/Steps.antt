@@ -1,5 +1,5 @@
 -- What the parts of a step do to what is left of a walk.
-use Rattle.std.specs.Prelude.{◌≡◌, ◌⊎◌, ◌<◌, ℕ, Bool, false, IsTrue, List, [], ◌∷◌, ◌++◌, Option, Some, None, option_map}
+use Rattle.std.specs.Prelude.{◌≡◌, ◌⊎◌, ◌<◌, ℕ, Bool, false, IsTrue, List, [], ◌∷◌, ◌++◌, Option, Some, None, Ok, option_map}
 use Rattle.std.specs.declared.cmp.Ordering.{Ordering}
 use Rattle.sd_edge.specs.Count.{HasRisen}
 use Rattle.sd_edge.specs.Disk.{DiskState}
@@ -10,7 +10,7 @@ use Rattle.walk_rest.specs.declared.level.Folder.{Folder}
 use Rattle.walk_rest.specs.declared.level.Entries.TheVariants.{Unread}
 use Rattle.walk_rest.specs.declared.level.Level.{Level}
 use Rattle.walk_rest.specs.declared.options.Options.{Options}
-use Rattle.walk_rest.specs.Plan.{Comparison, Item, IsPlan, item_before, item_after}
+use Rattle.walk_rest.specs.Plan.{Comparison, Item, Plan, into, IsPlan, item_before, item_after}
 use Rattle.walk_rest.specs.Listing.{ends, beginning, device_to}
 use Rattle.walk_rest.specs.Rest.{Part, Rest, Moves, IsStep, Skips}
 use Rattle.walk_rest.specs.Level.{HasParts, IsAllowed, chain_above, with_folder, item_of}
@@ -24,6 +24,29 @@ abbrev pub CannotBegin : Bool → DiskState → DiskState → Options → List �
 CannotBegin tells old new options root failed =
     (failed ≡ error.NoMemory) ⊎ (((failed ≡ error.Disk (Some root) 0) × HasRisen old.faults new.faults)
     ⊎ ((failed ≡ error.Absent root 0) × (IsTrue tells → beginning old.tree options root ≡ ends failed) × (tells ≡ false → old.faults < new.faults)))
+
+-- ---- what a step enters
+
+-- what is due next in the topmost part is a directory that is entered
+pub record IsNextInto (rest : Rest) : Type 0 where
+  pub below : List Part
+  pub part : Part
+  pub is : rest ≡ below ++ part ∷ []
+  pub first : part.first ≡ None
+  pub folder : Folder
+  pub before : Option Item
+  pub contents : Plan
+  pub after : Option Item
+  pub plan : Plan
+  pub next : part.left ≡ into folder before contents after plan
+
+-- the level on top is that of a directory, and nothing was read of it
+pub record HasUnreadTop (top : Option Level) : Type 0 where
+  pub level : Level
+  pub folder : Folder
+  pub on_top : top ≡ Some level
+  pub folder_is : level.folder ≡ Some folder
+  pub unread : level.entries ≡ Unread
 
 module _ {S : Type 0} where
   -- ---- steps
@@ -43,6 +66,8 @@ module _ {S : Type 0} where
     pub is_step : IsStep cuts rest answer new
     pub left : HasRest now sorts compare inside new
     pub allowed : IsAllowed cuts before.faults now.faults
+    -- an entry that comes before the contents of its directory leaves that unread on top
+    pub enters : (entry : DirEntry) → answer ≡ Some (Ok entry) → IsNextInto is_step.mid → HasUnreadTop inside.top
 
   -- it came to an item, or moved on
   abbrev pub TurnsTo : DiskState → Bool → (DirEntry → DirEntry → Ordering) → Rest → Option Item → DiskState → Inside S → Type 0

@@ -7,12 +7,12 @@ ghost use Rattle.sd_edge.specs.declared.meta.RawEntry.{RawEntry};
 ghost use Rattle.walk_rest.specs.declared.entry.DirEntry.{DirEntry};
 ghost use Rattle.walk_rest.specs.declared.error.Error.TheVariants as error;
 ghost use Rattle.walk_rest.specs.declared.level.Due.{Due};
-ghost use Rattle.walk_rest.specs.declared.level.Entries.TheVariants.{Unread};
+ghost use Rattle.walk_rest.specs.declared.level.Entries.TheVariants.{Kept, Unread};
 ghost use Rattle.walk_rest.specs.declared.level.Folder.{Folder};
 ghost use Rattle.walk_rest.specs.declared.level.Level.{Level};
 ghost use Rattle.walk_rest.specs.Plan.{ListsNames};
 ghost use Rattle.walk_steps.specs.Causes.{faults_due, faults_told};
-ghost use Rattle.walk_steps.specs.Listed.{IsToList, entered_in};
+ghost use Rattle.walk_steps.specs.Listed.{IsToList, entered_in, gives_below, waits_in};
 
 /// How many counted faults an answer tells.
 pub fn faults_are_told_as_in_the_examples()
@@ -24,7 +24,7 @@ pub fn faults_are_told_as_in_the_examples()
     ensures ended { (tells : Bool) → faults_told tells None ≡ 0 }
 {}
 
-/// How many faults are due of levels, how many directories they are, and how many entries are listed as one is read.
+/// How many faults are due of levels, how many directories they are, how many entries are listed as one is read, and how many wait to be given.
 pub fn levels_are_counted_as_in_the_examples()
     ensures due { (a b : Level) (x y z : Due) → a.faults.items ≡ x ∷ y ∷ [] → b.faults.items ≡ z ∷ [] → faults_due (a ∷ b ∷ []) ≡ 3 }
     ensures entered { (root a b : Level) (in_a in_b : Folder) → root.folder ≡ None → a.folder ≡ Some in_a → b.folder ≡ Some in_b
@@ -32,4 +32,11 @@ pub fn levels_are_counted_as_in_the_examples()
     ensures to_list { (tree : Tree) (folder : Folder) (a b : RawEntry) → folder.depth ≡ 1 → ListsNames tree folder.path (a ∷ b ∷ [])
         → IsToList tree 2 (Some folder) Unread 2 }
     ensures at_max_depth { (tree : Tree) (folder : Folder) → folder.depth ≡ 2 → IsToList tree 2 (Some folder) Unread 0 }
+    ensures at_root { (root : DirEntry) → root.depth ≡ 0 → gives_below (Some (Ok root)) ≡ 0 }
+    ensures below_root { (inner : DirEntry) → inner.depth ≡ 2 → gives_below (Some (Ok inner)) ≡ 1 }
+    ensures first_waits { (level : Level) (folder : Folder) (left : DirEntry) → level.folder ≡ Some folder → level.entries ≡ Unread → level.first ≡ Some left
+        → left.depth ≡ 1 → waits_in (level ∷ []) ≡ 1 }
+    ensures kept_wait { (level : Level) (folder : Folder) (x y : DirEntry) (kept : _) → level.folder ≡ Some folder → level.entries ≡ Kept kept
+        → kept.items ≡ x ∷ y ∷ [] → level.first ≡ None → waits_in (level ∷ []) ≡ 2 }
+    ensures root_waits { (level : Level) → level.folder ≡ None → level.first ≡ None → waits_in (level ∷ []) ≡ 0 }
 {}

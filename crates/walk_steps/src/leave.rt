@@ -4,7 +4,9 @@ ghost use Rattle.std.specs.Prelude.{◌≡◌, ◌+◌, ◌∷◌, ◌≤◌, Is
 ghost use Rattle.sd_edge.specs.Disk.{SameTree};
 ghost use Rattle.walk_rest.specs.Plan.{Comparison};
 ghost use Rattle.walk_rest.specs.Rest.{Rest};
+ghost use Rattle.walk_steps.specs.Causes.{faults_due};
 ghost use Rattle.walk_steps.specs.Inside.{HasRest, SameWalk, levels_of};
+ghost use Rattle.walk_steps.specs.Listed.{waits_in};
 ghost use Rattle.walk_steps.specs.Sound.{AreSound, IsSound, SameOtherThan, SameOthers, StaysWithin, open_in};
 ghost use Rattle.walk_steps.specs.Steps.{SkipsTo};
 ghost use Rattle.walk_steps.specs.Work.{left_to_do};
@@ -38,6 +40,8 @@ pub fn skip_top<D: Disk, S: Order>(disk: &mut D, inside: &mut Inside<S>)
     ensures within { StaysWithin 0 (D.state disk.old) (levels_of inside.old) (D.state disk.new) (levels_of inside.new) }
     ensures others { SameOthers (D.state disk.old) (levels_of inside.old) (D.state disk.new) (levels_of inside.new) }
     ensures not_more { left_to_do (D.state disk.new) inside.new ≤ left_to_do (D.state disk.old) inside.old }
+    ensures waits { waits_in (levels_of inside.new) ≤ waits_in (levels_of inside.old) }
+    ensures due { faults_due (levels_of inside.new) ≤ faults_due (levels_of inside.old) }
     ensures listed { (D.state disk.new).listed ≡ (D.state disk.old).listed }
     ensures tree { SameTree (D.state disk.old) (D.state disk.new) }
     ensures faults { (D.state disk.new).faults ≡ (D.state disk.old).faults }

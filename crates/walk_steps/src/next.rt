@@ -8,7 +8,8 @@ ghost use Rattle.walk_rest.specs.Plan.{Comparison};
 ghost use Rattle.walk_rest.specs.Rest.{Rest};
 ghost use Rattle.walk_steps.specs.Causes.{CountsAbsent, CountsFaults, FitsTree, IsCaused, IsEnteredBy, IsLoopOf, faults_told};
 ghost use Rattle.walk_steps.specs.Inside.{HasRest, IsRead, SameWalk, chain_of, levels_of, with_top};
-ghost use Rattle.walk_steps.specs.Listed.{GivesAtOnce, HasRoom, IsToList, IsToListOnTop, IsTopSettled, entered_in};
+ghost use Rattle.walk_steps.specs.Listed.{GivesAtOnce, GivesListed, HasRoom, IsToList, IsToListOnTop, IsTopSettled};
+ghost use Rattle.walk_steps.specs.Listed.{below_one, entered_in, gives_below, waits_in};
 ghost use Rattle.walk_steps.specs.Sound.{IsSound, KeepsWalk, SameOthers, StaysWithin, depth_below, open_in, open_limit};
 ghost use Rattle.walk_steps.specs.Steps.{ByEachRest, HasTaken, StepsTo, TurnsTo};
 ghost use Rattle.walk_steps.specs.Work.{left_to_do};
@@ -41,7 +42,9 @@ pub fn next_item<D: Disk, S: Order>(
     ensures counted { FitsTree D.tells S.compares_by (D.state disk.old) (S.sorts inside.old.order) inside.old
         → CountsFaults (faults_told D.tells result) (D.state disk.old) (levels_of inside.old) (D.state disk.new) (levels_of inside.new) }
     ensures absent { CountsAbsent D.tells (D.state disk.old) result (D.state disk.new) }
-    ensures looped { IsLoopOf (chain_of inside.new) result }
+    ensures looped { IsLoopOf inside.new.options.follow_links (chain_of inside.new) result }
+    ensures uncapped { result ≢ Some (Err error.TooMany) }
+    ensures listed_each { GivesListed (gives_below result) (D.state disk.old) (levels_of inside.old) (D.state disk.new) (levels_of inside.new) }
     ensures listed_once { S.sorts inside.old.order ≡ false → GivesAtOnce inside.old.options → entered_in (levels_of inside.old) ≤ open_limit inside.old.options
         → (D.state disk.new).listed ≤ (D.state disk.old).listed + 1 }
     ensures listed_whole { IsTrue D.tells → (by : Comparison) (count : ℕ) → S.compares_by inside.old.order by
@@ -85,6 +88,8 @@ fn turn<D: Disk, S: Order>(
         → IfOk result (λ answer.
         CountsFaults (faults_told D.tells answer) (D.state disk.old) (levels_of (with_top inside.old level)) (D.state disk.new) (levels_of inside.new)) }
     ensures caused { IfOk result (λ answer. IsCaused D.tells (D.state disk.old) (D.state disk.new) answer inside.new) }
+    ensures listed_each { IfOk result (λ answer.
+        GivesListed (gives_below answer) (D.state disk.old) (levels_of (with_top inside.old level)) (D.state disk.new) (levels_of inside.new)) }
     ensures settles { GivesAtOnce inside.old.options → IfOk result (λ answer. IfNone answer (IsTopSettled inside.old.options.max_depth inside.new.top)) }
     ensures listed_once { S.sorts inside.old.order ≡ false → GivesAtOnce inside.old.options
         → HasRoom (open_limit inside.old.options) inside.old.options.max_depth inside.old.stack.items (Some level)
@@ -158,6 +163,8 @@ fn take_next<D: Disk, S: Order>(
     ensures counted { IfOk result (λ answer.
         CountsFaults (faults_told D.tells answer) (D.state disk.old) (levels_of (with_top inside.old level)) (D.state disk.new) (levels_of inside.new)) }
     ensures caused { IfOk result (λ answer. IsCaused D.tells (D.state disk.old) (D.state disk.new) answer inside.new) }
+    ensures listed_each { IfOk result (λ answer.
+        GivesListed (gives_below answer) (D.state disk.old) (levels_of (with_top inside.old level)) (D.state disk.new) (levels_of inside.new)) }
     ensures settles { GivesAtOnce inside.old.options → IfOk result (λ answer. IfNone answer (IsTopSettled inside.old.options.max_depth inside.new.top)) }
     ensures listed_once { (D.state disk.new).listed ≤ (D.state disk.old).listed + open_in level.entries }
     ensures passes { GivesAtOnce inside.old.options → IfOk result (λ answer. IfNone answer ((D.state disk.new).listed ≡ (D.state disk.old).listed)) }
@@ -216,6 +223,8 @@ fn meet<D: Disk, S: Order>(
     ensures counted { IfOk result (λ answer.
         CountsFaults (faults_told D.tells answer) (D.state disk.old) (levels_of (with_top inside.old level)) (D.state disk.new) (levels_of inside.new)) }
     ensures caused { IfOk result (λ answer. IsCaused D.tells (D.state disk.old) (D.state disk.new) answer inside.new) }
+    ensures listed_each { IfOk result (λ answer.
+        gives_below answer + waits_in (levels_of inside.new) ≤ below_one entry + waits_in (levels_of (with_top inside.old level))) }
     ensures hides { GivesAtOnce inside.old.options → IfOk result (λ answer. IfNone answer (inside.old.options.max_depth < entry.depth)) }
     ensures settles { GivesAtOnce inside.old.options → IfOk result (λ answer. IfNone answer (IsTopSettled inside.old.options.max_depth inside.new.top)) }
     ensures listed { (D.state disk.new).listed ≡ (D.state disk.old).listed }

@@ -13,7 +13,7 @@ ghost use Rattle.walk_rest.specs.Plan.{Comparison, ListsNames};
 ghost use Rattle.walk_rest.specs.Rest.{Rest};
 ghost use Rattle.walk_steps.specs.Causes.{CountsFaults, IsCaused, faults_told};
 ghost use Rattle.walk_steps.specs.Inside.{HasRest, IsRead, levels_of, with_top};
-ghost use Rattle.walk_steps.specs.Listed.{IsToList, IsTopSettled};
+ghost use Rattle.walk_steps.specs.Listed.{GivesListed, IsToList, IsTopSettled, gives_below};
 ghost use Rattle.walk_steps.specs.Lists.{OpensFolder};
 ghost use Rattle.walk_steps.specs.Sound.{AreRead, AreShallow, AreSound, IsApart, IsReadable, IsSound, IsSoundBelow, KeepsWalk};
 ghost use Rattle.walk_steps.specs.Sound.{SameOtherThan, SameOthers, StaysWithin, open_in, open_limit, opens};
@@ -45,6 +45,8 @@ pub fn read_root<D: Disk, S: Order>(
     ensures counted { IfOk result (λ answer.
         CountsFaults (faults_told D.tells answer) (D.state disk.old) inside.old.stack.items (D.state disk.new) (levels_of inside.new)) }
     ensures caused { IfOk result (λ answer. IsCaused D.tells (D.state disk.old) (D.state disk.new) answer inside.new) }
+    ensures listed_each { IfOk result (λ answer.
+        GivesListed (gives_below answer) (D.state disk.old) inside.old.stack.items (D.state disk.new) (levels_of inside.new)) }
     ensures settled { OnOk result (IsTopSettled inside.old.options.max_depth inside.new.top) }
     ensures unlisted { (D.state disk.new).listed ≡ (D.state disk.old).listed }
     ensures less { (lying : level.Level) → LiesUnread lying None
@@ -86,6 +88,7 @@ pub fn read_directory<D: Disk, S: Order>(
     ensures counted { (lying : level.Level) → LiesUnread lying (Some folder)
         → (IsTrue D.tells → folder.depth < inside.old.options.max_depth → IsSome (directory_of (D.state disk.old).tree folder.path))
         → OnOk result (CountsFaults 0 (D.state disk.old) inside.old.stack.items (D.state disk.new) (levels_of inside.new)) }
+    ensures listed_each { OnOk result (GivesListed 0 (D.state disk.old) inside.old.stack.items (D.state disk.new) (levels_of inside.new)) }
     ensures settled { OnOk result (IsTopSettled inside.old.options.max_depth inside.new.top) }
     ensures unlisted { S.sorts inside.old.order ≡ false → (inside.old.options.max_depth ≤ folder.depth)
         ⊎ (opens inside.old.stack.items < open_limit inside.old.options)
@@ -123,6 +126,7 @@ fn read_whole<D: Disk, S: Order>(
         → KeepsWalk (D.state disk.old) (with_top inside.old lying) (D.state disk.new) inside.new }
     ensures counted { (IsTrue D.tells → folder.depth < inside.old.options.max_depth → IsSome (directory_of (D.state disk.old).tree folder.path))
         → OnOk result (CountsFaults 0 (D.state disk.old) inside.old.stack.items (D.state disk.new) (levels_of inside.new)) }
+    ensures listed_each { OnOk result (GivesListed 0 (D.state disk.old) inside.old.stack.items (D.state disk.new) (levels_of inside.new)) }
     ensures settled { OnOk result (IsTopSettled inside.old.options.max_depth inside.new.top) }
     ensures unlisted { inside.old.options.max_depth ≤ folder.depth → (D.state disk.new).listed ≡ (D.state disk.old).listed }
     ensures listed_whole { IsTrue D.tells → (by : Comparison) (count : ℕ) → S.compares_by inside.old.order by
@@ -171,6 +175,7 @@ fn open_level<D: Disk, S: Order>(
         → KeepsWalk (D.state disk.old) (with_top inside.old lying) (D.state disk.new) inside.new }
     ensures counted { (IsTrue D.tells → IsSome (directory_of (D.state disk.old).tree folder.path))
         → OnOk result (CountsFaults 0 (D.state disk.old) inside.old.stack.items (D.state disk.new) (levels_of inside.new)) }
+    ensures listed_each { OnOk result (GivesListed 0 (D.state disk.old) inside.old.stack.items (D.state disk.new) (levels_of inside.new)) }
     ensures settled { OnOk result (IsTopSettled inside.old.options.max_depth inside.new.top) }
     ensures unlisted { (D.state disk.new).listed ≡ (D.state disk.old).listed }
     ensures less { (lying : level.Level) → LiesUnread lying (Some folder)
@@ -206,6 +211,7 @@ fn make_room<D: Disk, S: Order>(disk: &mut D, inside: &mut Inside<S>) -> Result<
     ensures faults { (D.state disk.old).faults ≤ (D.state disk.new).faults }
     ensures later { (D.state disk.old).listed ≤ (D.state disk.new).listed }
     ensures counted { OnOk result (CountsFaults 0 (D.state disk.old) inside.old.stack.items (D.state disk.new) inside.new.stack.items) }
+    ensures listed_each { OnOk result (GivesListed 0 (D.state disk.old) inside.old.stack.items (D.state disk.new) inside.new.stack.items) }
     ensures roomy { opens inside.old.stack.items < open_limit inside.old.options → (D.state disk.new).listed ≡ (D.state disk.old).listed }
     ensures work { OnOk result (work_in (D.state disk.new) inside.new.stack.items ≤ work_in (D.state disk.old) inside.old.stack.items) }
 {

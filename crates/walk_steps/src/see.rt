@@ -37,7 +37,7 @@ pub fn see<D: Disk, S>(
     ensures failed { ByEachManner D.tells inside.now (λ manner.
         IfErr result (FailsAsSeen (D.state disk.old).faults (D.state disk.new).faults entry
         (seen (D.state disk.old).tree manner (chain_with inside.now level.now) entry))) }
-    ensures cause { D.tells ≡ false → IfErr result (HasCauseAt (D.state disk.old).faults (D.state disk.new).faults entry (chain_with inside.now level.now)) }
+    ensures cause { D.tells ≡ false → IfErr result (HasCauseAt inside.now.options.follow_links (D.state disk.old).faults (D.state disk.new).faults entry (chain_with inside.now level.now)) }
     ensures sight { IfOk result (IsSightOf entry) }
     ensures lists { SameLists (D.state disk.old) (D.state disk.new) }
     ensures tree { SameTree (D.state disk.old) (D.state disk.new) }
@@ -70,7 +70,7 @@ fn see_link<D: Disk, S>(
     ensures failed { ByEachManner D.tells inside.now (λ manner.
         IfErr result (FailsAsSeen (D.state disk.old).faults (D.state disk.new).faults entry
         (seen_link manner (chain_with inside.now level.now) entry (node_to (D.state disk.old).tree entry.path true)))) }
-    ensures cause { D.tells ≡ false → IfErr result (HasCauseAt (D.state disk.old).faults (D.state disk.new).faults entry (chain_with inside.now level.now)) }
+    ensures cause { D.tells ≡ false → IfErr result (HasCauseAt inside.now.options.follow_links (D.state disk.old).faults (D.state disk.new).faults entry (chain_with inside.now level.now)) }
     ensures sight { IfOk result (IsSightOf entry) }
     ensures lists { SameLists (D.state disk.old) (D.state disk.new) }
     ensures tree { SameTree (D.state disk.old) (D.state disk.new) }

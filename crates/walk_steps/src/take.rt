@@ -8,6 +8,7 @@ ghost use Rattle.walk_rest.specs.Sorting.{IsSublist};
 ghost use Rattle.walk_rest.specs.Level.{IsOpenEntries};
 ghost use Rattle.walk_steps.specs.Inside.{IsRead, entries_due};
 ghost use Rattle.walk_steps.specs.Sound.{IsReadable, SameOtherThan, depth_below, open_in};
+ghost use Rattle.walk_steps.specs.Listed.{below_one, waits_of};
 ghost use Rattle.walk_steps.specs.Lists.{SameLevel};
 ghost use Rattle.walk_steps.specs.Work.{work_of};
 
@@ -43,6 +44,9 @@ pub fn take_entry<D: Disk>(
     ensures cause { IsErrOf result DiskFault.Failed → HasRisen (D.state disk.old).faults (D.state disk.new).faults }
     ensures later { (D.state disk.old).listed ≤ (D.state disk.new).listed }
     ensures at_most_one { (D.state disk.new).listed ≤ (D.state disk.old).listed + open_in level.old.entries }
+    ensures listed_each { IfOk result (λ given. IfSome given (λ entry.
+        below_one entry + waits_of level.new + (D.state disk.old).listed ≤ waits_of level.old + (D.state disk.new).listed)) }
+    ensures waits { waits_of level.new + (D.state disk.old).listed ≤ waits_of level.old + (D.state disk.new).listed }
     ensures none_listed { IfOk result (λ given. IfNone given ((D.state disk.new).listed ≡ (D.state disk.old).listed)) }
     ensures worked { IfOk result (λ given. IfSome given (λ entry. work_of (D.state disk.new) level.new + 5 ≤ work_of (D.state disk.old) level.old)) }
     ensures not_more { OnOk result (work_of (D.state disk.new) level.new ≤ work_of (D.state disk.old) level.old) }

@@ -1,1 +1,3 @@
+-- The lemmas that upper crates need, passed on.
 mod WalkLemmas
+pub use Rattle.walkdir.proofs.collect.RestLemmas

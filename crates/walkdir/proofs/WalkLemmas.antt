@@ -1,5 +1,5 @@
 -- How walks begin and end.
-use Rattle.std.proofs.Common.{rules, ◌≡◌, ◌+◌, ◌∙◌, ℕ, Bool, true, List, [], ◌∷◌, ◌++◌, Option, Some, None, refl, sym, subst, ap, inl, inr, arith}
+use Rattle.std.proofs.Common.{rules, ◌≡◌, ◌+◌, ◌∙◌, ℕ, Bool, true, List, [], ◌∷◌, ◌++◌, Option, Some, None, refl, sym, subst, ap, inl, inr, arith, length}
 use Rattle.std.specs.Prelude.{is_none, map, option_map, reverse}
 use Rattle.sd_edge.specs.Tree.{Tree}
 use Rattle.sd_edge.specs.Disk.{DiskState, OpenList}
@@ -13,9 +13,10 @@ use Rattle.walk_rest.specs.Listing.{IsRootPlan, manner_of}
 use Rattle.walk_rest.specs.Rest.{Rest, start, none}
 use Rattle.walk_rest.specs.Level.{HasPart, HasParts, IsDue, fault_of, item_of, left_in, with_folder}
 use Rattle.walk_steps.specs.declared.inside.Inside.{Inside}
+use Rattle.walk_steps.specs.Causes.{faults_due}
 use Rattle.walk_steps.specs.Inside.{HasRest, IsUnbegun, IsUntaken, KnowsDevice, SameWalk, levels_of, top_levels}
-use Rattle.walk_steps.specs.Listed.{IsToListOnTop}
-use Rattle.walk_steps.specs.Sound.{IsSound, IsFresh, IsReadable, IsShallow, IsTopFresh, AreApartFrom, AreShallow, AreSound, AreRead, StaysWithin, open_in, open_limit, opens}
+use Rattle.walk_steps.specs.Listed.{IsToListOnTop, waits_first, waits_in, waits_kept}
+use Rattle.walk_steps.specs.Sound.{IsSound, IsFresh, IsReadable, IsShallow, IsTopFresh, AreApartFrom, AreShallow, AreSound, AreRead, SameOthers, StaysWithin, open_in, open_limit, opens}
 use Rattle.walk_steps.specs.Steps.{LiesUnread}
 use Rattle.walkdir.specs.Steps.{Begins, GivesNext}
 
@@ -78,6 +79,13 @@ root_part state manner root level plan lies planned = record {
   faults = ap (map fault_of) (sym lies.faultless);
 }
 
+-- lists of others stay over both
+pub others_next : (old mid new : DiskState) (x y z : List Level) → SameOthers old x mid y → SameOthers mid y new z → SameOthers old x new z
+others_next old mid new x y z h k = λ number apart opened.
+    let a = h number apart opened in
+    let b = k number a.1 (opened.0, a.0 ∙ opened.1) in
+    (b.0 ∙ a.0, b.1)
+
 module _ {S : Type 0} where
   -- the levels of a walk of which nothing is on top
   no_levels : (state : DiskState) (sorts : Bool) (inside : Inside S) → IsSound state sorts inside → inside.top ≡ None → levels_of inside ≡ []
@@ -98,6 +106,7 @@ module _ {S : Type 0} where
               is_step = record { mid = rest; moves = none; answers = (over_too, over_too) };
               left = has;
               allowed = inl (omega arith);
+              enters = λ entry given. absurd (cc given);
             }));
         over = λ e. refl;
         ended = over;
@@ -111,7 +120,9 @@ module _ {S : Type 0} where
         counted = λ fits. inl (omega arith);
         absent = λ untold path depth e. absurd (cc e);
         looped = λ path depth ancestor ident e. absurd (cc e);
+        uncapped = λ e. cc e;
         entered = λ level folder top unread of. absurd (cc (gone, top));
+        listed_each = omega arith;
         listed_once = λ unsorted plain few. omega arith;
         listed_whole = λ told by count compares sorted plain counted_on risen named.
             let none : count ≡ 0 = subst (λ (top : Option Level). IsToListOnTop state.tree inside.options.max_depth top count) gone counted_on in
@@ -162,6 +173,19 @@ module _ {S : Type 0} where
   pub begun_opens : (options : Options) (order : S) (root : List ℕ) (inside : Inside S) → Begins options order root inside → opens (levels_of inside) ≡ 0
   begun_opens options order root inside begins =
       ap opens (begun_levels options order root inside begins) ∙ ap (λ (entries : Entries). open_in entries + 0) begins.unread.unread
+
+  pub begun_waits : (options : Options) (order : S) (root : List ℕ) (inside : Inside S) → Begins options order root inside → waits_in (levels_of inside) ≡ 0
+  begun_waits options order root inside begins =
+      let levels = ap waits_in (begun_levels options order root inside begins) in
+      let first = ap waits_first begins.unread.first in
+      let kept = ap (λ (folder : Option Folder). waits_kept folder begins.top.entries) begins.unread.folder_is in
+      omega (arith, levels, first, kept)
+
+  pub begun_due : (options : Options) (order : S) (root : List ℕ) (inside : Inside S) → Begins options order root inside → faults_due (levels_of inside) ≡ 0
+  begun_due options order root inside begins =
+      let levels = ap faults_due (begun_levels options order root inside begins) in
+      let none = ap length begins.unread.faultless in
+      omega (arith, levels, none)
 
   pub begun_rest : (state : DiskState) (sorts : Bool) (by : Comparison) (options : Options) (order : S) (root : List ℕ) (inside : Inside S) (plan : Plan)
       → Begins options order root inside → IsRootPlan state.tree (manner_of state.tree options sorts by root) root plan → HasRest state sorts by inside (start plan)

@@ -1,5 +1,6 @@
 -- Steps one after another, and what collecting them gives.
 use Rattle.std.specs.Prelude.{◌≡◌, ◌+◌, ◌⊎◌, ℕ, nat_lt, List, [], ◌∷◌, map, Some, Ok, Err, if◌then◌else◌}
+use Rattle.sd_edge.specs.declared.meta.Ident.{Ident}
 use Rattle.walk_rest.specs.declared.entry.DirEntry.{DirEntry}
 use Rattle.walk_rest.specs.declared.error.Error.{Error}
 use Rattle.walk_rest.specs.declared.error.Error.TheVariants as error
@@ -41,6 +42,10 @@ pub record GivesAsMany (rest : Rest) (cap : ℕ) : Type 0 where
   pub new : Rest
   pub gives : Gives cuts rest (map entry_item entries) new
   pub many : below_root entries ≡ cap
+
+-- it doesn't tell of a link that leads back
+abbrev pub IsNoLoop : Error → Type 0
+IsNoLoop failed = (path : List ℕ) (depth : ℕ) (ancestor : List ℕ) (ident : Ident) → failed ≡ error.Loop path depth ancestor ident → ⊥
 
 -- why not all entries were collected
 abbrev pub WhyNotAll : Rest → ℕ → Error → Type 0

@@ -1,4 +1,5 @@
 pub mod Steps
+pub mod Calls
 pub mod Filter
 pub mod Collect
 pub mod Examples

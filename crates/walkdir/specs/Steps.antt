@@ -11,9 +11,9 @@ use Rattle.walk_rest.specs.declared.options.Options.{Options}
 use Rattle.walk_rest.specs.Plan.{Comparison, Item, is_directory}
 use Rattle.walk_rest.specs.Rest.{Rest}
 use Rattle.walk_steps.specs.declared.inside.Inside.{Inside}
-use Rattle.walk_steps.specs.Causes.{CountsAbsent, CountsFaults, IsEnteredBy, IsLoopOf, faults_told}
+use Rattle.walk_steps.specs.Causes.{CountsAbsent, CountsFaults, IsEnteredBy, IsLoopOf, faults_due, faults_told}
 use Rattle.walk_steps.specs.Inside.{HasRest, SameWalk, chain_of, levels_of}
-use Rattle.walk_steps.specs.Listed.{GivesAtOnce, IsToListOnTop, entered_in}
+use Rattle.walk_steps.specs.Listed.{GivesAtOnce, GivesListed, IsToListOnTop, entered_in, gives_below, waits_in}
 use Rattle.walk_steps.specs.Sound.{IsSound, SameOthers, StaysWithin, open_limit}
 use Rattle.walk_steps.specs.Steps.{LiesUnread, SkipsTo, StepsTo}
 use Rattle.walk_steps.specs.Work.{left_to_do}
@@ -73,9 +73,13 @@ module _ {S : Type 0} where
     pub counted : (IsTrue tells → (by : Comparison) × (rest : Rest) × ComparesBy by × HasRest old sorts by before rest)
         → CountsFaults (faults_told tells answer) old (levels_of before) new (levels_of now)
     pub absent : CountsAbsent tells old answer new
-    pub looped : IsLoopOf (chain_of now) answer
+    pub looped : IsLoopOf now.options.follow_links (chain_of now) answer
+    -- `TooMany` is no item
+    pub uncapped : answer ≢ Some (Err error.TooMany)
     -- a directory that lies unread on top was entered by this step
     pub entered : IsEnteredBy answer now.top
+    -- each entry below the root was listed before it is given
+    pub listed_each : GivesListed (gives_below answer) old (levels_of before) new (levels_of now)
     -- a walk that doesn't sort lists one entry at most, as long as no more directories are entered than lists may be open
     pub listed_once : sorts ≡ false → GivesAtOnce before.options → entered_in (levels_of before) ≤ open_limit before.options → new.listed ≤ old.listed + 1
     -- one that sorts lists the directory whole that the step before entered, and nothing else
@@ -93,6 +97,9 @@ module _ {S : Type 0} where
     pub within : StaysWithin 0 old (levels_of before) new (levels_of now)
     pub others : SameOthers old (levels_of before) new (levels_of now)
     pub not_more : left_to_do new now ≤ left_to_do old before
+    -- what was due of that directory isn't due any more, and nothing else comes to be due
+    pub waits : waits_in (levels_of now) ≤ waits_in (levels_of before)
+    pub due : faults_due (levels_of now) ≤ faults_due (levels_of before)
     pub listed : new.listed ≡ old.listed
     pub tree : SameTree old new
     pub faults : new.faults ≡ old.faults

@@ -1,12 +1,14 @@
 //! Collecting the entries of a walk.
 
-ghost use Rattle.std.specs.Prelude.{◌≡◌, ◌<◌, ◌≤◌, [], IsTrue, IfOk, IfErr};
+ghost use Rattle.std.specs.Prelude.{◌≡◌, ◌+◌, ◌<◌, ◌≤◌, [], IsTrue, false, Some, Err, IfOk, IfErr, IsErrOf};
 ghost use Rattle.sd_edge.specs.Disk.{SameTree};
 ghost use Rattle.walk_rest.specs.Plan.{Comparison};
 ghost use Rattle.walk_rest.specs.Rest.{Rest};
+ghost use Rattle.walk_steps.specs.Causes.{CountsFaults, FitsTree, faults_told};
 ghost use Rattle.walk_steps.specs.Inside.{HasRest, SameWalk, levels_of};
-ghost use Rattle.walk_steps.specs.Sound.{IsSound, StaysWithin, open_limit};
-ghost use Rattle.walkdir.specs.Collect.{IsAll, WhyNotAll, below_root};
+ghost use Rattle.walk_steps.specs.Listed.{waits_in};
+ghost use Rattle.walk_steps.specs.Sound.{IsSound, SameOthers, StaysWithin, open_limit};
+ghost use Rattle.walkdir.specs.Collect.{IsAll, IsNoLoop, WhyNotAll, below_root};
 
 use sd_edge::Disk;
 use walk_rest::{DirEntry, Error, Order};
@@ -24,8 +26,13 @@ pub(crate) fn collect<D: Disk, S: Order + Drop>(
     ensures all { IsTrue D.tells → (by : Comparison) (rest : Rest) → S.compares_by inside.order by → HasRest (D.state disk.old) (S.sorts inside.order) by inside rest
         → IfOk result (λ entries. IsAll rest entries.items) }
     ensures few { IfOk result (λ entries. below_root entries.items < cap) }
+    ensures capped { IsErrOf result Error.TooMany → cap + (D.state disk.old).listed ≤ waits_in (levels_of inside) + (D.state disk.new).listed }
     ensures failed { IsTrue D.tells → (by : Comparison) (rest : Rest) → S.compares_by inside.order by → HasRest (D.state disk.old) (S.sorts inside.order) by inside rest
         → IfErr result (WhyNotAll rest cap) }
+    ensures unlooped { inside.options.follow_links ≡ false → IfErr result IsNoLoop }
+    ensures counted { FitsTree D.tells S.compares_by (D.state disk.old) (S.sorts inside.order) inside
+        → IfErr result (λ failed. CountsFaults (faults_told D.tells (Some (Err failed))) (D.state disk.old) (levels_of inside) (D.state disk.new) []) }
+    ensures others { SameOthers (D.state disk.old) (levels_of inside) (D.state disk.new) [] }
     ensures closed { StaysWithin (open_limit inside.options) (D.state disk.old) (levels_of inside) (D.state disk.new) [] }
     ensures tree { SameTree (D.state disk.old) (D.state disk.new) }
     ensures faults { (D.state disk.old).faults ≤ (D.state disk.new).faults }
@@ -48,8 +55,13 @@ fn collect_from<D: Disk, S: Order>(
     ensures all { IsTrue D.tells → (by : Comparison) (rest : Rest) → S.compares_by inside.old.order by
         → HasRest (D.state disk.old) (S.sorts inside.old.order) by inside.old rest → IfOk result (λ entries. IsAll rest entries.items) }
     ensures few { IfOk result (λ entries. below_root entries.items < cap) }
+    ensures capped { IsErrOf result Error.TooMany → cap + (D.state disk.old).listed ≤ waits_in (levels_of inside.old) + (D.state disk.new).listed }
     ensures failed { IsTrue D.tells → (by : Comparison) (rest : Rest) → S.compares_by inside.old.order by
         → HasRest (D.state disk.old) (S.sorts inside.old.order) by inside.old rest → IfErr result (WhyNotAll rest cap) }
+    ensures unlooped { inside.old.options.follow_links ≡ false → IfErr result IsNoLoop }
+    ensures counted { FitsTree D.tells S.compares_by (D.state disk.old) (S.sorts inside.old.order) inside.old → IfErr result (λ failed.
+        CountsFaults (faults_told D.tells (Some (Err failed))) (D.state disk.old) (levels_of inside.old) (D.state disk.new) (levels_of inside.new)) }
+    ensures others { SameOthers (D.state disk.old) (levels_of inside.old) (D.state disk.new) (levels_of inside.new) }
     ensures sound { IsSound (D.state disk.new) (S.sorts inside.new.order) inside.new }
     ensures same { SameWalk inside.old inside.new }
     ensures within { StaysWithin (open_limit inside.old.options) (D.state disk.old) (levels_of inside.old) (D.state disk.new) (levels_of inside.new) }

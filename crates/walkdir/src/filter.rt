@@ -26,7 +26,7 @@ impl<W: Walk + Drop, P: Fn(&DirEntry) -> bool + Drop> FilterEntry<W, P> {
         FilterEntry { walk, predicate }
     }
 
-    /// The walk that it stands on, with the predicate given up.
+    /// The walk that it stands on, with the predicate given up. That walk's own `close` says what it leaves of the disk.
     pub fn into_walk(self) -> W
         ensures { result ≡ self.walk }
     {

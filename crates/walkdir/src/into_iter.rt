@@ -1,16 +1,18 @@
 //! A walk over a disk.
 
-ghost use Rattle.std.specs.Prelude.{◌≡◌, ◌<◌, ◌≤◌, ◌&&◌, [], Bool, false, IsTrue, IfOk, IfErr, OnSome};
+ghost use Rattle.std.specs.Prelude.{◌≡◌, ◌+◌, ◌<◌, ◌≤◌, ◌&&◌, [], Bool, false, IsTrue, Some, Err, IfOk, IfErr, IsErrOf, OnSome};
 ghost use Rattle.std.specs.Iterator.{at_most};
 ghost use Rattle.sd_edge.specs.Disk.{SameLists, SameTree};
 ghost use Rattle.sd_edge.specs.Files.{Describes};
 ghost use Rattle.walk_rest.specs.Errors.{IsRefusedFor};
 ghost use Rattle.walk_rest.specs.Plan.{Comparison};
 ghost use Rattle.walk_rest.specs.Rest.{Rest};
+ghost use Rattle.walk_steps.specs.Causes.{CountsFaults, FitsTree, faults_told};
 ghost use Rattle.walk_steps.specs.Inside.{HasRest, levels_of};
-ghost use Rattle.walk_steps.specs.Sound.{AreSound, IsSound, StaysWithin, open_limit};
+ghost use Rattle.walk_steps.specs.Listed.{waits_in};
+ghost use Rattle.walk_steps.specs.Sound.{AreSound, IsSound, SameOthers, StaysWithin, open_limit};
 ghost use Rattle.walk_steps.specs.Work.{left_to_do};
-ghost use Rattle.walkdir.specs.Collect.{IsAll, WhyNotAll, below_root};
+ghost use Rattle.walkdir.specs.Collect.{IsAll, IsNoLoop, WhyNotAll, below_root};
 ghost use Rattle.walkdir.specs.Steps.{ClosesAll, GivesNext, SkipsTop, is_directory_item, lies_unread, still_compares, still_sound};
 
 use crate::collect::collect;
@@ -117,8 +119,14 @@ impl<'d, D: Disk, S: Order + Drop> IntoIter<'d, D, S, Inside<S>> {
         ensures all { IsTrue D.tells → (by : Comparison) (rest : Rest) → S.compares_by self.entry.inside.order by
             → HasRest (D.state self.entry.disk.now) (S.sorts self.entry.inside.order) by self.entry.inside rest → IfOk result (λ entries. IsAll rest entries.items) }
         ensures few { IfOk result (λ entries. below_root entries.items < cap) }
+        ensures capped { IsErrOf result Error.TooMany → cap + (D.state self.entry.disk.now).listed
+            ≤ waits_in (levels_of self.entry.inside) + (D.state self.exit.0.now).listed }
         ensures failed { IsTrue D.tells → (by : Comparison) (rest : Rest) → S.compares_by self.entry.inside.order by
             → HasRest (D.state self.entry.disk.now) (S.sorts self.entry.inside.order) by self.entry.inside rest → IfErr result (WhyNotAll rest cap) }
+        ensures unlooped { self.entry.inside.options.follow_links ≡ false → IfErr result IsNoLoop }
+        ensures counted { FitsTree D.tells S.compares_by (D.state self.entry.disk.now) (S.sorts self.entry.inside.order) self.entry.inside → IfErr result (λ failed.
+            CountsFaults (faults_told D.tells (Some (Err failed))) (D.state self.entry.disk.now) (levels_of self.entry.inside) (D.state self.exit.0.now) []) }
+        ensures others { SameOthers (D.state self.entry.disk.now) (levels_of self.entry.inside) (D.state self.exit.0.now) [] }
         ensures closed { StaysWithin (open_limit self.entry.inside.options) (D.state self.entry.disk.now) (levels_of self.entry.inside) (D.state self.exit.0.now) [] }
         ensures tree { SameTree (D.state self.entry.disk.now) (D.state self.exit.0.now) }
         ensures faults { (D.state self.entry.disk.now).faults ≤ (D.state self.exit.0.now).faults }

@@ -5,6 +5,7 @@ mod collect;
 mod examples;
 mod filter;
 mod into_iter;
+mod laws;
 mod walk;
 mod walk_dir;
 
@@ -14,6 +15,7 @@ pub use examples::{
 };
 pub use filter::FilterEntry;
 pub use into_iter::IntoIter;
+pub use laws::{an_entered_directory_lies_unread, entries_were_listed, failures_were_counted};
 pub use walk::Walk;
 pub use walk_dir::WalkDir;
 pub use walk_rest::{

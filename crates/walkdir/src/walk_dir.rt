@@ -4,7 +4,9 @@ ghost use Rattle.std.specs.Prelude.{◌≡◌, false, min, max, IfOk};
 ghost use Rattle.walk_rest.specs.Plan.{Comparison, Plan};
 ghost use Rattle.walk_rest.specs.Listing.{IsRootPlan, first_options, manner_of};
 ghost use Rattle.walk_rest.specs.Rest.{start};
+ghost use Rattle.walk_steps.specs.Causes.{faults_due};
 ghost use Rattle.walk_steps.specs.Inside.{HasRest, levels_of};
+ghost use Rattle.walk_steps.specs.Listed.{waits_in};
 ghost use Rattle.walk_steps.specs.Sound.{IsSound, opens};
 ghost use Rattle.walkdir.specs.Steps.{Begins};
 
@@ -158,6 +160,8 @@ impl<S> WalkDir<S> {
             → HasRest (D.state disk.old) (S.sorts self.order) by result.inside (start plan) }
         ensures sound { IsSound (D.state disk.old) (S.sorts self.order) result.inside }
         ensures none_open { opens (levels_of result.inside) ≡ 0 }
+        ensures none_waits { waits_in (levels_of result.inside) ≡ 0 }
+        ensures none_due { faults_due (levels_of result.inside) ≡ 0 }
         ensures not_entered { result.gave_directory ≡ false }
     {
         IntoIter::new(disk, self.begun())

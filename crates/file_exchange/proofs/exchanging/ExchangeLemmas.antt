@@ -151,6 +151,10 @@ module _ (s0 s1 : DiskState) (path text bytes : List ℕ) (is : IsTree s0.tree) 
     others_left o (inl same) q n = ap (λ (t : Tree). node_at t q) same.tree ∙ others_kept s2.tree o q n
     others_left o (inr r) q n = r.others q (λ e. n (e ∙ removed_there r)) ∙ others_kept s2.tree o q n
 
+    -- the file is old where it wasn't moved
+    pub left_old : ChangesOnly text s1.tree s2.tree → SameTree s2 s3 ⊎ Removes s2 text s3 → node_at s3.tree (parts_of path) ≡ node_at s0.tree (parts_of path)
+    left_old o outcome = others_left o outcome (parts_of path) (λ e. apart (sym e))
+
     -- the file is old or new
     pub left : MayHaveMoved s1 text path bytes s2 → SameTree s2 s3 ⊎ Removes s2 text s3 → LeavesBytes s0.tree (parts_of path) bytes s3.tree
     left (inl o) outcome = leaves_old s3.tree (others_left o outcome)

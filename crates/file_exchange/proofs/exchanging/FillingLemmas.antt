@@ -199,18 +199,18 @@ module _ (s0 : DiskState) (from to bytes : List ℕ) (two : IsReady s0 from to) 
   still_file s t at (inr (b, w)) = subst (λ (q : NameList). IsSome (file_at t.tree q)) (wrote_there s t from b two.source at w) (ap is_some w.holds)
 
   -- the write was refused
-  pub write_refused : (t : DiskState) → Wrote s0 from t → FillLeaves s0 from to bytes t × MayHaveMoved s0 from to bytes t
+  pub write_refused : (t : DiskState) → Wrote s0 from t → FillLeaves s0 from to bytes t × ChangesOnly from s0.tree t.tree
   write_refused t h = (
     leaving t (wrote_since s0 t at_source h) (wrote_settled s0 t at_source h),
-    inl (record { place = two.source; names = two.leaves; is_file = still_file s0 t at_source h; others = wrote_others s0 t at_source h }),
+    record { place = two.source; names = two.leaves; is_file = still_file s0 t at_source h; others = wrote_others s0 t at_source h },
   )
 
   -- the sync was
-  pub sync_refused : (s t : DiskState) → IsUnsettled s → Wrote s from t → FillLeaves s0 from to bytes t × MayHaveMoved s0 from to bytes t
+  pub sync_refused : (s t : DiskState) → IsUnsettled s → Wrote s from t → FillLeaves s0 from to bytes t × ChangesOnly from s0.tree t.tree
   sync_refused s t f h =
       let at = f.filled.leaves in (
         leaving t (since_then New Loose s0 s t f.filled.since (wrote_since s t at h)) (settled_then two.source s0 s t f.filled.settled (wrote_settled s t at h)),
-        inl (record { place = two.source; names = two.leaves; is_file = still_file s t at h; others = λ q n. wrote_others s t at h q n ∙ f.filled.others q n }),
+        record { place = two.source; names = two.leaves; is_file = still_file s t at h; others = λ q n. wrote_others s t at h q n ∙ f.filled.others q n },
       )
 
   -- ---- nothing hinders it

@@ -7,7 +7,7 @@ use Rattle.grep_matcher.specs.Groups.{HasFirst, captured, group_at}
 use Rattle.grep_matcher.specs.Span.{Span}
 use Rattle.hir_tree.specs.Groups.{ends_of}
 use Rattle.hir_tree.specs.Tree.{Tree}
-use Rattle.hir_core.specs.Found.{IsFound, span_of}
+use Rattle.hir_core.specs.Found.{IsFound, IsOfLeast, span_of, whole_span}
 use Rattle.grep_regex.specs.Matching.{IsWhole, MatchesAreWhole, end_at, match_at, spans_of, spans_at}
 use Rattle.grep_regex.specs.MatchingLemmas.{group-span, span}
 use Rattle.grep_regex.specs.NonMatching.{whole_end}
@@ -75,3 +75,34 @@ module _ (tree : Tree) (whole : MatchesAreWhole tree) (text : List ℕ) (at : �
       subst (IsFirst (prefers (end_at tree text)) at (length text)) (sym first.whole_is) first.first
   match-found false slots found =
       subst (IsFirst (prefers (end_at tree text)) at (length text)) (sym (unset-first slots found.1)) (none-found slots found)
+
+  -- a match ends where its whole span does
+  ends_as : (match : Option (List (Option (ℕ × ℕ)))) → option_and_then whole_end match ≡ option_map (λ s. s.end) (whole_span match)
+  ends_as None = refl
+  ends_as (Some groups) = cases (ends_of groups 0)
+    where
+      cases : (ends : Option (ℕ × ℕ)) → option_map (λ e. e.1) ends ≡ option_map (λ s. s.end) (span_of ends)
+      cases None = refl
+      cases (Some ends) = refl
+
+  -- and begins where that begins
+  starts_as : (place : ℕ) (found : Span) (match : Option (List (Option (ℕ × ℕ)))) → IfSome match (IsWhole text place) → whole_span match ≡ Some found
+      → found.start ≡ place
+  starts_as place found None whole is = absurd (none-some found is)
+  starts_as place found (Some groups) whole is =
+      let ends = from-start (ends_of groups 0) place whole.0 in
+      ap (λ (s : Span). s.start) (sym (same_Some _ found (sym (ap span_of ends.1) ∙ is)))
+
+  -- what `find_at` says of a pattern that is one text: the least whole span is the first match
+  pub span-found : (found : Option Span) → IsOfLeast (λ place. whole_span (each place)) at (length text) found
+      → IsFirst (prefers (end_at tree text)) at (length text) found
+  span-found None least =
+      λ place end from before is. none-some end (sym (ends_as (each place) ∙ ap (option_map (λ s. s.end)) (least place from (omega arith))) ∙ is)
+  span-found (Some found) (place, low, high, here, before) =
+      let starts : found.start ≡ place = starts_as place found (each place) (whole text place high) here in (
+        omega (arith, starts),
+        omega (arith, starts),
+        ap (end_at tree text) starts ∙ ends_as (each place) ∙ ap (option_map (λ s. s.end)) here,
+        (λ earlier end from upto is.
+            none-some end (sym (ends_as (each earlier) ∙ ap (option_map (λ s. s.end)) (before earlier from (omega (arith, starts)))) ∙ is)),
+      )

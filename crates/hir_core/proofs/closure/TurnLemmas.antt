@@ -34,13 +34,13 @@ led_to text _ t = []
 abbrev pub bare : Entry → Stop
 bare e = (e.spot, way e.way.starts (forget e.way.run))
 
-cons_not_nil : {A : Type 0} (x : A) (xs : List A) → x ∷ xs ≡ [] → ⊥
+pub cons_not_nil : {A : Type 0} (x : A) (xs : List A) → x ∷ xs ≡ [] → ⊥
 cons_not_nil x xs e = cc
 
-cons_head : {A : Type 0} {x y : A} {xs ys : List A} → x ∷ xs ≡ y ∷ ys → x ≡ y
+pub cons_head : {A : Type 0} {x y : A} {xs ys : List A} → x ∷ xs ≡ y ∷ ys → x ≡ y
 cons_head e = cc
 
-cons_tail : {A : Type 0} {x y : A} {xs ys : List A} → x ∷ xs ≡ y ∷ ys → xs ≡ ys
+pub cons_tail : {A : Type 0} {x y : A} {xs ys : List A} → x ∷ xs ≡ y ∷ ys → xs ≡ ys
 cons_tail e = cc
 
 -- these bits are of these spots
@@ -86,7 +86,7 @@ some_run-nonempty [] = refl
 some_run-nonempty (r ∷ runs) = refl
 
 -- a spot that was visited stays so
-visited_again : (bits : List Bool) (q : ℕ) → was_visited bits q ≡ true → slice_set bits q true ≡ bits
+pub visited_again : (bits : List Bool) (q : ℕ) → was_visited bits q ≡ true → slice_set bits q true ≡ bits
 visited_again bits q e = ap (λ b. slice_set bits q b) (sym e) ∙ set-get_or bits q false
 
 AreBits-more : (bits : List Bool) (visited : List ℕ) (q : ℕ) → q < length bits → AreBits bits visited → AreBits (slice_set bits q true) (q ∷ visited)
@@ -106,7 +106,7 @@ module _ (text : List ℕ) (spots : List Spot) (falls : ClosesFall spots) (at : 
     pub stands : Stands text spots falls at goal visited (flat_map (stop_gives text spots) kept) (entries ++ nowhere text spots falls at ∷ [])
 
   -- the spot of an entry leads where it says, once what its path saw is left out
-  led_bare : (s : Spot) (e : Entry) → map bare (led_to text s (marked e.spot e.way)) ≡ leads text s (bare e).1
+  pub led_bare : (s : Spot) (e : Entry) → map bare (led_to text s (marked e.spot e.way)) ≡ leads text s (bare e).1
   led_bare (spot.Look l f) e = cases (holds l text e.way.run.at)
     where
       cases : (b : Bool) → map bare (if b then entry f (marked e.spot e.way) ∷ [] else []) ≡ (if b then (f, (bare e).1) ∷ [] else [])
@@ -121,7 +121,7 @@ module _ (text : List ℕ) (spots : List Spot) (falls : ClosesFall spots) (at : 
   led_bare spot.Fail e = refl
   led_bare spot.Match e = refl
 
-  led_children : (s : Spot) (e : Entry) → e.way.run.at ≡ at → Children text spots falls at e (led_to text s (marked e.spot e.way))
+  pub led_children : (s : Spot) (e : Entry) → e.way.run.at ≡ at → Children text spots falls at e (led_to text s (marked e.spot e.way))
   led_children (spot.Look l f) e here = cases (holds l text e.way.run.at)
     where
       cases : (b : Bool) → AllByRecursion (λ (x : Entry). (x.way.run.at ≡ at) × (x.way.run.seen ≡ e.spot ∷ e.way.run.seen)) (if b then entry f (marked e.spot e.way) ∷ [] else [])
@@ -137,7 +137,7 @@ module _ (text : List ℕ) (spots : List Spot) (falls : ClosesFall spots) (at : 
   led_children spot.Match e here = tt
 
   -- what is kept at a spot gives what follows its bytes, and what comes of it the rest
-  taken_gives : (o : Option ℕ) (f q : ℕ) (w : Way)
+  pub taken_gives : (o : Option ℕ) (f q : ℕ) (w : Way)
       → flat_map (λ r. gives text spots f (way w.starts r)) (as_list (option_map (λ k. moved k (mark q w.run)) o))
       ≡ flat_map (stop_gives text spots) (taken o f (way w.starts (forget w.run)))
   taken_gives None f q w = refl
@@ -203,7 +203,7 @@ module _ (text : List ℕ) (spots : List Spot) (falls : ClosesFall spots) (at : 
       cases spot.Fail k plain = onward spot.Fail k plain refl refl
       cases spot.Match k plain = absurd (true≢false plain)
 
-  gives_fail : (e : Entry) → spot_at spots e.spot ≡ spot.Fail → gives text spots e.spot e.way ≡ []
+  pub gives_fail : (e : Entry) → spot_at spots e.spot ≡ spot.Fail → gives text spots e.spot e.way ≡ []
   gives_fail e k = gives-at text spots falls e.spot spot.Fail e.way k ∙ both (is_seen e.spot e.way.run.seen)
     where
       both : (b : Bool) → cond b [] (follow text spots (gives text spots) spot.Fail (marked e.spot e.way)) ≡ []
@@ -353,7 +353,7 @@ module _ (text : List ℕ) (spots : List Spot) where
   abbrev pub turn_weight : List Bool → List Stop → ℕ
   turn_weight bits stack = unset_bits bits * (2 * (length spots + 2)) + stack_weight stack
 
-  tie_within : (q : ℕ) → tie (spot_at spots q) q ≤ length spots
+  pub tie_within : (q : ℕ) → tie (spot_at spots q) q ≤ length spots
   tie_within q = cases (spot_at spots q) refl
     where
       cases : (s : Spot) → spot_at spots q ≡ s → tie s q ≤ length spots
@@ -361,7 +361,7 @@ module _ (text : List ℕ) (spots : List Spot) where
       cases _ e = omega arith
 
   -- a spot leads to two others at most
-  leads_weight : (s : Spot) (w : Way) (rest : List Stop) → stack_weight (leads text s w ++ rest) ≤ 2 * (length spots + 1) + stack_weight rest
+  pub leads_weight : (s : Spot) (w : Way) (rest : List Stop) → stack_weight (leads text s w ++ rest) ≤ 2 * (length spots + 1) + stack_weight rest
   leads_weight (spot.Look l f) w rest = cases (holds l text w.run.at)
     where
       cases : (b : Bool) → stack_weight ((if b then (f, w) ∷ [] else []) ++ rest) ≤ 2 * (length spots + 1) + stack_weight rest
@@ -372,10 +372,10 @@ module _ (text : List ℕ) (spots : List Spot) where
   leads_weight (spot.Open f) w rest = omega (arith, tie_within f)
   leads_weight _ w rest = omega arith
 
-  less_bits : (u v n a b : ℕ) → u + 1 ≡ v → a ≤ 2 * (n + 1) + b → u * (2 * (n + 2)) + a < v * (2 * (n + 2)) + (1 + b)
+  pub less_bits : (u v n a b : ℕ) → u + 1 ≡ v → a ≤ 2 * (n + 1) + b → u * (2 * (n + 2)) + a < v * (2 * (n + 2)) + (1 + b)
   less_bits u v n a b e h = rw (sym e) (omega arith)
 
-  same_bits : (u v k a b : ℕ) → u ≡ v → a < b → u * k + a < v * k + b
+  pub same_bits : (u v k a b : ℕ) → u ≡ v → a < b → u * k + a < v * k + b
   same_bits u v k a b e h = rw e (omega arith)
 
   turn_falls : ClosesFall spots → (bits : List Bool) (rest : List Stop) (q : ℕ) (w : Way) → length bits ≡ length spots
@@ -451,7 +451,7 @@ module _ (text : List ℕ) where
   leads_on_later spot.Fail w = tt
   leads_on_later spot.Match w = tt
 
-  keeps_later : (s : Spot) (seen : Bool) (w : Way) → AllLater text w.run.at (keeps text s seen w)
+  pub keeps_later : (s : Spot) (seen : Bool) (w : Way) → AllLater text w.run.at (keeps text s seen w)
   keeps_later s true w = tt
   keeps_later s false w = leads_on_later s w
 

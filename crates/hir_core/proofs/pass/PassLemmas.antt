@@ -30,7 +30,7 @@ or_up true a' b h k = or_left _ _ (h refl)
 or_up false a' b h k = or_right _ _ k
 
 module _ (text : List ℕ) (spots : List Spot) (falls : ClosesFall spots) (at : ℕ) where
-  Covers-above : (visited : List ℕ) (es : List Entry) (done more : Bool) (above below : List ℕ) → (done ≡ true → more ≡ true) → Subset above below
+  pub Covers-above : (visited : List ℕ) (es : List Entry) (done more : Bool) (above below : List ℕ) → (done ≡ true → more ≡ true) → Subset above below
       → Covers text spots falls at visited done above es → Covers text spots falls at visited more below es
   Covers-above visited [] done more above below up wide c = tt
   Covers-above visited (e ∷ es) done more above below up wide c = (
@@ -71,7 +71,7 @@ module _ (text : List ℕ) (spots : List Spot) (falls : ClosesFall spots) (at : 
       cases (inr nothing) = Stands-dropped goal visited kept e es nothing h
 
   -- what an entry gives that was not visited
-  gives_fresh : (visited : List ℕ) (done : Bool) (e : Entry) (es : List Entry) (s : Spot) → spot_at spots e.spot ≡ s → is_unmarked s ≡ false
+  pub gives_fresh : (visited : List ℕ) (done : Bool) (e : Entry) (es : List Entry) (s : Spot) → spot_at spots e.spot ≡ s → is_unmarked s ≡ false
       → is_seen e.spot visited ≡ false → Covers text spots falls at visited done visited (e ∷ es)
       → gives text spots e.spot e.way ≡ follow text spots (gives text spots) s (marked e.spot e.way)
   gives_fresh visited done e es s k plain new c =

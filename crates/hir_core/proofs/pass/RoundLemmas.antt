@@ -12,18 +12,18 @@ use Rattle.hir_tree.proofs.ListLemmas.{All-weaker}
 use Rattle.hir_core.proofs.pass.PassLemmas.{first_of_two}
 
 -- what comes after doesn't matter to two lists of which the first runs are the same
-first_then : (xs ys zs : List Run) → first_of xs ≡ first_of ys → first_of (xs ++ zs) ≡ first_of (ys ++ zs)
+pub first_then : (xs ys zs : List Run) → first_of xs ≡ first_of ys → first_of (xs ++ zs) ≡ first_of (ys ++ zs)
 first_then xs ys zs e = first_of_two xs zs ∙ ap (λ r. option_or r (first_of zs)) e ∙ sym (first_of_two ys zs)
 
-or_else_some : (x y : Option Run) (r : Run) → option_or (option_or x (Some r)) y ≡ option_or x (Some r)
+pub or_else_some : (x y : Option Run) (r : Run) → option_or (option_or x (Some r)) y ≡ option_or x (Some r)
 or_else_some None y r = refl
 or_else_some (Some x) y r = refl
 
-or_assoc₂ : (x y z : Option Run) → option_or x (option_or y z) ≡ option_or (option_or x y) z
+pub or_assoc₂ : (x y z : Option Run) → option_or x (option_or y z) ≡ option_or (option_or x y) z
 or_assoc₂ None y z = refl
 or_assoc₂ (Some x) y z = refl
 
-or_assoc : (x y z w : Option Run) → option_or x (option_or (option_or y z) w) ≡ option_or (option_or x y) (option_or z w)
+pub or_assoc : (x y z w : Option Run) → option_or x (option_or (option_or y z) w) ≡ option_or (option_or x y) (option_or z w)
 or_assoc None None z w = refl
 or_assoc None (Some y) z w = refl
 or_assoc (Some x) y z w = refl
@@ -138,7 +138,7 @@ module _ (text : List ℕ) (spots : List Spot) (at : ℕ) where
           or_assoc (first_of kept) found (Some b) (first_from text spots groups (length text + 1 - (at + 1)) (at + 1))
           ∙ ap (λ r. option_or r (option_or (Some b) (first_from text spots groups (length text + 1 - (at + 1)) (at + 1)))) (e ∙ ap first_of (append-nil runs))
 
-or_none : (x : Option Run) → option_or x None ≡ x
+pub or_none : (x : Option Run) → option_or x None ≡ x
 or_none None = refl
 or_none (Some x) = refl
 

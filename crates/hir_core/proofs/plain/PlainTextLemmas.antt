@@ -1,5 +1,5 @@
 -- Where a text is found.
-use Rattle.std.proofs.Common.{◌≡◌, ℕ, zero, suc, ◌+◌, ◌-◌, ◌<◌, ◌≤◌, Bool, true, false, cond, eqb, List, [], ◌∷◌, ◌++◌, length, map, take, drop, replicate, get_or, Option, Some, None, refl, sym, ap, ap₂, ◌∙◌, add-one, append_assoc, length-drop, take_all, drop-cons, drop-drop, arith}
+use Rattle.std.proofs.Common.{◌≡◌, ℕ, zero, suc, ◌+◌, ◌-◌, ◌<◌, ◌≤◌, Bool, true, false, cond, eqb, List, [], ◌∷◌, ◌++◌, length, map, take, drop, replicate, get_or, Option, Some, None, refl, sym, ap, ap₂, ◌∙◌, subst, add-one, append_assoc, length-drop, take_all, drop-cons, drop-drop, arith}
 use Rattle.std.specs.Prelude.{slice_get, slice_set, option_map}
 use Rattle.std.specs.List.{starts_with}
 use Rattle.std.proofs.lemmas.Bool.Decides.{Decides-eqb}
@@ -12,7 +12,7 @@ use Rattle.grep_matcher.specs.PlainLemmas.{text_fits}
 use Rattle.grep_matcher.specs.Span.{Span}
 use Rattle.hir_tree.specs.PlainText.{joined, joined_all, text_of, stands_at, text_groups, text_found}
 use Rattle.hir_tree.specs.declared.hir.Hir.{Hir}
-use Rattle.hir_core.specs.Found.{IsOfLeast, span_of, place_found}
+use Rattle.hir_core.specs.Found.{IsOfLeast, span_of, place_found, span_found}
 
 -- the text of the parts from one on is that of the part, and of the parts after it
 pub texts_from : (parts : List Hir) (i : ℕ) (d : Hir) → i < length parts
@@ -132,3 +132,38 @@ whole-spans bytes shown n start slots some same set =
     set
     ∙ ap₂ (λ (m : ℕ) (b : List ℕ). whole m start b) (sym all) same
     ∙ sym (map-set span_of (replicate (n - 1 + 1) None) 0 (Some (start, start + length bytes)) ∙ ap (λ spans. slice_set spans 0 (Some (record { start = start; end = start + length bytes }))) (unset-spans (n - 1 + 1)))
+
+-- the span of the bytes from a place
+abbrev span_from : List ℕ → ℕ → Span
+span_from bytes start = record { start = start; end = start + length bytes }
+
+spans_found : (bytes text : List ℕ) (at : ℕ) → span_found bytes text at ≡ option_map (span_from bytes) (place_found bytes text at)
+spans_found bytes text at = cases (stands_at bytes text at)
+  where
+    cases : (b : Bool) → cond b (Some (span_from bytes at)) None ≡ option_map (span_from bytes) (cond b (Some at) None)
+    cases true = refl
+    cases false = refl
+
+-- the least place gives the span of the least place
+pub span-least : (bytes text : List ℕ) (from to : ℕ) (r : Option ℕ) → IsOfLeast (place_found bytes text) from to r
+    → IsOfLeast (span_found bytes text) from to (option_map (span_from bytes) r)
+span-least bytes text from to None h = λ at low high. spans_found bytes text at ∙ ap (option_map (span_from bytes)) (h at low high)
+span-least bytes text from to (Some start) (least, low, high, here, before) = (
+  least,
+  low,
+  high,
+  spans_found bytes text least ∙ ap (option_map (span_from bytes)) here,
+  (λ at l h. spans_found bytes text at ∙ ap (option_map (span_from bytes)) (before at l h)),
+)
+
+-- the same where the bytes are shown by another name
+pub span-least_shown : (bytes shown text : List ℕ) (from to start : ℕ) (span : Span) → shown ≡ bytes → span.start ≡ start → span.end ≡ start + length shown
+    → IsOfLeast (place_found bytes text) from to (Some start) → IsOfLeast (span_found bytes text) from to (Some span)
+span-least_shown bytes shown text from to start span same starts ends h =
+    subst (λ (s : Span). IsOfLeast (span_found bytes text) from to (Some s)) (sym is) (span-least bytes text from to (Some start) h)
+  where
+    stops : span.end ≡ start + length bytes
+    stops = ends ∙ ap (λ (bs : List ℕ). start + length bs) same
+
+    is : span ≡ span_from bytes start
+    is = λ i. record { start = starts i; end = stops i }

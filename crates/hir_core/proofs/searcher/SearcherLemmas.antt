@@ -1,14 +1,14 @@
 -- From the first run of the least place to what a searcher finds.
-use Rattle.std.proofs.Common.{◌≡◌, ℕ, zero, suc, ◌+◌, ◌-◌, ◌≤◌, Bool, true, false, inl, inr, List, [], ◌∷◌, length, Option, Some, None, true≢false, refl, sym, ap, ◌∙◌, subst, arith}
-use Rattle.std.specs.Prelude.{option_map}
+use Rattle.std.proofs.Common.{◌≡◌, ℕ, zero, suc, ◌+◌, ◌-◌, ◌≤◌, Bool, true, false, inl, inr, List, [], ◌∷◌, length, Option, Some, None, true≢false, cond, refl, sym, ap, ◌∙◌, subst, add-one, arith}
+use Rattle.std.specs.Prelude.{option_map, replicate, slice_set}
 use Rattle.std.specs.Option.{is_some, option_or}
 use Rattle.std.proofs.lemmas.Bool.{cases_lt, false≢true}
-use Rattle.hir_core.specs.Found.{IsOfLeast, IsFound}
+use Rattle.hir_core.specs.Found.{IsOfLeast, IsFound, span_found, whole_span}
 use Rattle.hir_tree.specs.Cores.{core_of}
 use Rattle.hir_tree.specs.Spots.{groups_of}
 use Rattle.hir_tree.specs.Tree.{tree_of}
 use Rattle.hir_core.specs.Compiled.{IsCompiled}
-use Rattle.hir_tree.specs.PlainText.{text_of, text_found}
+use Rattle.hir_tree.specs.PlainText.{text_of, text_found, text_groups, stands_at}
 use Rattle.hir_tree.specs.Runs.{Run, first, preferred}
 use Rattle.hir_core.specs.Pass.{first_of, begins, groups_found, first_from, best_in}
 use Rattle.grep_matcher.specs.Span.{Span}
@@ -109,6 +109,26 @@ found-same : (each other : ℕ → Option (List (Option (ℕ × ℕ)))) (from to
     → IsFound each from to found slots → IsFound other from to found slots
 found-same each other from to same true slots h = (h.0, least-same each other from to same (Some h.0) h.1, h.2)
 found-same each other from to same false slots h = (least-same each other from to same None h.0, h.1)
+
+-- the whole match of a text, where it stands, is the text
+text-whole : (needle : List ℕ) (n : ℕ) (text : List ℕ) (at : ℕ) → whole_span (text_found needle n text at) ≡ span_found needle text at
+text-whole needle n text at = cases (stands_at needle text at)
+  where
+    first_is : whole_span (Some (text_groups needle n at)) ≡ Some (record { start = at; end = at + length needle })
+    first_is = ap (λ m. whole_span (Some (slice_set (replicate m None) 0 (Some (at, at + length needle))))) (add-one n)
+
+    cases : (b : Bool) → whole_span (cond b (Some (text_groups needle n at)) None) ≡ cond b (Some (record { start = at; end = at + length needle })) None
+    cases true = first_is
+    cases false = refl
+
+-- where a text stands, is the whole match of a pattern that is that text
+pub span-by_text : (hir pattern : Hir) → hir ≡ pattern → (needle : List ℕ) → text_of hir ≡ Some needle → (text : List ℕ) (at : ℕ) (found : Option Span)
+    → IsOfLeast (span_found needle text) at (length text) found
+    → IsOfLeast (λ place. whole_span (preferred (core_of pattern) (groups_of pattern) text place)) at (length text) found
+span-by_text hir pattern same needle is text at found =
+    least-same (span_found needle text) (λ place. whole_span (preferred (core_of pattern) (groups_of pattern) text place)) at (length text)
+    (λ p within. sym (text-whole needle (groups_of pattern) text p)
+    ∙ sym (ap whole_span (preferred-text (tree_of pattern) needle (ap text_of (sym same) ∙ is) (groups_of pattern) text p))) found
 
 -- a pattern that was compiled
 module _ (hir : Hir) (groups : ℕ) (spots : List Spot) (scan : Option Scan) (bytes : Option (List ℕ)) (compiled : IsCompiled hir groups spots scan bytes)

@@ -12,10 +12,12 @@ use Rattle.sd_edge.specs.Files.{Describes, kind_of, len_of, path_text}
 use Rattle.sd_edge.specs.declared.meta.Kind.TheVariants as kind
 use Rattle.sd_edge.specs.declared.meta.Meta.{Meta}
 use Rattle.sd_edge.proofs.PathTextLemmas.{directory_stands, differs, text_below, text_not_followed, text_top}
+use Rattle.chosen_files.proofs.ContentLemmas.{nonempty_content, content_nonempty}
 use Rattle.sd_core.specs.declared.listing.Pending.{Pending}
-use Rattle.sd_core.specs.Chosen.{IsChosen}
-use Rattle.sd_core.specs.Globs.{FitsAny}
-use Rattle.sd_core.specs.Walk.{child_text, IsFolderAt, IsPendingAt, IsWithin}
+use Rattle.chosen_files.specs.Chosen.{IsChosen}
+use Rattle.chosen_files.specs.Globs.{FitsAny}
+use Rattle.sd_core.specs.Walk.{child_text, IsFolderAt, IsPendingAt}
+use Rattle.chosen_files.specs.Picks.{IsWithin}
 
 -- a folder's text, and what it is not: the names follow after `/`
 pub names_follow : (folder path rest : List ℕ) (r : Option (Bor (List ℕ))) → bytes_eq folder (47 ∷ []) ≡ false → path ≡ folder ++ rest
@@ -42,26 +44,6 @@ directory_is_no_file directory e is = cc
 directory_is_no_file (link target) e is = cc
 directory_is_no_file (file bytes mode) e is = cc
 directory_is_no_file other e is = cc
-
-pub nonempty_content : (c : Content) → kind_of c ≡ kind.File → 0 < len_of c → (byte : ℕ) × (bytes : List ℕ) × (mode : ℕ) × (file_content c ≡ Some (byte ∷ bytes, mode))
-nonempty_content directory is some = cc
-nonempty_content (link target) is some = cc
-nonempty_content (file [] mode) is some = absurd (omega arith)
-nonempty_content (file (byte ∷ bytes) mode) is some = (byte, bytes, mode, refl)
-nonempty_content other is some = cc
-
-nonempty_is_not : {b : ℕ} {bs : List ℕ} → b ∷ bs ≢ []
-nonempty_is_not e = cc
-
-none_is_not : {A : Type 0} {a : A} → ◌≡◌ {A = Option A} None (Some a) → ⊥
-none_is_not e = cc
-
-pub content_nonempty : (c : Content) (byte : ℕ) (bytes : List ℕ) (mode : ℕ) → file_content c ≡ Some (byte ∷ bytes, mode) → (kind_of c ≡ kind.File) × (0 < len_of c)
-content_nonempty directory byte bytes mode e = absurd (none_is_not e)
-content_nonempty (link target) byte bytes mode e = absurd (none_is_not e)
-content_nonempty (file [] own) byte bytes mode e = absurd (nonempty_is_not (sym (some_pair_parts [] (byte ∷ bytes) own mode e).0))
-content_nonempty (file (first ∷ rest) own) byte bytes mode e = (refl, omega arith)
-content_nonempty other byte bytes mode e = absurd (none_is_not e)
 
 -- a pending node at a place at or below a directory
 pub record StandsWithin (tree : Tree) (root place : NameList) (top : List ℕ) (node : Pending) : Type 0 where

@@ -19,11 +19,14 @@ use Rattle.sd_edge.specs.declared.meta.Meta.{Meta}
 use Rattle.sd_edge.specs.declared.meta.RawEntry.{RawEntry}
 use Rattle.sd_edge.proofs.PathTextLemmas.{above, directory_stands, text_directory, text_not_followed}
 use Rattle.sd_core.specs.declared.listing.Pending.{Pending}
-use Rattle.sd_core.specs.Chosen.{IsChosen, ListsChosen}
-use Rattle.sd_core.specs.Walk.{pending_in, StacksEntries, IsFolderAt, IsPendingAt, IsWithin, ListsBelow}
+use Rattle.chosen_files.specs.Chosen.{IsChosen, ListsChosen}
+use Rattle.sd_core.specs.Walk.{pending_in, StacksEntries, IsFolderAt, IsPendingAt, ListsBelow}
+use Rattle.chosen_files.specs.Picks.{IsWithin}
+use Rattle.chosen_files.proofs.ContentLemmas.{file_stands}
 use Rattle.sd_core.proofs.listing.ChoiceLemmas.{child_text_below}
-use Rattle.sd_core.proofs.listing.EntryLemmas.{names_of, strictly_sorted, told_names, each_told, in_from_any}
-use Rattle.sd_core.proofs.listing.StackLemmas.{In, in_from_contains, contains_from_in, children_of, IsWalked, walk_start, walk_enter, walk_take, walk_pass, walk_end}
+use Rattle.chosen_files.proofs.EntryLemmas.{names_of, strictly_sorted, told_names, each_told, in_from_any}
+use Rattle.sd_core.proofs.listing.StackLemmas.{children_of, IsWalked, walk_start, walk_enter, walk_take, walk_pass, walk_end}
+use Rattle.chosen_files.proofs.PlaceLemmas.{In, in_from_contains, contains_from_in}
 
 -- ---- kinds of nodes
 
@@ -38,10 +41,6 @@ kind_directory directory e = refl
 kind_directory (link target) e = cc
 kind_directory (file bytes mode) e = cc
 kind_directory other e = cc
-
-pub file_stands : (o : Option Node) (f : List ℕ × ℕ) → file_node o ≡ Some f → IsSome o
-file_stands None f e = cc
-file_stands (Some node) f e = refl
 
 directory_no_file : (o : Option Node) (f : List ℕ × ℕ) → is_directory_node o ≡ true → file_node o ≡ Some f → ⊥
 directory_no_file None f there e = cc

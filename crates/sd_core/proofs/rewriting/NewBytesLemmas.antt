@@ -6,6 +6,9 @@ use Rattle.std.specs.Str.{bytes_eq}
 use Rattle.std.specs.Cmp.Lexicographic.{bytes_decides}
 use Rattle.std.proofs.lemmas.Option.{same_Some}
 use Rattle.sd_edge.specs.declared.fault.DiskFault.{DiskFault}
+use Rattle.sd_edge.specs.declared.fault.DiskFault.TheVariants as disk
+use Rattle.file_exchange.specs.Causes.{HasCauseOf}
+use Rattle.file_exchange.proofs.CauseLemmas.{risen_since}
 use Rattle.sd_edge.specs.Tree.{NameList, Content, file, Tree, IsTree, SameBut, node_at, file_at}
 use Rattle.sd_edge.specs.Paths.{parts_of, parent_of}
 use Rattle.sd_edge.specs.Outcomes.{Leaves}
@@ -135,12 +138,32 @@ pub passed_as : {T U : Type 0} (r : Result U RewritingError) (fault f : DiskFaul
 passed_as (Ok x) fault f from e = absurd from
 passed_as (Err error) fault f from e = cc
 
--- an error that is passed on as one of an exchange
-pub exchange_passed : {T U : Type 0} (r : Result U RewritingError) (fault : ExchangeFault) (f : DiskFault) → IsErrAnd r (λ e. e ≡ as_rewriting fault) → IsErrOf r (Disk f)
-    → IsErrOf {T = T} (Err fault) (exchange.Disk f)
+-- an error of an exchange that is passed on: one of a step before the move, or of the move
+pub exchange_passed : {U : Type 0} (r : Result U RewritingError) (fault : ExchangeFault) (f : DiskFault) → IsErrAnd r (λ e. e ≡ as_rewriting fault) → IsErrOf r (Disk f)
+    → (fault ≡ exchange.Disk f) ⊎ (fault ≡ exchange.Move f)
 exchange_passed (Ok x) fault f from e = absurd from
-exchange_passed (Err error) exchange.NoName f from e = cc
-exchange_passed (Err error) (exchange.Disk fault) f from e = cc
+exchange_passed (Err error) exchange.NoName f from e = absurd (cc)
+exchange_passed (Err error) (exchange.Disk fault) f from e = inl cc
+exchange_passed (Err error) (exchange.Move fault) f from e = inr cc
+
+-- and why it comes
+pub exchange_cause : {U : Type 0} (tells : Bool) (s0 s1 s2 : DiskState) (r : Result U RewritingError) (fault : ExchangeFault) → s0.faults ≤ s1.faults → IsErrAnd r (λ e. e ≡ as_rewriting fault)
+    → HasCauseOf {T = Unit {0}} exchange.Disk tells s1 s2 (Err fault) → HasCauseOf {T = Unit {0}} exchange.Move tells s1 s2 (Err fault) → HasCauseOf Disk tells s0 s2 r
+exchange_cause tells s0 s1 s2 r fault low from cause moving = record {
+  never_falls = omega (arith, cause.never_falls);
+  failed = λ e. elim (exchange_passed r fault disk.Failed from e) [
+    | inl before ↦ risen_since s0.faults s1.faults s2.faults low (cause.failed (ap (λ (x : ExchangeFault). Err x) before))
+    | inr move ↦ risen_since s0.faults s1.faults s2.faults low (moving.failed (ap (λ (x : ExchangeFault). Err x) move))
+  ];
+  absent = λ e. elim (exchange_passed r fault disk.Absent from e) [
+    | inl before ↦ let rose = cause.absent (ap (λ (x : ExchangeFault). Err x) before) in (rose.0, omega (arith, rose.1))
+    | inr move ↦ let rose = moving.absent (ap (λ (x : ExchangeFault). Err x) move) in (rose.0, omega (arith, rose.1))
+  ];
+  not_taken = λ e. elim (exchange_passed r fault disk.Taken from e) [
+    | inl before ↦ cause.not_taken (ap (λ (x : ExchangeFault). Err x) before)
+    | inr move ↦ moving.not_taken (ap (λ (x : ExchangeFault). Err x) move)
+  ];
+}
 
 -- ---- what a crash leaves
 

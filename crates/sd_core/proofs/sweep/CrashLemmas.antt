@@ -13,12 +13,12 @@ use Rattle.sd_edge.proofs.CrashLemmas.{since_same, since_then, since_more, since
 use Rattle.file_exchange.specs.Reserved.{Free}
 use Rattle.sd_core.specs.declared.rewriting.Rewrite.{Rewrite}
 use Rattle.sd_core.specs.Words.{TreeOrder}
-use Rattle.sd_core.specs.Chosen.{IsChosen, ListsChosen}
+use Rattle.chosen_files.specs.Chosen.{IsChosen, ListsChosen}
 use Rattle.sd_core.specs.Rewriting.{NewBytes, RewritesFile, IsNewContent, RewriteLeaves}
 use Rattle.sd_core.specs.Crash.{IsOneNew, IsFreeBesideOne, RewritesLeave, RewritesLast, IsChosenBy, IsNewChosen, IsFreeBesideChosen, IsOldOrNewImage, IsNewImage}
 use Rattle.sd_core.specs.Sweep.{AreFilePaths}
 use Rattle.sd_core.proofs.laws.OneReplacementLemmas.{one_new_bytes}
-use Rattle.sd_core.proofs.listing.StackLemmas.{in_from_contains}
+use Rattle.chosen_files.proofs.PlaceLemmas.{in_from_contains}
 use Rattle.sd_core.proofs.sweep.SweepLemmas.{IsNextFile, IsSweptTo, as_many, was_free, kept, chosen_places}
 
 -- ---- new contents

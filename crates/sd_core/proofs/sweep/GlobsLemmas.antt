@@ -4,10 +4,10 @@ use Rattle.std.specs.Prelude.{All, Result, Ok, Err, IsErrOf, IsErrAnd}
 use Rattle.std.proofs.lemmas.List.Elements.{All-head, All-tail}
 use Rattle.sd_core.specs.declared.error.Error.{Error}
 use Rattle.sd_core.specs.declared.error.Error.TheVariants as error
-use Rattle.sd_core.specs.declared.globs.GlobsError.{GlobsError}
-use Rattle.sd_core.specs.declared.globs.GlobsError.TheVariants.{Invalid, NoMemory}
+use Rattle.chosen_files.specs.declared.globs.GlobsError.{GlobsError}
+use Rattle.chosen_files.specs.declared.globs.GlobsError.TheVariants.{Invalid, NoMemory}
 use Rattle.sd_core.specs.Errors.{IsErrorOfGlobs}
-use Rattle.sd_core.specs.Globs.{IsValid, IsFirstInvalid}
+use Rattle.chosen_files.specs.Globs.{IsValid, IsFirstInvalid}
 
 -- there is at most one
 pub one_first : (globs : List (List ℕ)) (p q : ℕ) → IsFirstInvalid globs p → IsFirstInvalid globs q → p ≡ q

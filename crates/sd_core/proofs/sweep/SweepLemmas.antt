@@ -27,11 +27,11 @@ use Rattle.file_exchange.specs.Exchange.{IsFilePath}
 use Rattle.sd_core.specs.Rewriting.{RewritesFile, IsOldOrNew, LeavesFile}
 use Rattle.file_exchange.specs.Reserved.{Reserved, NoneFree}
 use Rattle.sd_core.specs.Words.{TreeOrder}
-use Rattle.sd_core.specs.Chosen.{Chosen, ListsChosen}
+use Rattle.chosen_files.specs.Chosen.{Chosen, ListsChosen}
 use Rattle.sd_core.specs.Headline.{IsRewritten, RewritesOnly, change_of, CountsFile, Counts, RewritesTree, LeavesFiles, LeavesTree, HasNoRoomBeside, HasNoRoom}
 use Rattle.sd_core.specs.Sweep.{AreFilePaths, RewritesFiles}
 use Rattle.file_exchange.proofs.PlaceLemmas.{some_not_none}
-use Rattle.sd_core.proofs.listing.StackLemmas.{In, in_from_contains, contains_from_in, place_total}
+use Rattle.chosen_files.proofs.PlaceLemmas.{In, in_from_contains, contains_from_in, place_total}
 
 -- ---- files and places
 

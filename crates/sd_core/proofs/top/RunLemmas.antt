@@ -16,7 +16,7 @@ use Rattle.sd_core.specs.declared.error.Error.TheVariants.{File, FailedProcessin
 use Rattle.sd_core.specs.declared.top.Why.{Why}
 use Rattle.sd_core.specs.declared.top.Why.TheVariants.{Done, Fault, NotYet}
 use Rattle.sd_core.specs.Words.{TreeOrder, tree_order}
-use Rattle.sd_core.specs.Globs.{IsValid, IsFirstInvalid}
+use Rattle.chosen_files.specs.Globs.{IsValid, IsFirstInvalid}
 use Rattle.sd_core.specs.Headline.{HasNoRoom}
 use Rattle.sd_core.specs.Run.{HasRoom}
 use Rattle.sd_core.proofs.sweep.GlobsLemmas.{none_first}

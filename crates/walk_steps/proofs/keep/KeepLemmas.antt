@@ -15,9 +15,11 @@ use Rattle.walk_rest.specs.Read.{ReadsList}
 use Rattle.walk_steps.specs.Inside.{IsRead}
 use Rattle.walk_steps.specs.Sound.{IsReadable, IsApart, AreApart, AreApartFrom, AreSound, AreRead, IsShallow, AreShallow, SameOtherThan, StaysWithin, opens, open_in}
 use Rattle.walk_steps.specs.Causes.{faults_due, CountsFaults}
+use Rattle.walk_steps.specs.Listed.{GivesListed, waits_in, waits_of}
 use Rattle.walk_steps.specs.Lists.{IsOldestOpen, KeepsLevel, KeepsOldest}
 use Rattle.walk_steps.specs.Work.{weight_of, weight_all, work_in, work_of}
 use Rattle.walk_steps.proofs.leave.WithinLemmas.{within_fewer}
+use Rattle.walk_steps.proofs.take.WaitsLemmas.{waits_at}
 use Rattle.walk_steps.proofs.leave.SoundLemmas.{Differ, Clear, sound_kept, sound_one, all_same_reads, weight_kept}
 
 -- ---- which is the lowest
@@ -296,3 +298,14 @@ kept_counted old new levels place was now at adds = by adds.allowed
     by : IsAllowed (length adds.more) old.faults new.faults → CountsFaults 0 old levels new (slice_set levels place now)
     by (inl h) = let e = more in inl (omega (arith, e, h))
     by (inr h) = inr h
+
+-- ---- entries that wait
+
+pub kept_waits : (old new : DiskState) (levels : List Level) (place : ℕ) (was now : Level) → StandsAmong levels place was → waits_of now + old.listed ≤ waits_of was + new.listed
+    → GivesListed 0 old levels new (slice_set levels place now)
+kept_waits old new levels place was now at less =
+    let e = ap waits_in (level_set levels at.lower at.upper was now place at.are at.at) in
+    let a = waits_at at.lower at.upper now in
+    let b = waits_at at.lower at.upper was in
+    let c = ap waits_in at.are in
+    omega (arith, e, a, b, c, less)

@@ -70,8 +70,8 @@ allowed_failure : (tells : Bool) (entry : DirEntry) (failed : Error) (a b : ℕ)
 allowed_failure tells entry failed a b (inl e) risen = allowed_as tells a b failed (error.Disk (Some entry.path) entry.depth) e (allowed_one a b risen)
 allowed_failure tells entry failed a b (inr e) risen = allowed_as tells a b failed (error.Disk None entry.depth) e (allowed_one a b risen)
 
-allowed_loop : (tells : Bool) (chain : List Folder) (failed : Error) (a b : ℕ) → a ≤ b → IsLoopIn chain failed → IsAllowed (faults_told tells (Some (Err failed))) a b
-allowed_loop tells chain failed a b le l = allowed_as tells a b failed (error.Loop l.0 l.1 l.3.path l.2) l.4 (inl (omega (arith, le)))
+allowed_loop : (follows tells : Bool) (chain : List Folder) (failed : Error) (a b : ℕ) → a ≤ b → IsLoopIn follows chain failed → IsAllowed (faults_told tells (Some (Err failed))) a b
+allowed_loop follows tells chain failed a b le l = allowed_as tells a b failed (error.Loop l.0 l.1 l.3.path l.2) l.4 (inl (omega (arith, le)))
 
 -- ---- the root
 
@@ -90,61 +90,73 @@ begin_looped tells s now o root failed (inl e) path depth ancestor ident is = le
 begin_looped tells s now o root failed (inr (inl f)) path depth ancestor ident is = let k : error.Disk (Some root) 0 ≡ error.Loop path depth ancestor ident = sym f.0 ∙ is in cc k
 begin_looped tells s now o root failed (inr (inr f)) path depth ancestor ident is = let k : error.Absent root 0 ≡ error.Loop path depth ancestor ident = sym f.0 ∙ is in cc k
 
+begin_uncapped : (tells : Bool) (s now : DiskState) (o : Options) (root : List ℕ) (failed : Error) → CannotBegin tells s now o root failed → failed ≡ error.TooMany → ⊥
+begin_uncapped tells s now o root failed (inl e) is = let k : error.NoMemory ≡ error.TooMany = sym e ∙ is in cc k
+begin_uncapped tells s now o root failed (inr (inl f)) is = let k : error.Disk (Some root) 0 ≡ error.TooMany = sym f.0 ∙ is in cc k
+begin_uncapped tells s now o root failed (inr (inr f)) is = let k : error.Absent root 0 ≡ error.TooMany = sym f.0 ∙ is in cc k
+
 -- ---- errors in place of an entry
 
 -- it leads nowhere, or its identity is that of the directory that is named
-abbrev pub FailsRightly : List Folder → DirEntry → Seen → Type 0
-FailsRightly chain entry (fails failed) = (failed ≡ error.Absent entry.path entry.depth) ⊎ IsLoopIn chain failed
-FailsRightly chain entry (stays at) = Unit {0}
-FailsRightly chain entry (enters at folder) = Unit {0}
+abbrev pub FailsRightly : Bool → List Folder → DirEntry → Seen → Type 0
+FailsRightly follows chain entry (fails failed) = (failed ≡ error.Absent entry.path entry.depth) ⊎ IsLoopIn follows chain failed
+FailsRightly follows chain entry (stays at) = Unit {0}
+FailsRightly follows chain entry (enters at folder) = Unit {0}
 
-pick : (chain : List Folder) (entry : DirEntry) (b : Bool) (x y : Seen) → FailsRightly chain entry x → FailsRightly chain entry y → FailsRightly chain entry (cond b x y)
-pick chain entry true x y h k = h
-pick chain entry false x y h k = k
+pick : (follows : Bool) (chain : List Folder) (entry : DirEntry) (b : Bool) (x y : Seen) → FailsRightly follows chain entry x → FailsRightly follows chain entry y → FailsRightly follows chain entry (cond b x y)
+pick follows chain entry true x y h k = h
+pick follows chain entry false x y h k = k
 
-directory_rightly : (chain : List Folder) (at : DirEntry) (manner : Manner) (entry : DirEntry) (node : Option Node) → FailsRightly chain at (seen_directory manner entry node)
-directory_rightly chain at manner entry node =
-    pick chain at (manner.options.same_file_system && nat_lt 0 entry.depth && is_foreign manner node) (stays entry) (enters entry (folder_of manner.options entry node)) tt tt
+pick_where : (follows : Bool) (chain : List Folder) (entry : DirEntry) (b c : Bool) (x y : Seen) → (b ≡ true → FailsRightly follows chain entry x) → FailsRightly follows chain entry y → FailsRightly follows chain entry (cond (b && c) x y)
+pick_where follows chain entry true true x y h k = h refl
+pick_where follows chain entry true false x y h k = k
+pick_where follows chain entry false c x y h k = k
 
-root_link_rightly : (chain : List Folder) (manner : Manner) (entry : DirEntry) (node : Option Node) → FailsRightly chain entry (seen_root_link manner entry node)
-root_link_rightly chain manner entry None = inl refl
-root_link_rightly chain manner entry (Some at) = pick chain entry (is_directory_content at.content) (enters entry (folder_of manner.options entry (Some at))) (stays entry) tt tt
+directory_rightly : (follows : Bool) (chain : List Folder) (at : DirEntry) (manner : Manner) (entry : DirEntry) (node : Option Node) → FailsRightly follows chain at (seen_directory manner entry node)
+directory_rightly follows chain at manner entry node =
+    pick follows chain at (manner.options.same_file_system && nat_lt 0 entry.depth && is_foreign manner node) (stays entry) (enters entry (folder_of manner.options entry node)) tt tt
 
-unfollowed_rightly : (chain : List Folder) (manner : Manner) (entry : DirEntry) (node : Option Node) → FailsRightly chain entry (seen_unfollowed manner entry node)
-unfollowed_rightly chain manner entry node =
+root_link_rightly : (follows : Bool) (chain : List Folder) (manner : Manner) (entry : DirEntry) (node : Option Node) → FailsRightly follows chain entry (seen_root_link manner entry node)
+root_link_rightly follows chain manner entry None = inl refl
+root_link_rightly follows chain manner entry (Some at) = pick follows chain entry (is_directory_content at.content) (enters entry (folder_of manner.options entry (Some at))) (stays entry) tt tt
+
+unfollowed_rightly : (follows : Bool) (chain : List Folder) (manner : Manner) (entry : DirEntry) (node : Option Node) → FailsRightly follows chain entry (seen_unfollowed manner entry node)
+unfollowed_rightly follows chain manner entry node =
     let root = is_link entry.kind && nat_eq entry.depth 0 && manner.options.follow_root_links in
-    pick chain entry (is_directory entry.kind) (seen_directory manner entry node) (cond root (seen_root_link manner entry node) (stays entry)) (directory_rightly chain entry manner entry node)
-    (pick chain entry root (seen_root_link manner entry node) (stays entry) (root_link_rightly chain manner entry node) tt)
+    pick follows chain entry (is_directory entry.kind) (seen_directory manner entry node) (cond root (seen_root_link manner entry node) (stays entry)) (directory_rightly follows chain entry manner entry node)
+    (pick follows chain entry root (seen_root_link manner entry node) (stays entry) (root_link_rightly follows chain manner entry node) tt)
 
-target_rightly : (chain : List Folder) (manner : Manner) (entry : DirEntry) (node : Node) (ancestor : Option Folder) → ancestor_with (ident_of node) chain ≡ ancestor → FailsRightly chain entry (seen_target manner entry node ancestor)
-target_rightly chain manner entry node (Some folder) e = inr (entry.path, entry.depth, ident_of node, folder, refl, e)
-target_rightly chain manner entry node None e = directory_rightly chain entry manner (followed_entry entry node) (Some node)
+target_rightly : (follows : Bool) → IsTrue follows → (chain : List Folder) (manner : Manner) (entry : DirEntry) (node : Node) (ancestor : Option Folder) → ancestor_with (ident_of node) chain ≡ ancestor → FailsRightly follows chain entry (seen_target manner entry node ancestor)
+target_rightly follows on chain manner entry node (Some folder) e = inr (entry.path, entry.depth, ident_of node, folder, refl, e, on)
+target_rightly follows on chain manner entry node None e = directory_rightly follows chain entry manner (followed_entry entry node) (Some node)
 
-link_rightly : (chain : List Folder) (manner : Manner) (entry : DirEntry) (node : Option Node) → FailsRightly chain entry (seen_link manner chain entry node)
-link_rightly chain manner entry None = inl refl
-link_rightly chain manner entry (Some at) =
-    pick chain entry (is_directory_content at.content) (seen_target manner entry at (ancestor_with (ident_of at) chain)) (stays (followed_entry entry at)) (target_rightly chain manner entry at (ancestor_with (ident_of at) chain) refl) tt
+link_rightly : (follows : Bool) → IsTrue follows → (chain : List Folder) (manner : Manner) (entry : DirEntry) (node : Option Node) → FailsRightly follows chain entry (seen_link manner chain entry node)
+link_rightly follows on chain manner entry None = inl refl
+link_rightly follows on chain manner entry (Some at) =
+    pick follows chain entry (is_directory_content at.content) (seen_target manner entry at (ancestor_with (ident_of at) chain)) (stays (followed_entry entry at)) (target_rightly follows on chain manner entry at (ancestor_with (ident_of at) chain) refl) tt
 
-pub seen_rightly : (chain : List Folder) (manner : Manner) (entry : DirEntry) (node : Option Node) → FailsRightly chain entry (seen_by manner chain entry node)
+pub seen_rightly : (chain : List Folder) (manner : Manner) (entry : DirEntry) (node : Option Node) → FailsRightly manner.options.follow_links chain entry (seen_by manner chain entry node)
 seen_rightly chain manner entry node =
-    pick chain entry (manner.options.follow_links && is_link entry.kind) (seen_link manner chain entry node) (seen_unfollowed manner entry node) (link_rightly chain manner entry node) (unfollowed_rightly chain manner entry node)
+    let follows = manner.options.follow_links in
+    pick_where follows chain entry follows (is_link entry.kind) (seen_link manner chain entry node) (seen_unfollowed manner entry node)
+    (λ on. link_rightly follows on chain manner entry node) (unfollowed_rightly follows chain manner entry node)
 
 -- what see tells of an error, by whether the disk tells its tree
-pub record FailsFor (tells : Bool) (a b : ℕ) (entry : DirEntry) (chain : List Folder) (failed : Error) : Type 0 where
+pub record FailsFor (follows tells : Bool) (a b : ℕ) (entry : DirEntry) (chain : List Folder) (failed : Error) : Type 0 where
   pub later : a ≤ b
-  pub untold : tells ≡ false → HasCauseAt a b entry chain failed
+  pub untold : tells ≡ false → HasCauseAt follows a b entry chain failed
   pub at : Seen
   pub told : IsTrue tells → FailsAsSeen a b entry at failed
-  pub rightly : FailsRightly chain entry at
+  pub rightly : FailsRightly follows chain entry at
 
 module _ {S : Type 0} where
   pub fails_for : (tells : Bool) (s now : DiskState) (inside : Inside S) (chain : List Folder) (entry : DirEntry) (failed seen_as : Error) → failed ≡ seen_as → s.faults ≤ now.faults
-      → (tells ≡ false → HasCauseAt s.faults now.faults entry chain seen_as) → ByEachManner tells inside (λ manner. FailsAsSeen s.faults now.faults entry (seen s.tree manner chain entry) seen_as)
-      → FailsFor tells s.faults now.faults entry chain failed
+      → (tells ≡ false → HasCauseAt inside.options.follow_links s.faults now.faults entry chain seen_as) → ByEachManner tells inside (λ manner. FailsAsSeen s.faults now.faults entry (seen s.tree manner chain entry) seen_as)
+      → FailsFor inside.options.follow_links tells s.faults now.faults entry chain failed
   fails_for tells s now inside chain entry failed seen_as same later untold told =
       let manner : Manner = record { options = inside.options; sorts = false; compare = by_file_name; device = inside.device } in
       let F : Error → Type 0 = FailsAsSeen s.faults now.faults entry (seen s.tree manner chain entry) in
-      let U : Error → Type 0 = HasCauseAt s.faults now.faults entry chain in
+      let U : Error → Type 0 = HasCauseAt inside.options.follow_links s.faults now.faults entry chain in
       record {
         later = later;
         untold = λ e. subst U (sym same) (untold e);
@@ -153,27 +165,27 @@ module _ {S : Type 0} where
         rightly = seen_rightly chain manner entry (node_to s.tree entry.path true);
       }
 
-rightly_failed : (chain : List Folder) (entry : DirEntry) (at : Seen) (failed : Error) → at ≡ fails failed → FailsRightly chain entry at → (failed ≡ error.Absent entry.path entry.depth) ⊎ IsLoopIn chain failed
-rightly_failed chain entry at failed e h = subst (FailsRightly chain entry) e h
+rightly_failed : (follows : Bool) (chain : List Folder) (entry : DirEntry) (at : Seen) (failed : Error) → at ≡ fails failed → FailsRightly follows chain entry at → (failed ≡ error.Absent entry.path entry.depth) ⊎ IsLoopIn follows chain failed
+rightly_failed follows chain entry at failed e h = subst (FailsRightly follows chain entry) e h
 
-pub error_allowed : (tells : Bool) (a b : ℕ) (entry : DirEntry) (chain : List Folder) (failed : Error) → FailsFor tells a b entry chain failed → IsAllowed (faults_told tells (Some (Err failed))) a b
-error_allowed true a b entry chain failed h = by (h.told refl)
+pub error_allowed : (follows tells : Bool) (a b : ℕ) (entry : DirEntry) (chain : List Folder) (failed : Error) → FailsFor follows tells a b entry chain failed → IsAllowed (faults_told tells (Some (Err failed))) a b
+error_allowed follows true a b entry chain failed h = by (h.told refl)
   where
-    rest : (failed ≡ error.Absent entry.path entry.depth) ⊎ IsLoopIn chain failed → IsAllowed (faults_told true (Some (Err failed))) a b
+    rest : (failed ≡ error.Absent entry.path entry.depth) ⊎ IsLoopIn follows chain failed → IsAllowed (faults_told true (Some (Err failed))) a b
     rest (inl e) = allowed_as true a b failed (error.Absent entry.path entry.depth) e (let le = h.later in inl (omega (arith, le)))
-    rest (inr l) = allowed_loop true chain failed a b h.later l
+    rest (inr l) = allowed_loop follows true chain failed a b h.later l
 
     by : FailsAsSeen a b entry h.at failed → IsAllowed (faults_told true (Some (Err failed))) a b
     by (inl e) = allowed_as true a b failed error.NoMemory e (let le = h.later in inl (omega (arith, le)))
     by (inr (inl f)) = allowed_failure true entry failed a b f.0 f.1
-    by (inr (inr e)) = rest (rightly_failed chain entry h.at failed e h.rightly)
-error_allowed false a b entry chain failed h = by (h.untold refl)
+    by (inr (inr e)) = rest (rightly_failed follows chain entry h.at failed e h.rightly)
+error_allowed follows false a b entry chain failed h = by (h.untold refl)
   where
-    by : HasCauseAt a b entry chain failed → IsAllowed (faults_told false (Some (Err failed))) a b
+    by : HasCauseAt follows a b entry chain failed → IsAllowed (faults_told false (Some (Err failed))) a b
     by (inl e) = allowed_as false a b failed error.NoMemory e (let le = h.later in inl (omega (arith, le)))
     by (inr (inl f)) = allowed_failure false entry failed a b f.0 f.1
     by (inr (inr (inl f))) = allowed_as false a b failed (error.Absent entry.path entry.depth) f.0 (allowed_absent false entry.path entry.depth a b h.later (λ e. f.1))
-    by (inr (inr (inr l))) = allowed_loop false chain failed a b h.later l
+    by (inr (inr (inr l))) = allowed_loop follows false chain failed a b h.later l
 
 no_absent : (entry : DirEntry) (failed : Error) (path : List ℕ) (depth : ℕ) → failed ≡ error.Absent path depth → IsFailureAt entry failed → ⊥
 no_absent entry failed path depth is (inl e) = let k : error.Disk (Some entry.path) entry.depth ≡ error.Absent path depth = sym e ∙ is in cc k
@@ -183,31 +195,57 @@ no_loop : (entry : DirEntry) (failed : Error) (path : List ℕ) (depth : ℕ) (a
 no_loop entry failed path depth ancestor ident is (inl e) = let k : error.Disk (Some entry.path) entry.depth ≡ error.Loop path depth ancestor ident = sym e ∙ is in cc k
 no_loop entry failed path depth ancestor ident is (inr e) = let k : error.Disk None entry.depth ≡ error.Loop path depth ancestor ident = sym e ∙ is in cc k
 
-error_absent : (a b : ℕ) (entry : DirEntry) (chain : List Folder) (failed : Error) → HasCauseAt a b entry chain failed → (path : List ℕ) (depth : ℕ) → failed ≡ error.Absent path depth → a < b
-error_absent a b entry chain failed (inl e) path depth is = absurd (let f : error.NoMemory ≡ error.Absent path depth = sym e ∙ is in cc f)
-error_absent a b entry chain failed (inr (inl f)) path depth is = absurd (no_absent entry failed path depth is f.0)
-error_absent a b entry chain failed (inr (inr (inl f))) path depth is = f.1
-error_absent a b entry chain failed (inr (inr (inr l))) path depth is = absurd (let k : error.Loop l.0 l.1 l.3.path l.2 ≡ error.Absent path depth = sym l.4 ∙ is in cc k)
+error_absent : (follows : Bool) (a b : ℕ) (entry : DirEntry) (chain : List Folder) (failed : Error) → HasCauseAt follows a b entry chain failed → (path : List ℕ) (depth : ℕ) → failed ≡ error.Absent path depth → a < b
+error_absent follows a b entry chain failed (inl e) path depth is = absurd (let f : error.NoMemory ≡ error.Absent path depth = sym e ∙ is in cc f)
+error_absent follows a b entry chain failed (inr (inl f)) path depth is = absurd (no_absent entry failed path depth is f.0)
+error_absent follows a b entry chain failed (inr (inr (inl f))) path depth is = f.1
+error_absent follows a b entry chain failed (inr (inr (inr l))) path depth is = absurd (let k : error.Loop l.0 l.1 l.3.path l.2 ≡ error.Absent path depth = sym l.4 ∙ is in cc k)
 
-error_looped : (tells : Bool) (a b : ℕ) (entry : DirEntry) (chain : List Folder) (failed : Error) → FailsFor tells a b entry chain failed
-    → (path : List ℕ) (depth : ℕ) (ancestor : List ℕ) (ident : Ident) → failed ≡ error.Loop path depth ancestor ident → IsLoopIn chain (error.Loop path depth ancestor ident)
-error_looped true a b entry chain failed h path depth ancestor ident is = by (h.told refl)
+error_looped : (follows tells : Bool) (a b : ℕ) (entry : DirEntry) (chain : List Folder) (failed : Error) → FailsFor follows tells a b entry chain failed
+    → (path : List ℕ) (depth : ℕ) (ancestor : List ℕ) (ident : Ident) → failed ≡ error.Loop path depth ancestor ident → IsLoopIn follows chain (error.Loop path depth ancestor ident)
+error_looped follows true a b entry chain failed h path depth ancestor ident is = by (h.told refl)
   where
-    rest : (failed ≡ error.Absent entry.path entry.depth) ⊎ IsLoopIn chain failed → IsLoopIn chain (error.Loop path depth ancestor ident)
+    rest : (failed ≡ error.Absent entry.path entry.depth) ⊎ IsLoopIn follows chain failed → IsLoopIn follows chain (error.Loop path depth ancestor ident)
     rest (inl e) = absurd (let f : error.Absent entry.path entry.depth ≡ error.Loop path depth ancestor ident = sym e ∙ is in cc f)
-    rest (inr l) = subst (IsLoopIn chain) is l
+    rest (inr l) = subst (IsLoopIn follows chain) is l
 
-    by : FailsAsSeen a b entry h.at failed → IsLoopIn chain (error.Loop path depth ancestor ident)
+    by : FailsAsSeen a b entry h.at failed → IsLoopIn follows chain (error.Loop path depth ancestor ident)
     by (inl e) = absurd (let f : error.NoMemory ≡ error.Loop path depth ancestor ident = sym e ∙ is in cc f)
     by (inr (inl f)) = absurd (no_loop entry failed path depth ancestor ident is f.0)
-    by (inr (inr e)) = rest (rightly_failed chain entry h.at failed e h.rightly)
-error_looped false a b entry chain failed h path depth ancestor ident is = by (h.untold refl)
+    by (inr (inr e)) = rest (rightly_failed follows chain entry h.at failed e h.rightly)
+error_looped follows false a b entry chain failed h path depth ancestor ident is = by (h.untold refl)
   where
-    by : HasCauseAt a b entry chain failed → IsLoopIn chain (error.Loop path depth ancestor ident)
+    by : HasCauseAt follows a b entry chain failed → IsLoopIn follows chain (error.Loop path depth ancestor ident)
     by (inl e) = absurd (let f : error.NoMemory ≡ error.Loop path depth ancestor ident = sym e ∙ is in cc f)
     by (inr (inl f)) = absurd (no_loop entry failed path depth ancestor ident is f.0)
     by (inr (inr (inl f))) = absurd (let k : error.Absent entry.path entry.depth ≡ error.Loop path depth ancestor ident = sym f.0 ∙ is in cc k)
-    by (inr (inr (inr l))) = subst (IsLoopIn chain) is l
+    by (inr (inr (inr l))) = subst (IsLoopIn follows chain) is l
+
+not_capped : (entry : DirEntry) (failed : Error) → IsFailureAt entry failed → failed ≡ error.TooMany → ⊥
+not_capped entry failed (inl e) is = let k : error.Disk (Some entry.path) entry.depth ≡ error.TooMany = sym e ∙ is in cc k
+not_capped entry failed (inr e) is = let k : error.Disk None entry.depth ≡ error.TooMany = sym e ∙ is in cc k
+
+loop_not_capped : (follows : Bool) (chain : List Folder) (failed : Error) → IsLoopIn follows chain failed → failed ≡ error.TooMany → ⊥
+loop_not_capped follows chain failed l is = let k : error.Loop l.0 l.1 l.3.path l.2 ≡ error.TooMany = sym l.4 ∙ is in cc k
+
+error_uncapped : (follows tells : Bool) (a b : ℕ) (entry : DirEntry) (chain : List Folder) (failed : Error) → FailsFor follows tells a b entry chain failed → failed ≡ error.TooMany → ⊥
+error_uncapped follows true a b entry chain failed h is = by (h.told refl)
+  where
+    rest : (failed ≡ error.Absent entry.path entry.depth) ⊎ IsLoopIn follows chain failed → ⊥
+    rest (inl e) = let k : error.Absent entry.path entry.depth ≡ error.TooMany = sym e ∙ is in cc k
+    rest (inr l) = loop_not_capped follows chain failed l is
+
+    by : FailsAsSeen a b entry h.at failed → ⊥
+    by (inl e) = let k : error.NoMemory ≡ error.TooMany = sym e ∙ is in cc k
+    by (inr (inl f)) = not_capped entry failed f.0 is
+    by (inr (inr e)) = rest (rightly_failed follows chain entry h.at failed e h.rightly)
+error_uncapped follows false a b entry chain failed h is = by (h.untold refl)
+  where
+    by : HasCauseAt follows a b entry chain failed → ⊥
+    by (inl e) = let k : error.NoMemory ≡ error.TooMany = sym e ∙ is in cc k
+    by (inr (inl f)) = not_capped entry failed f.0 is
+    by (inr (inr (inl f))) = let k : error.Absent entry.path entry.depth ≡ error.TooMany = sym f.0 ∙ is in cc k
+    by (inr (inr (inr l))) = loop_not_capped follows chain failed l is
 
 -- ---- what lies on top
 
@@ -274,6 +312,7 @@ module _ {S : Type 0} where
   caused_none tells s now inside = record {
     absent = λ untold path depth e. absurd (cc e);
     looped = λ path depth ancestor ident e. absurd (cc e);
+    uncapped = λ e. cc e;
     entered = λ some. absurd (some refl);
   }
 
@@ -281,6 +320,7 @@ module _ {S : Type 0} where
   caused_ok tells s now entry inside entered = record {
     absent = λ untold path depth e. absurd (cc e);
     looped = λ path depth ancestor ident e. absurd (cc e);
+    uncapped = λ e. cc e;
     entered = λ some. entered;
   }
 
@@ -288,6 +328,7 @@ module _ {S : Type 0} where
   caused_disk tells s now path depth inside entered = record {
     absent = λ untold p d e. absurd (cc e);
     looped = λ p d ancestor ident e. absurd (cc e);
+    uncapped = λ e. cc e;
     entered = λ some. entered;
   }
 
@@ -295,14 +336,16 @@ module _ {S : Type 0} where
   caused_begin tells s now o root failed inside cause entered = record {
     absent = λ untold path depth e. begin_absent tells s now o root failed cause untold path depth (let k : failed ≡ error.Absent path depth = cc e in k);
     looped = λ path depth ancestor ident e. absurd (begin_looped tells s now o root failed cause path depth ancestor ident (let k : failed ≡ error.Loop path depth ancestor ident = cc e in k));
+    uncapped = λ e. begin_uncapped tells s now o root failed cause (let k : failed ≡ error.TooMany = cc e in k);
     entered = λ some. entered;
   }
 
-  pub caused_met : (tells : Bool) (s now : DiskState) (entry : DirEntry) (failed : Error) (inside : Inside S) → FailsFor tells s.faults now.faults entry (chain_of inside) failed → IsEnteredBy (Some (Err failed)) inside.top
+  pub caused_met : (tells : Bool) (s now : DiskState) (entry : DirEntry) (failed : Error) (inside : Inside S) → FailsFor inside.options.follow_links tells s.faults now.faults entry (chain_of inside) failed → IsEnteredBy (Some (Err failed)) inside.top
       → IsCaused tells s now (Some (Err failed)) inside
   caused_met tells s now entry failed inside h entered = record {
-    absent = λ untold path depth e. error_absent s.faults now.faults entry (chain_of inside) failed (h.untold untold) path depth (let k : failed ≡ error.Absent path depth = cc e in k);
-    looped = λ path depth ancestor ident e. error_looped tells s.faults now.faults entry (chain_of inside) failed h path depth ancestor ident (let k : failed ≡ error.Loop path depth ancestor ident = cc e in k);
+    absent = λ untold path depth e. error_absent inside.options.follow_links s.faults now.faults entry (chain_of inside) failed (h.untold untold) path depth (let k : failed ≡ error.Absent path depth = cc e in k);
+    looped = λ path depth ancestor ident e. error_looped inside.options.follow_links tells s.faults now.faults entry (chain_of inside) failed h path depth ancestor ident (let k : failed ≡ error.Loop path depth ancestor ident = cc e in k);
+    uncapped = λ e. error_uncapped inside.options.follow_links tells s.faults now.faults entry (chain_of inside) failed h (let k : failed ≡ error.TooMany = cc e in k);
     entered = λ some. entered;
   }
 
@@ -310,6 +353,7 @@ module _ {S : Type 0} where
   caused_later tells s now last answer inside le h = record {
     absent = λ untold path depth e. (let l = h.absent untold path depth e in omega (arith, le, l));
     looped = h.looped;
+    uncapped = h.uncapped;
     entered = h.entered;
   }
 

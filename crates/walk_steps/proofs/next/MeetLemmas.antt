@@ -22,13 +22,13 @@ use Rattle.walk_steps.specs.declared.inside.Inside.{Inside}
 use Rattle.walk_steps.specs.Inside.{HasRest, IsRead, SameWalk, chain_of, entries_in, entries_due, levels_of, with_top, top_levels}
 use Rattle.walk_steps.specs.Sound.{AreApart, AreShallow, AreSound, AreRead, IsFresh, IsReadable, IsSound, IsTopFresh, KeepsWalk, SameOtherThan, depth_below, held_limit, open_in, open_limit, opens}
 use Rattle.walk_steps.specs.Work.{left_to_do, weight_all, weight_first, weight_in, weight_root}
-use Rattle.walk_steps.specs.Steps.{HasTaken, StepsTo, TurnsTo, Enters}
+use Rattle.walk_steps.specs.Steps.{HasTaken, HasUnreadTop, IsNextInto, StepsTo, TurnsTo, Enters}
 use Rattle.walk_steps.specs.Seen.{IsFailureAt, FailsAsSeen}
 use Rattle.walk_steps.proofs.leave.SoundLemmas.{all_same_reads, clear_unread, opens_snoc, read_join, sound_kept, sound_relevel, sound_unread, weight_kept, weight_snoc}
 use Rattle.walk_steps.proofs.leave.WithinLemmas.{within_fewer}
 use Rattle.walk_steps.proofs.leave.OthersLemmas.{apart_relevel, apart_same, apart_unread, others_levels, others_lists, shallow_relevel, shallow_unread}
 use Rattle.walk_steps.proofs.see.SightLemmas.{chain_snoc}
-use Rattle.walk_steps.proofs.next.StepLemmas.{allowed_none, allowed_one, parts_later, rest_of}
+use Rattle.walk_steps.proofs.next.StepLemmas.{allowed_none, allowed_one, parts_later, past_not_into, rest_of}
 
 -- ---- where an entry that is entered lies
 
@@ -127,10 +127,10 @@ fresh_opened (Kept kept) first faults empty faultless = tt
 
 module _ {S : Type 0} where
   pub came : (s now : DiskState) (sorts : Bool) (by : DirEntry → DirEntry → Ordering) (rest new : Rest) (item : Option Item) (inside : Inside S) → Comes rest item new → HasRest now sorts by inside new → s.faults ≤ now.faults
-      → TurnsTo s sorts by rest item now inside
-  came s now sorts by rest new None inside c h le = record { cuts = 0; new = new; moves = come none c; left = h; allowed = allowed_none s.faults now.faults le }
-  came s now sorts by rest new (Some item) inside c h le =
-      record { cuts = 0; new = new; is_step = record { mid = rest; moves = none; answers = inr c }; left = h; allowed = allowed_none s.faults now.faults le }
+      → (IsNextInto rest → HasUnreadTop inside.top) → TurnsTo s sorts by rest item now inside
+  came s now sorts by rest new None inside c h le lies = record { cuts = 0; new = new; moves = come none c; left = h; allowed = allowed_none s.faults now.faults le }
+  came s now sorts by rest new (Some item) inside c h le lies =
+      record { cuts = 0; new = new; is_step = record { mid = rest; moves = none; answers = inr c }; left = h; allowed = allowed_none s.faults now.faults le; enters = λ entry is. lies }
 
   -- where the level goes back on top
   pub record PutsBack (s now : DiskState) (sorts : Bool) (by : DirEntry → DirEntry → Ordering) (inside : Inside S) (level : Level) (entry : DirEntry) (rest : Rest) : Type 0 where
@@ -183,7 +183,7 @@ module _ {S : Type 0} where
           let same : i ≡ item = is i h.1 in
           came s now sorts by rest new item (with_top inside level)
           (record { below = t.below; part = t.part; was = t.was; faultless = t.faultless; comes = rw (t.first, e, same) (refl, refl) })
-          (taken_rest s now sorts by inside level entry rest plan p h.2) p.faults
+          (taken_rest s now sorts by inside level entry rest plan p h.2) p.faults (λ next. absurd (past_not_into t.below t.part path i plan rest t.was e next))
       at (into folder before contents after plan) e h = absurd (out folder before after h.0)
 
   -- a call on it failed
@@ -215,6 +215,7 @@ module _ {S : Type 0} where
             };
             left = let P : Part → Type 0 = λ q. HasRest now sorts by (with_top inside level) (t.below ++ q ∷ []) in subst P (sym same) (taken_rest s now sorts by inside level entry rest n.0 p n.1);
             allowed = allowed_one s.faults now.faults risen;
+            enters = λ other given. absurd (cc given);
           }
 
       by_path : IsFailureAt entry failed → StepsTo s sorts by rest (Some (Err failed)) now (with_top inside level)
@@ -263,6 +264,7 @@ module _ {S : Type 0} where
           (λ on. inr (device ∙ (t.device on ∙ ap (λ tree. device_to tree inside.root) (sym p.tree)))) in
           came s now sorts by rest ((t.below ++ outer ∷ []) ++ entered f contents ∷ []) (option_map item_of given) new
           (record { below = t.below; part = t.part; was = t.was; faultless = t.faultless; comes = rw (t.first, left) (e.before ∙ sym in_it.1, refl) }) has p.faults
+          (λ next. record { level = e.opened; folder = folder; on_top = e.top; folder_is = e.folder_is; unread = e.unread })
 
   -- ---- what see tells
 

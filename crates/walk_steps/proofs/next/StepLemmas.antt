@@ -14,7 +14,7 @@ use Rattle.walk_rest.specs.declared.level.Due.{Due}
 use Rattle.walk_rest.specs.declared.level.Level.{Level}
 use Rattle.walk_rest.specs.declared.level.Entries.{Entries}
 use Rattle.walk_rest.specs.declared.level.Entries.TheVariants.{Unread, Open, Kept}
-use Rattle.walk_rest.specs.Plan.{Item, Plan, Manner}
+use Rattle.walk_rest.specs.Plan.{Item, Plan, Manner, past, into}
 use Rattle.walk_rest.specs.Listing.{manner_of, device_to}
 use Rattle.walk_rest.specs.Rest.{Part, Rest, Moves, none, cut, come, leave}
 use Rattle.walk_rest.specs.Level.{HasPart, HasParts, IsDue, IsAllowed, AllSameReads, chain_above, with_folder, fault_of, item_of}
@@ -22,7 +22,7 @@ use Rattle.walk_rest.proofs.MoveLemmas.{Parted, parts_parted, parts_snoc, parts_
 use Rattle.walk_steps.specs.declared.inside.Inside.{Inside}
 use Rattle.walk_steps.specs.Inside.{HasRest, IsRead, IsUnbegun, KnowsDevice, SameWalk, levels_of, top_levels, with_top}
 use Rattle.walk_steps.specs.Sound.{AreSound, SameOtherThan}
-use Rattle.walk_steps.specs.Steps.{MovesTo, StepsTo, SkipsTo}
+use Rattle.walk_steps.specs.Steps.{IsNextInto, MovesTo, StepsTo, SkipsTo}
 use Rattle.walk_steps.proofs.leave.SoundLemmas.{all_same_reads, sound_split}
 
 -- ---- counts
@@ -71,6 +71,31 @@ unbegun_relevel (x ∷ y ∷ xs) old new folder entries u = u
 pub no_items : {X : Type 0} (xs : List X) → length xs ≡ 0 → xs ≡ []
 no_items [] e = refl
 no_items (x ∷ xs) e = absurd (omega (arith, e))
+
+-- ---- what is due next
+
+abbrev last_or : {X : Type 0} → X → List X → X
+last_or x [] = x
+last_or x (y ∷ ys) = last_or y ys
+
+last_snoc : {X : Type 0} (y : X) (xs : List X) (x : X) → last_or y (xs ++ x ∷ []) ≡ x
+last_snoc y [] x = refl
+last_snoc y (z ∷ xs) x = last_snoc z xs x
+
+same_last : {X : Type 0} (xs ys : List X) (x y : X) → xs ++ x ∷ [] ≡ ys ++ y ∷ [] → x ≡ y
+same_last xs ys x y e = sym (last_snoc x xs x) ∙ (ap (last_or x) e ∙ last_snoc x ys y)
+
+first_not_into : (below : List Part) (part : Part) (item : Item) (rest : Rest) → rest ≡ below ++ part ∷ [] → part.first ≡ Some item → IsNextInto rest → ⊥
+first_not_into below part item rest is first next =
+    let same : part ≡ next.part = same_last below next.below part next.part (sym is ∙ next.is) in
+    let both : Some item ≡ None = sym first ∙ (ap (λ (p : Part). p.first) same ∙ next.first) in
+    cc both
+
+pub past_not_into : (below : List Part) (part : Part) (path : List ℕ) (item : Option Item) (plan : Plan) (rest : Rest) → rest ≡ below ++ part ∷ [] → part.left ≡ past path item plan → IsNextInto rest → ⊥
+past_not_into below part path item plan rest is left next =
+    let same : part ≡ next.part = same_last below next.below part next.part (sym is ∙ next.is) in
+    let both : past path item plan ≡ into next.folder next.before next.contents next.after next.plan = sym left ∙ (ap (λ (p : Part). p.left) same ∙ next.next) in
+    cc both
 
 module _ {S : Type 0} where
   pub knows_at : (tree : Tree) (inside : Inside S) (levels : List Level) → levels_of inside ≡ levels → KnowsDevice tree inside → IsTrue inside.options.same_file_system → IsUnbegun levels ⊎ (inside.device ≡ device_to tree inside.root)
@@ -152,6 +177,7 @@ module _ {S : Type 0} where
     is_step = record { mid = k.is_step.mid; moves = moves_on m.cuts k.cuts rest m.new k.is_step.mid m.moves k.is_step.moves; answers = k.is_step.answers };
     left = k.left;
     allowed = allowed_both m.cuts k.cuts s0.faults s.faults now.faults le lf m.allowed k.allowed;
+    enters = k.enters;
   }
 
   pub moves_none : (s : DiskState) (sorts : Bool) (by : DirEntry → DirEntry → Ordering) (inside : Inside S) (rest : Rest) → HasRest s sorts by inside rest → MovesTo s sorts by rest s inside
@@ -175,6 +201,7 @@ module _ {S : Type 0} where
         is_step = record { mid = m.new; moves = m.moves; answers = (nothing, refl) };
         left = let P : Rest → Type 0 = λ r. HasRest s sorts by new r in subst P nothing (rest_retop s sorts by inside new m.new same device (f ∙ sym e) m.left);
         allowed = m.allowed;
+        enters = λ entry is. absurd (cc is);
       }
     where
       at : (r : Rest) → HasParts s (manner_of s.tree inside.options sorts by inside.root) inside.root [] [] r → r ≡ []
@@ -243,6 +270,7 @@ module _ {S : Type 0} where
           faults = append-nil left;
         }) (knows_relevel s.tree inside old new folder entries h.device);
         allowed = allowed_none s.faults s.faults (omega arith);
+        enters = λ entry is. absurd (cc is);
       }
 
   pub first_turn : (s : DiskState) (sorts : Bool) (by : DirEntry → DirEntry → Ordering) (inside : Inside S) (old new : Level) (entry : DirEntry) (rest : Rest) → HasRest s sorts by (with_top inside old) rest
@@ -268,6 +296,7 @@ module _ {S : Type 0} where
           faults = p.top.faults ∙ (ap (map fault_of) (faultless ∙ sym none_due));
         }) (knows_relevel s.tree inside old new folder entries h.device);
         allowed = allowed_none s.faults s.faults (omega arith);
+        enters = λ other is next. absurd (first_not_into p.below p.part (item_of entry) rest p.rest_is due next);
       }
 
   -- the same level in other memory

@@ -314,6 +314,7 @@ module _ {S : Type 0} where
           device = λ on. inr (take_device s now sorts by inside old new rest t (begun_open xs old is_open) h on);
         };
         allowed = allowed_one s.faults now.faults risen;
+        enters = λ entry given. absurd (cc given);
       }
 
   -- ---- taking and meeting, one after the other
@@ -321,7 +322,7 @@ module _ {S : Type 0} where
   earlier_turn : (s now last : DiskState) (sorts : Bool) (by : DirEntry → DirEntry → Ordering) (rest : Rest) (inside : Inside S) (answer : Option Item) → s.faults ≤ now.faults → now.faults ≤ last.faults
       → TurnsTo now sorts by rest answer last inside → TurnsTo s sorts by rest answer last inside
   earlier_turn s now last sorts by rest inside None le lf m = record { cuts = m.cuts; new = m.new; moves = m.moves; left = m.left; allowed = allowed_before m.cuts s.faults now.faults last.faults le m.allowed }
-  earlier_turn s now last sorts by rest inside (Some item) le lf m = record { cuts = m.cuts; new = m.new; is_step = m.is_step; left = m.left; allowed = allowed_before m.cuts s.faults now.faults last.faults le m.allowed }
+  earlier_turn s now last sorts by rest inside (Some item) le lf m = record { cuts = m.cuts; new = m.new; is_step = m.is_step; left = m.left; allowed = allowed_before m.cuts s.faults now.faults last.faults le m.allowed; enters = m.enters }
 
   pub turned_result : {E : Type 0} (s now last : DiskState) (sorts : Bool) (by : DirEntry → DirEntry → Ordering) (rest : Rest) (inside : Inside S) (result : Result (Option Item) E) → s.faults ≤ now.faults → now.faults ≤ last.faults
       → IfOk result (λ answer. TurnsTo now sorts by rest answer last inside) → IfOk result (λ answer. TurnsTo s sorts by rest answer last inside)

@@ -22,25 +22,32 @@ clean_snoc (q ∷ ps) p h e = (h.0, clean_snoc ps p h.1 e)
 abbrev Keeps : Rest → Option Item → Rest → Type 0
 Keeps old item new = (due_in old ≡ items_of item ++ due_in new) × HasNoFaults new
 
-comes_in : (below : List Part) (part : Part) (first : Option Item) (left : Plan) (item : Option Item) (new : Rest)
-    → HasNoFaults below → part.faults ≡ [] → part.first ≡ first → part.left ≡ left → ComesIn below part first left item new → Keeps (below ++ part ∷ []) item new
-comes_in below part (Some first) left item new clean faults f l c = (
-  due_snoc below part
-      ∙ (rw (f, c.0, c.1) (sym (ap (λ xs. first ∷ xs) (due_snoc below (record part { first = None }))))),
-  rw c.1 (clean_snoc below (record part { first = None }) clean faults),
-)
-comes_in below part None done item new clean faults f l c = elim c [ ]
-comes_in below part None (past path given plan) item new clean faults f l c = (
-  due_snoc below part ∙ (rw (f, l, c.0, c.1) (append_assoc (items_of given) (items_in plan) (due_in below) ∙ sym (ap (λ xs. items_of given ++ xs) (due_snoc below (record part { left = plan }) ∙ rw f refl)))),
-  rw c.1 (clean_snoc below (record part { left = plan }) clean faults),
-)
-comes_in below part None (into folder before contents after plan) item new clean faults f l c =
+-- what comes was due first
+pub comes_equal : (below : List Part) (part : Part) (first : Option Item) (left : Plan) (item : Option Item) (new : Rest)
+    → part.first ≡ first → part.left ≡ left → ComesIn below part first left item new → due_in (below ++ part ∷ []) ≡ items_of item ++ due_in new
+comes_equal below part (Some first) left item new f l c =
+    due_snoc below part ∙ (rw (f, c.0, c.1) (sym (ap (λ xs. first ∷ xs) (due_snoc below (record part { first = None })))))
+comes_equal below part None done item new f l c = elim c [ ]
+comes_equal below part None (past path given plan) item new f l c =
+    due_snoc below part ∙ (rw (f, l, c.0, c.1) (append_assoc (items_of given) (items_in plan) (due_in below) ∙ sym (ap (λ xs. items_of given ++ xs) (due_snoc below (record part { left = plan }) ∙ rw f refl))))
+comes_equal below part None (into folder before contents after plan) item new f l c =
     let inner : Part = entered folder contents in
     let outer : Part = record part { first = after; left = plan } in
     let first_eq : due_in new ≡ items_in contents ++ ((items_of after ++ items_in plan) ++ due_in below) =
-    rw c.1 (due_snoc (below ++ outer ∷ []) inner ∙ ap (λ xs. items_in contents ++ xs) (due_snoc below outer)) in (
-      due_snoc below part ∙ (rw (f, l, c.0, first_eq) (simp append_assoc)),
-      rw c.1 (clean_snoc (below ++ outer ∷ []) inner (clean_snoc below outer clean faults) refl),
+    rw c.1 (due_snoc (below ++ outer ∷ []) inner ∙ ap (λ xs. items_in contents ++ xs) (due_snoc below outer)) in
+    due_snoc below part ∙ (rw (f, l, c.0, first_eq) (simp append_assoc))
+
+comes_in : (below : List Part) (part : Part) (first : Option Item) (left : Plan) (item : Option Item) (new : Rest)
+    → HasNoFaults below → part.faults ≡ [] → part.first ≡ first → part.left ≡ left → ComesIn below part first left item new → Keeps (below ++ part ∷ []) item new
+comes_in below part (Some first) left item new clean faults f l c =
+    (comes_equal below part (Some first) left item new f l c, rw c.1 (clean_snoc below (record part { first = None }) clean faults))
+comes_in below part None done item new clean faults f l c = elim c [ ]
+comes_in below part None (past path given plan) item new clean faults f l c =
+    (comes_equal below part None (past path given plan) item new f l c, rw c.1 (clean_snoc below (record part { left = plan }) clean faults))
+comes_in below part None (into folder before contents after plan) item new clean faults f l c =
+    let outer : Part = record part { first = after; left = plan } in (
+      comes_equal below part None (into folder before contents after plan) item new f l c,
+      rw c.1 (clean_snoc (below ++ outer ∷ []) (entered folder contents) (clean_snoc below outer clean faults) refl),
     )
 
 pub comes_due : (old : Rest) (item : Option Item) (new : Rest) → HasNoFaults old → Comes old item new → Keeps old item new

@@ -3,8 +3,10 @@ use Rattle.sd_edge.specs.Paths.{parts_of}
 use Rattle.sd_edge.specs.Disk.{SameTree}
 use Rattle.sd_edge.specs.declared.fault.DiskFault.{DiskFault}
 use Rattle.sd_edge.specs.declared.fault.DiskFault.TheVariants as disk
-use Rattle.file_exchange.proofs.exchanging.CauseLemmas.{on_ok, at_err, risen_since, later_cause}
-use Rattle.file_exchange.proofs.exchanging.ExchangeLemmas.{nothing_left, is_ready, still_path, exchanged_still, leaves_new, left, cleared, crash_cleared, settled_tree, settled_crash, settled_durable}
+use Rattle.file_exchange.specs.declared.fault.ExchangeFault.{ExchangeFault}
+use Rattle.file_exchange.specs.declared.fault.ExchangeFault.TheVariants as exchange_fault
+use Rattle.file_exchange.proofs.exchanging.CauseLemmas.{on_ok, at_err, if_err, before_move, failed_before, failed_risen, risen_since, later_cause, no_cause}
+use Rattle.file_exchange.proofs.exchanging.ExchangeLemmas.{nothing_left, is_ready, still_path, exchanged_still, leaves_new, left_old, left, cleared, crash_cleared, settled_tree, settled_crash, settled_durable}
 use Rattle.file_exchange.proofs.exchanging.exchange.Goals as goal
 
 pub fill_and_rename-requires : goal.fill_and_rename-requires
@@ -98,14 +100,17 @@ returns-clause-settled g c =
     (g.D.Disk.state c.fill_and_rename.new.disk) (g.D.Disk.state c.clear.new.disk) (c.in-Err.ensures.ways told)
     (rw c.as_str-temporary.ensures.same at (c.in-Err.ensures.crash told)) (rw c.as_str-temporary.ensures.same at (c.clear.ensures.tree told))).1
 
+pub returns-in-Ok-clause-old : goal.returns-in-Ok-clause-old
+returns-in-Ok-clause-old g c = λ told is. absurd (c.settle.ensures.moved is)
+
 pub returns-in-Ok-clause-cleared : goal.returns-in-Ok-clause-cleared
 returns-in-Ok-clause-cleared g c =
-    λ told is.
+    λ told.
     let created = rw c.in-Some.is at (c.in_ok-temporary.ensures.created told) in
     let moved = rw c.as_str-temporary.ensures.same at (c.in-Ok.ensures.moved told) in
     let same = settled_tree (g.D.Disk.state c.args.disk.now) (g.D.Disk.state c.create_temporary.new.disk) _ _ c.args.bytes.now (g.met.D.Disk.is_tree c.args.disk.now told) (c.requires told) created
     c.settle.result _ _ moved (c.settle.ensures.settled told) (c.settle.ensures.refused told) in
-    inl (exchanged_still (g.D.Disk.state c.args.disk.now) (g.D.Disk.state c.create_temporary.new.disk) _ _ c.args.bytes.now (g.met.D.Disk.is_tree c.args.disk.now told) (c.requires told) created (g.D.Disk.state c.fill_and_rename.new.disk) (g.D.Disk.state c.settle.new.disk) moved same).others
+    if_err c.settle.result (λ fault failed. inl (exchanged_still (g.D.Disk.state c.args.disk.now) (g.D.Disk.state c.create_temporary.new.disk) _ _ c.args.bytes.now (g.met.D.Disk.is_tree c.args.disk.now told) (c.requires told) created (g.D.Disk.state c.fill_and_rename.new.disk) (g.D.Disk.state c.settle.new.disk) moved same).others)
 
 pub returns-in-Ok-clause-none_free : goal.returns-in-Ok-clause-none_free
 returns-in-Ok-clause-none_free g c = λ told is. absurd (c.settle.ensures.not_no_name is)
@@ -120,18 +125,31 @@ pub returns-in-Ok-clause-cause : goal.returns-in-Ok-clause-cause
 returns-in-Ok-clause-cause g c =
     later_cause _ _ _ _ c.settle.result (omega (arith, c.in_ok-temporary.ensures.cause.never_falls, c.in-Ok.ensures.cause.never_falls)) c.settle.ensures.cause
 
+pub returns-in-Ok-clause-move_cause : goal.returns-in-Ok-clause-move_cause
+returns-in-Ok-clause-move_cause g c =
+    later_cause _ _ _ _ c.settle.result (omega (arith, c.in_ok-temporary.ensures.cause.never_falls, c.in-Ok.ensures.cause.never_falls)) c.settle.ensures.move_cause
+
+pub returns-clause-old : goal.returns-clause-old
+returns-clause-old g c =
+    λ told is.
+    let created = rw c.in-Some.is at (c.in_ok-temporary.ensures.created told) in
+    let failed : c.clear.result ≡ exchange_fault.Disk disk.Failed = cc in
+    let before = failed_before c.clear.result c.in-Err.fault (inl failed) c.clear.ensures.fault in
+    let fault : c.in-Err.fault ≡ exchange_fault.Disk disk.Failed = elim c.clear.ensures.fault [ inl none ↦ absurd (before.0 none) | inr same ↦ sym same ∙ failed ] in
+    left_old (g.D.Disk.state c.args.disk.now) (g.D.Disk.state c.create_temporary.new.disk) _ _ c.args.bytes.now (g.met.D.Disk.is_tree c.args.disk.now told) (c.requires told) created
+    (g.D.Disk.state c.fill_and_rename.new.disk) (g.D.Disk.state c.clear.new.disk) (c.in-Err.ensures.ways told)
+    (rw c.as_str-temporary.ensures.same at (c.in-Err.ensures.old told (ap (λ (e : ExchangeFault). Err e) fault))) (rw c.as_str-temporary.ensures.same at (c.clear.ensures.tree told))
+
 pub returns-clause-cleared : goal.returns-clause-cleared
 returns-clause-cleared g c =
     λ told is.
     let created = rw c.in-Some.is at (c.in_ok-temporary.ensures.created told) in
-    let failed : c.clear.result ≡ disk.Failed = cc in
-    let some : c.clear.result ≢ disk.NoMemory = λ none. cc in
-    let fault : c.in-Err.fault ≡ disk.Failed = elim c.clear.ensures.fault [ inl none ↦ absurd (some none) | inr same ↦ sym same ∙ failed ] in
-    let risen = risen_since _ _ _ c.in_ok-temporary.ensures.cause.never_falls (c.in-Err.ensures.cause.failed (ap (λ (f : DiskFault). Err f) fault)) in
+    let before = failed_before c.clear.result c.in-Err.fault is c.clear.ensures.fault in
+    let risen = risen_since _ _ _ c.in_ok-temporary.ensures.cause.never_falls (failed_risen _ _ _ c.in-Err.fault c.in-Err.ensures.cause c.in-Err.ensures.move_cause before.1) in
     cleared (g.D.Disk.state c.args.disk.now) (g.D.Disk.state c.create_temporary.new.disk) _ _ _ (g.met.D.Disk.is_tree c.args.disk.now told) (c.requires told) created
     (g.D.Disk.state c.fill_and_rename.new.disk) (g.D.Disk.state c.clear.new.disk) (c.in-Err.ensures.ways told)
     (rw c.as_str-temporary.ensures.same at (c.in-Err.ensures.refused told)) (rw c.as_str-temporary.ensures.same at (c.clear.ensures.tree told))
-    (rw c.as_str-temporary.ensures.same at (c.clear.ensures.cleared told some)) risen c.clear.ensures.faults
+    (rw c.as_str-temporary.ensures.same at (c.clear.ensures.cleared told before.0)) risen c.clear.ensures.faults
 
 pub returns-in_default-clause-refused : goal.returns-in_default-clause-refused
 returns-in_default-clause-refused g c =

@@ -1,7 +1,7 @@
 use Rattle.std.proofs.Common.{is_lt, rules}
 use Rattle.std.proofs.lemmas.List.Sorted.{ranks_by, answers_always}
 use Rattle.sd_edge.specs.Tree.{name_cmp}
-use Rattle.sd_core.proofs.listing.StackLemmas.{name_total}
+use Rattle.chosen_files.proofs.PlaceLemmas.{name_total}
 use Rattle.sd_core.proofs.listing.sort_by_name.Goals as goal
 
 pub returns-clause-sorted : goal.returns-clause-sorted

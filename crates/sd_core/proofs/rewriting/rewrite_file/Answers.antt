@@ -2,7 +2,7 @@ use Rattle.std.proofs.Common.{◌∙◌, arith, subst, List, ℕ}
 use Rattle.sd_edge.specs.declared.fault.DiskFault.TheVariants as disk
 use Rattle.sd_core.specs.Rewriting.{NewBytes}
 use Rattle.file_exchange.proofs.CauseLemmas.{at_err, step_cause}
-use Rattle.sd_core.proofs.rewriting.NewBytesLemmas.{reads_file, passed_as, same_file, changed_file, left_file, cleared_since, none_found, new_bytes, differ, same, exchange_passed, read_leaves, rewrite_leaves, rewrite_durable}
+use Rattle.sd_core.proofs.rewriting.NewBytesLemmas.{reads_file, passed_as, same_file, changed_file, left_file, cleared_since, none_found, new_bytes, differ, same, exchange_passed, exchange_cause, read_leaves, rewrite_leaves, rewrite_durable}
 use Rattle.sd_core.proofs.rewriting.rewrite_file.Goals as goal
 use Rattle.sd_core.proofs.rewriting.rewrite_file.Goals.{then-changed+in_ok-exchange, else-changed}
 
@@ -32,6 +32,11 @@ returns-in_err-exchange-clause-cleared g c =
     λ told is.
     cleared_since _ _ (g.D.Disk.state c.exchange.new.disk) _ c.in_ok-bytes.ensures.tree c.in_ok-bytes.ensures.cause.never_falls
     (c.in_err-exchange.ensures.cleared told (exchange_passed c.from_residual-in_err-exchange.result c.in_err-exchange.field-0.0 disk.Failed c.from_residual-in_err-exchange.ensures.1 is))
+
+pub returns-in_err-exchange-clause-cause : goal.returns-in_err-exchange-clause-cause
+returns-in_err-exchange-clause-cause g c =
+    exchange_cause _ _ _ _ c.from_residual-in_err-exchange.result c.in_err-exchange.field-0.0 c.in_ok-bytes.ensures.cause.never_falls c.from_residual-in_err-exchange.ensures.1
+    c.in_err-exchange.ensures.cause c.in_err-exchange.ensures.move_cause
 
 pub returns-clause-rewritten : goal.returns-clause-rewritten
 returns-clause-rewritten g c =

@@ -1,6 +1,6 @@
 use Rattle.std.proofs.Common.{◌∙◌, refl, sym, subst}
 use Rattle.std.proofs.lemmas.Result.{IfOk-weaker, on_ok_weaker, on_err_weaker}
-use Rattle.sd_core.specs.Chosen.{ListsChosen}
+use Rattle.chosen_files.specs.Chosen.{ListsChosen}
 use Rattle.sd_core.specs.WordsRead.{order_of}
 use Rattle.sd_core.proofs.sweep.GlobsLemmas.{invalid_told}
 use Rattle.sd_core.proofs.sweep.SweepLemmas.{file_paths, rewrites_tree, leaves_tree, no_room_in_tree}

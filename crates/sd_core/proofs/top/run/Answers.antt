@@ -3,7 +3,7 @@ use Rattle.std.proofs.lemmas.Option.{same_Some}
 use Rattle.sd_edge.specs.Count.{HasRisen}
 use Rattle.sd_edge.specs.Paths.{reached}
 use Rattle.std.specs.Prelude.{None, true}
-use Rattle.sd_core.specs.Globs.{IsFirstInvalid}
+use Rattle.chosen_files.specs.Globs.{IsFirstInvalid}
 use Rattle.sd_core.specs.Headline.{HasNoRoom}
 use Rattle.sd_core.specs.Words.{TreeOrder}
 use Rattle.sd_core.specs.WordsRead.{order_of}

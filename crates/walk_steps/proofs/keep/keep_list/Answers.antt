@@ -1,7 +1,7 @@
 use Rattle.std.proofs.Common.{◌≡◌, ◌+◌, ap, inl, inr, arith}
 use Rattle.std.specs.Prelude.{slice_set}
 use Rattle.walk_steps.specs.Sound.{open_in, opens}
-use Rattle.walk_steps.proofs.keep.KeepLemmas.{ReplacesOne, stands, replaced, kept_counted, kept_oldest, kept_work, open_one, readable_at}
+use Rattle.walk_steps.proofs.keep.KeepLemmas.{ReplacesOne, stands, replaced, kept_counted, kept_oldest, kept_waits, kept_work, open_one, readable_at}
 use Rattle.walk_steps.proofs.keep.keep_list.Given as given
 use Rattle.walk_steps.proofs.keep.keep_list.Goals as goal
 
@@ -91,3 +91,7 @@ returns-in_ok-keep_level-clause-shallow g c = (kept g c).shallow
 pub returns-in_ok-keep_level-clause-counted : goal.returns-in_ok-keep_level-clause-counted
 returns-in_ok-keep_level-clause-counted g c = kept_counted (g.D.Disk.state c.args.disk.now) (g.D.Disk.state c.keep_level.new.disk) c.args.levels.now.items c.in-Some.place c.index_mut.result.now c.keep_level.new.level
     (stands c.args.levels.now.items c.as_slice.result.now c.in-Some.place c.index_mut.result.now c.as_slice.ensures.value c.in-Some.ensures.found c.index_mut.ensures.value) c.in_ok-keep_level.ensures.due
+
+pub returns-in_ok-keep_level-clause-listed_each : goal.returns-in_ok-keep_level-clause-listed_each
+returns-in_ok-keep_level-clause-listed_each g c = kept_waits (g.D.Disk.state c.args.disk.now) (g.D.Disk.state c.keep_level.new.disk) c.args.levels.now.items c.in-Some.place c.index_mut.result.now c.keep_level.new.level
+    (stands c.args.levels.now.items c.as_slice.result.now c.in-Some.place c.index_mut.result.now c.as_slice.ensures.value c.in-Some.ensures.found c.index_mut.ensures.value) c.in_ok-keep_level.ensures.listed_each

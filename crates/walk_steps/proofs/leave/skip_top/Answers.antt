@@ -1,12 +1,16 @@
 use Rattle.std.proofs.Common.{◌≡◌, ◌+◌, ◌∷◌, ◌++◌, [], Some, List, refl, sym, subst, ◌∙◌, ap, arith, append-nil}
 use Rattle.walk_rest.specs.declared.level.Level.{Level}
+use Rattle.walk_steps.specs.Causes.{faults_due}
 use Rattle.walk_steps.specs.Inside.{levels_of}
+use Rattle.walk_steps.specs.Listed.{waits_in}
 use Rattle.walk_steps.specs.Sound.{AreApart, AreShallow, AreSound, AreRead, opens, open_in}
 use Rattle.walk_steps.specs.Work.{weight_all, weight_of}
 use Rattle.walk_steps.proofs.leave.SoundLemmas.{sound_split, sound_one, sound_kept, read_split, opens_snoc, weight_kept, weight_snoc}
 use Rattle.walk_steps.proofs.leave.WithinLemmas.{within_fewer}
 use Rattle.walk_steps.proofs.leave.OthersLemmas.{fresh_top, others_closed, shallow_split}
 use Rattle.walk_steps.proofs.next.StepLemmas.{top_is, skipped, skipped_none, rest_of, rest_parts, knows_at, no_items}
+use Rattle.walk_steps.proofs.next.CauseLemmas.{due_snoc}
+use Rattle.walk_steps.proofs.take.WaitsLemmas.{waits_snoc}
 use Rattle.walk_steps.proofs.leave.skip_top.Given as given
 use Rattle.walk_steps.proofs.leave.skip_top.Goals as goal
 
@@ -88,3 +92,31 @@ returns-in-None-clause-others g c = λ number apart is.
     let was = top_is c.args.inside.now level (sym c.take.ensures.value ∙ c.in-Some.is) in
     let same : levels_of c.args.inside.now ≡ c.pop.new.self.items ++ level ∷ [] = was ∙ ap (λ (xs : List Level). xs ++ level ∷ []) (c.in-None.ensures.items ∙ append-nil c.pop.new.self.items) in
     (refl, subst (AreApart number) same apart)
+
+-- ---- what isn't due any more
+
+pub returns-in-None-clause-waits : goal.returns-in-None-clause-waits
+returns-in-None-clause-waits g c =
+    let level = c.in-Some.level in
+    let was = ap waits_in (top_is c.args.inside.now level (sym c.take.ensures.value ∙ c.in-Some.is)) in
+    let same = ap (λ (xs : List Level). waits_in (xs ++ level ∷ [])) (c.in-None.ensures.items ∙ append-nil c.pop.new.self.items) in
+    omega (arith, was, same)
+
+pub returns-in-None-clause-due : goal.returns-in-None-clause-due
+returns-in-None-clause-due g c =
+    let level = c.in-Some.level in
+    let was = ap faults_due (top_is c.args.inside.now level (sym c.take.ensures.value ∙ c.in-Some.is)) in
+    let same = ap (λ (xs : List Level). faults_due (xs ++ level ∷ [])) (c.in-None.ensures.items ∙ append-nil c.pop.new.self.items) in
+    omega (arith, was, same)
+
+pub returns-in-Some-pop-clause-waits : goal.returns-in-Some-pop-clause-waits
+returns-in-Some-pop-clause-waits g c =
+    let was = ap waits_in (was_in g c) in
+    let all = waits_snoc (c.pop.new.self.items ++ c.in-Some-pop.below ∷ []) c.in-Some.level in
+    omega (arith, was, all)
+
+pub returns-in-Some-pop-clause-due : goal.returns-in-Some-pop-clause-due
+returns-in-Some-pop-clause-due g c =
+    let was = ap faults_due (was_in g c) in
+    let all = due_snoc (c.pop.new.self.items ++ c.in-Some-pop.below ∷ []) c.in-Some.level in
+    omega (arith, was, all)

@@ -1,4 +1,4 @@
-use Rattle.std.proofs.Common.{◌≡◌, None, Some, Ok, Err, Option, Bool, true, false, inl, refl, sym, subst, ◌∙◌, ap, arith}
+use Rattle.std.proofs.Common.{◌≡◌, None, Some, Ok, Err, Option, Bool, inl, refl, sym, subst, ◌∙◌, ap, arith}
 use Rattle.std.specs.Prelude.{option_map}
 use Rattle.walk_rest.specs.declared.entry.DirEntry.{DirEntry}
 use Rattle.walk_rest.specs.Level.{item_of}
@@ -16,6 +16,8 @@ use Rattle.walk_steps.proofs.leave.WithinLemmas.{keeps_on}
 use Rattle.walk_steps.proofs.next.MeetLemmas.{PutsBack, met_stays, met_error, met_enters, back_sound, back_keeps, back_work, seen_here, enters_sound, enters_keeps, enters_work, refused_keeps}
 use Rattle.walk_steps.proofs.next.CauseLemmas.{caused_met, caused_none, caused_ok, counts_same, entered_by, enters_due, error_allowed, fails_for, read_not, top_not}
 use Rattle.walk_steps.proofs.next.ListedLemmas.{enters_hidden, enters_settled, hidden_deep, settled_read}
+use Rattle.walk_steps.specs.Listed.{waits_first}
+use Rattle.walk_steps.proofs.take.WaitsLemmas.{enters_waits, same_below}
 use Rattle.walk_steps.proofs.next.meet.Goals as goal
 
 pub returns-in_err-entry-in-Ok-Enters-clause-keeps : goal.returns-in_err-entry-in-Ok-Enters-clause-keeps
@@ -279,7 +281,7 @@ returns-in_ok-named-in-Err-clause-counted g c =
     let now = g.D.Disk.state c.see.new.disk in
     let inside = with_top c.args.inside.now c.args.level in
     counts_same (faults_told g.D.Disk.tells (Some (Err c.in_ok-named-in-Err.field-0))) s now (levels_of inside) (levels_of inside) refl
-    (error_allowed g.D.Disk.tells s.faults now.faults c.args.entry (chain_of inside) c.in_ok-named-in-Err.field-0 (fails_for g.D.Disk.tells (g.D.Disk.state c.args.disk.now) (g.D.Disk.state c.see.new.disk) c.args.inside.now (chain_of (with_top c.args.inside.now c.args.level)) c.args.entry c.in_ok-named-in-Err.field-0 _ c.in_ok-named-in-Err.ensures.same
+    (error_allowed c.args.inside.now.options.follow_links g.D.Disk.tells s.faults now.faults c.args.entry (chain_of inside) c.in_ok-named-in-Err.field-0 (fails_for g.D.Disk.tells (g.D.Disk.state c.args.disk.now) (g.D.Disk.state c.see.new.disk) c.args.inside.now (chain_of (with_top c.args.inside.now c.args.level)) c.args.entry c.in_ok-named-in-Err.field-0 _ c.in_ok-named-in-Err.ensures.same
     c.see.ensures.faults c.in-Err.ensures.cause c.in-Err.ensures.failed))
 
 -- ---- what is passed over
@@ -304,3 +306,27 @@ returns-in-None-clause-settles g c = λ gives.
     let entered = c.in_ok-entry-in-Ok-Enters.ensures.entered in
     enters_settled c.args.inside.now c.enter.new.inside c.args.level c.in-Ok-Enters.entry c.in-Ok-Enters.folder c.in_ok-entry-in-Ok-Enters.field-0 c.args.inside.now.options.max_depth entered (rw c.in-Ok-Enters.field-0-is at c.in-Ok-Enters.ensures.sight).1
     (enters_hidden c.args.inside.now c.enter.new.inside c.args.level c.in-Ok-Enters.entry c.in-Ok-Enters.folder c.in_ok-entry-in-Ok-Enters.field-0 entered c.in-None.is gives)
+
+-- ---- entries below the root
+
+pub returns-then-is_shown-clause-listed_each : goal.returns-then-is_shown-clause-listed_each
+returns-then-is_shown-clause-listed_each g c = let same = same_below c.in-Ok-Stays.entry c.args.entry (rw c.in-Ok-Stays.field-0-is at c.in-Ok-Stays.ensures.sight) in omega (arith, same)
+
+pub returns-else-is_shown-clause-listed_each : goal.returns-else-is_shown-clause-listed_each
+returns-else-is_shown-clause-listed_each g c = omega arith
+
+pub returns-in-Some-clause-listed_each : goal.returns-in-Some-clause-listed_each
+returns-in-Some-clause-listed_each g c =
+    let most = enters_waits c.args.inside.now c.enter.new.inside c.args.level c.in-Ok-Enters.entry c.in-Ok-Enters.folder c.in_ok-entry-in-Ok-Enters.field-0 c.in_ok-entry-in-Ok-Enters.ensures.entered c.requires.first in
+    let given = ap waits_first c.in-Some.is in
+    let same = same_below c.in-Ok-Enters.entry c.args.entry (rw c.in-Ok-Enters.field-0-is at c.in-Ok-Enters.ensures.sight).0 in
+    omega (arith, most, given, same)
+
+pub returns-in-None-clause-listed_each : goal.returns-in-None-clause-listed_each
+returns-in-None-clause-listed_each g c =
+    let most = enters_waits c.args.inside.now c.enter.new.inside c.args.level c.in-Ok-Enters.entry c.in-Ok-Enters.folder c.in_ok-entry-in-Ok-Enters.field-0 c.in_ok-entry-in-Ok-Enters.ensures.entered c.requires.first in
+    let same = same_below c.in-Ok-Enters.entry c.args.entry (rw c.in-Ok-Enters.field-0-is at c.in-Ok-Enters.ensures.sight).0 in
+    omega (arith, most, same)
+
+pub returns-in_ok-named-in-Err-clause-listed_each : goal.returns-in_ok-named-in-Err-clause-listed_each
+returns-in_ok-named-in-Err-clause-listed_each g c = omega arith

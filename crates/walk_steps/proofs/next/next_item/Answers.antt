@@ -1,4 +1,4 @@
-use Rattle.std.proofs.Common.{◌≡◌, ◌+◌, ◌++◌, [], Some, Bool, Option, refl, sym, subst, ◌∙◌, ap, arith, inl, inr, append-nil}
+use Rattle.std.proofs.Common.{◌≡◌, ◌++◌, [], Some, Bool, Option, refl, sym, subst, ◌∙◌, ap, arith, inl, inr, append-nil}
 use Rattle.walk_rest.specs.declared.level.Level.{Level}
 use Rattle.walk_rest.specs.Plan.{Item}
 use Rattle.walk_steps.specs.Causes.{CountsFaults, IsCaused, faults_due, faults_told}
@@ -13,7 +13,7 @@ use Rattle.walk_steps.proofs.next.CauseLemmas.{caused_later, counts_from, counts
 use Rattle.walk_steps.proofs.next.next_item.Given as given
 use Rattle.walk_steps.proofs.leave.SoundLemmas.{sound_front}
 use Rattle.walk_steps.proofs.next.ListedLemmas.{risen_from, risen_on, room_at, room_entered, settled_at, to_list_at, to_list_none}
-use Rattle.walk_steps.specs.Listed.{GivesAtOnce, IsToListOnTop}
+use Rattle.walk_steps.specs.Listed.{GivesAtOnce, GivesListed, IsToListOnTop, gives_below, waits_in}
 use Rattle.walk_steps.proofs.next.next_item.Goals as goal
 
 pub loop-level-init : goal.loop-level-init
@@ -23,6 +23,7 @@ loop-level-init g c = record {
   less = omega arith;
   moved = λ tells by rest same h. moves_none (g.D.Disk.state c.args.disk.now) (g.S.Order.sorts c.args.inside.now.order) by c.args.inside.now rest h;
   counted = λ fits. inl (omega arith);
+  each = omega arith;
   once = λ unsorted gives few. (
     refl,
     room_entered (g.D.Disk.state c.args.disk.now) (open_limit c.args.inside.now.options) c.args.inside.now.options.max_depth c.args.inside.now.stack.items c.args.inside.now.top
@@ -64,6 +65,12 @@ loop-level-preserved g c =
           counts_on 0 s0 s now (levels_of c.args.inside.now) (levels_of c.loop-level.inside) (levels_of c.turn.new.inside) k.faults (inv.counted fits)
           (counts_from 0 s s now (levels_of c.loop-level.inside) (levels_of mid) (levels_of c.turn.new.inside) (omega arith) (ap faults_due levels)
           (subst T c.in-Ok-None.field-0-is (c.in-Ok-None.ensures.counted (still_fits g.D.Disk.tells g.S.Order.compares_by g.S.Order.sorts s0 s c.args.inside.now c.loop-level.inside c.in-Some.level fits inv.moved inv.keeps.same (sym c.take.ensures.value ∙ c.in-Some.is))))));
+      each =
+          (let T : Option Item → Type 0 = λ a. GivesListed (gives_below a) s (levels_of mid) now (levels_of c.turn.new.inside) in
+          let more = subst T c.in-Ok-None.field-0-is c.in-Ok-None.ensures.listed_each in
+          let same = ap waits_in levels in
+          let so_far = inv.each in
+          omega (arith, more, same, so_far));
       once = λ unsorted gives few.
           (let o = inv.once unsorted gives few in
           let options = inv.keeps.same.options in
@@ -247,7 +254,43 @@ returns-clause-looped g c = λ path depth ancestor ident e. absurd (cc e)
 pub returns-clause-entered : goal.returns-clause-entered
 returns-clause-entered g c = λ level folder top unread in_it. absurd (let none = c.take.ensures.after in cc (none, top))
 
+pub returns-in-Ok-Some-clause-uncapped : goal.returns-in-Ok-Some-clause-uncapped
+returns-in-Ok-Some-clause-uncapped g c = (caused g c).uncapped
+
+pub returns-in-Err-clause-uncapped : goal.returns-in-Err-clause-uncapped
+returns-in-Err-clause-uncapped g c = λ e. cc e
+
+pub returns-clause-uncapped : goal.returns-clause-uncapped
+returns-clause-uncapped g c = λ e. cc e
+
 -- ---- what is listed
+
+pub returns-in-Ok-Some-clause-listed_each : goal.returns-in-Ok-Some-clause-listed_each
+returns-in-Ok-Some-clause-listed_each g c =
+    let s = g.D.Disk.state c.loop-level.disk in
+    let now = g.D.Disk.state c.turn.new.disk in
+    let mid = with_top c.loop-level.inside c.in-Some.level in
+    let same = ap waits_in (retop_levels c.loop-level.inside c.loop-level.inside c.in-Some.level (sym c.take.ensures.value ∙ c.in-Some.is) refl) in
+    let T : Option Item → Type 0 = λ a. GivesListed (gives_below a) s (levels_of mid) now (levels_of c.turn.new.inside) in
+    let more = subst T c.in-Ok-Some.field-0-is c.in-Ok-Some.ensures.listed_each in
+    let so_far = c.loop-level.invariant.each in
+    omega (arith, more, same, so_far)
+
+pub returns-in-Err-clause-listed_each : goal.returns-in-Err-clause-listed_each
+returns-in-Err-clause-listed_each g c =
+    let none = ap waits_in c.give_up.ensures.gone in
+    let a = c.loop-level.invariant.keeps.later in
+    let b = c.turn.ensures.keeps.later in
+    let d = c.give_up.ensures.listed in
+    omega (arith, none, a, b, d)
+
+pub returns-clause-listed_each : goal.returns-clause-listed_each
+returns-clause-listed_each g c =
+    let inv = c.loop-level.invariant in
+    let top = sym c.take.ensures.value ∙ c.in_default.is in
+    let after = ap (λ (t : Option Level). waits_in (c.loop-level.inside.stack.items ++ top_levels t)) (c.take.ensures.after ∙ sym top) in
+    let so_far = inv.each in
+    omega (arith, so_far, after)
 
 pub returns-in-Ok-Some-clause-listed_once : goal.returns-in-Ok-Some-clause-listed_once
 returns-in-Ok-Some-clause-listed_once g c = λ unsorted gives few.

@@ -6,7 +6,7 @@ use Rattle.walk_rest.specs.declared.entry.DirEntry.{DirEntry}
 use Rattle.walk_rest.specs.Rest.{Rest}
 use Rattle.walk_steps.specs.Causes.{CountsFaults, FitsTree}
 use Rattle.walk_steps.specs.Inside.{HasRest, levels_of}
-use Rattle.walk_steps.specs.Listed.{GivesAtOnce, HasRoom, IsToListOnTop, entered_in}
+use Rattle.walk_steps.specs.Listed.{GivesAtOnce, GivesListed, HasRoom, IsToListOnTop, entered_in}
 use Rattle.walk_steps.specs.Sound.{IsSound, KeepsWalk, open_limit}
 use Rattle.walk_steps.specs.Steps.{MovesTo}
 use Rattle.walk_steps.specs.Work.{left_to_do}
@@ -22,6 +22,7 @@ invariant-loop-level g l = record {
       → MovesTo (g.D.Disk.state l.fn.disk) (g.S.Order.sorts l.fn.inside.order) by rest (g.D.Disk.state l.disk) l.inside;
   counted : FitsTree g.D.Disk.tells g.S.Order.compares_by (g.D.Disk.state l.fn.disk) (g.S.Order.sorts l.fn.inside.order) l.fn.inside
       → CountsFaults 0 (g.D.Disk.state l.fn.disk) (levels_of l.fn.inside) (g.D.Disk.state l.disk) (levels_of l.inside);
+  each : GivesListed 0 (g.D.Disk.state l.fn.disk) (levels_of l.fn.inside) (g.D.Disk.state l.disk) (levels_of l.inside);
   once : g.S.Order.sorts l.fn.inside.order ≡ false → GivesAtOnce l.fn.inside.options → entered_in (levels_of l.fn.inside) ≤ open_limit l.fn.inside.options
       → ((g.D.Disk.state l.disk).listed ≡ (g.D.Disk.state l.fn.disk).listed) × HasRoom (open_limit l.fn.inside.options) l.fn.inside.options.max_depth l.inside.stack.items l.inside.top;
   whole : IsTrue g.D.Disk.tells → (by : DirEntry → DirEntry → Ordering) → (count : ℕ) → g.S.Order.compares_by l.fn.inside.order by → g.S.Order.sorts l.fn.inside.order ≡ true → GivesAtOnce l.fn.inside.options

@@ -11,6 +11,8 @@ use Rattle.walk_steps.proofs.next.TakeStepLemmas.{Takes, same_read, take_sound, 
 use Rattle.walk_steps.specs.Sound.{AreRead}
 use Rattle.walk_steps.proofs.next.ListedLemmas.{hidden_listed, settled_top}
 use Rattle.walk_steps.proofs.leave.OthersLemmas.{shallow_split}
+use Rattle.walk_steps.specs.Listed.{waits_in}
+use Rattle.walk_steps.proofs.take.WaitsLemmas.{gives_met, waits_snoc}
 use Rattle.walk_steps.proofs.next.take_next.Goals as goal
 
 pub take_entry-requires-clause-readable : goal.take_entry-requires-clause-readable
@@ -217,3 +219,27 @@ returns-in-Ok-Some-clause-passes g c = λ gives.
     let level = c.args.level in
     hidden_listed n c.in-Ok-Some.entry.depth (g.D.Disk.state c.args.disk.now).listed (g.D.Disk.state c.take_entry.new.disk).listed (g.D.Disk.state c.meet.new.disk).listed level.folder level.entries c.meet.result
     (shallow_split n c.args.inside.now.stack.items level c.requires.sound.shallow).1 (rw c.in-Ok-Some.field-0-is at c.in-Ok-Some.ensures.depth) c.take_entry.ensures.later c.take_entry.ensures.at_most_one c.meet.ensures.listed (c.meet.ensures.hides gives)
+
+-- ---- entries below the root
+
+pub returns-in-Ok-None-clause-listed_each : goal.returns-in-Ok-None-clause-listed_each
+returns-in-Ok-None-clause-listed_each g c =
+    let later = c.take_entry.ensures.later in
+    let same = c.close_level.ensures.listed in
+    let xs = c.args.inside.now.stack.items in
+    let a = waits_snoc xs c.args.level in
+    let d = ap waits_in (popped_levels c.pop.new.self.items c.pop.result xs c.pop.ensures.items) in
+    omega (arith, later, same, a, d)
+
+pub returns-in-Ok-Some-clause-listed_each : goal.returns-in-Ok-Some-clause-listed_each
+returns-in-Ok-Some-clause-listed_each g c =
+    gives_met (g.D.Disk.state c.args.disk.now) (g.D.Disk.state c.take_entry.new.disk) (g.D.Disk.state c.meet.new.disk) c.args.inside.now.stack.items c.args.level c.take_entry.new.level (levels_of c.meet.new.inside) c.in-Ok-Some.entry c.meet.result
+    (rw c.in-Ok-Some.field-0-is at c.in-Ok-Some.ensures.listed_each) c.meet.ensures.listed c.meet.ensures.listed_each
+
+pub returns-in-Err-Failed-clause-listed_each : goal.returns-in-Err-Failed-clause-listed_each
+returns-in-Err-Failed-clause-listed_each g c =
+    let xs = c.args.inside.now.stack.items in
+    let a = waits_snoc xs c.args.level in
+    let b = waits_snoc xs c.take_entry.new.level in
+    let less = c.take_entry.ensures.waits in
+    omega (arith, a, b, less)

@@ -12,7 +12,8 @@ use Rattle.walk_steps.proofs.next.CauseLemmas.{caused_disk, caused_none, caused_
 use Rattle.walk_steps.proofs.next.ListedLemmas.{ok_result, one_list, one_result, room_unread, settled_result, to_list_not, to_list_root}
 use Rattle.walk_steps.proofs.leave.SoundLemmas.{opens_snoc}
 use Rattle.walk_steps.specs.Sound.{held_limit, open_limit}
-use Rattle.walk_steps.specs.Listed.{IsToList}
+use Rattle.walk_steps.specs.Listed.{IsToList, waits_first}
+use Rattle.walk_steps.proofs.take.WaitsLemmas.{gives_first, gives_result, waits_relevel, waits_snoc}
 use Rattle.walk_steps.proofs.next.turn.Goals as goal
 
 pub returns-in-Some-clause-turns : goal.returns-in-Some-clause-turns
@@ -282,3 +283,36 @@ returns-clause-listed_whole g c = λ tells by count compares sorts to_list none.
     let F : _ → Type 0 = λ f. IsToList tree n f c.args.level.entries count in
     let E : _ → Type 0 = λ e. IsToList tree n (Some c.in-Some-folder.folder) e count in
     c.in_ok-read_directory-in-Some-folder.ensures.listed_whole tells by count compares sorts (subst E unread (subst F c.in-Some-folder.is to_list)) none
+
+-- ---- entries below the root
+
+pub returns-in-Some-clause-listed_each : goal.returns-in-Some-clause-listed_each
+returns-in-Some-clause-listed_each g c =
+    let level : Level = record c.args.level { faults = c.pop.new.self } in
+    let less = waits_relevel c.args.inside.now.stack.items c.args.level level (omega arith) refl refl in
+    omega (arith, less)
+
+pub returns-in-Some-take-clause-listed_each : goal.returns-in-Some-take-clause-listed_each
+returns-in-Some-take-clause-listed_each g c =
+    let level : Level = record c.args.level { first = c.take.new.self; faults = c.pop.new.self } in
+    gives_first (g.D.Disk.state c.args.disk.now) c.args.inside.now.stack.items c.args.level level c.in-Some-take.entry (sym c.take.ensures.value ∙ c.in-Some-take.is) c.take.ensures.after refl refl
+
+pub returns-then-is_read-clause-listed_each : goal.returns-then-is_read-clause-listed_each
+returns-then-is_read-clause-listed_each g c =
+    let s = g.D.Disk.state c.args.disk.now in
+    let level : Level = record c.args.level { first = c.take.new.self; faults = c.pop.new.self } in
+    let first = ap waits_first (c.take.ensures.after ∙ sym (sym c.take.ensures.value ∙ c.in_default-take.is)) in
+    gives_result s (g.D.Disk.state c.take_next.new.disk) (levels_of (with_top c.args.inside.now c.args.level)) (levels_of (with_top c.args.inside.now level)) (levels_of c.take_next.new.inside) c.take_next.result
+    (waits_relevel c.args.inside.now.stack.items c.args.level level (omega (arith, first)) refl refl) c.take_next.ensures.listed_each
+
+pub returns-in-None-clause-listed_each : goal.returns-in-None-clause-listed_each
+returns-in-None-clause-listed_each g c =
+    let xs = c.args.inside.now.stack.items in
+    let a = waits_snoc xs c.args.level in
+    gives_result (g.D.Disk.state c.args.disk.now) (g.D.Disk.state c.read_root.new.disk) (levels_of (with_top c.args.inside.now c.args.level)) xs (levels_of c.read_root.new.inside) c.read_root.result (omega (arith, a)) c.read_root.ensures.listed_each
+
+pub returns-clause-listed_each : goal.returns-clause-listed_each
+returns-clause-listed_each g c =
+    let a = waits_snoc c.args.inside.now.stack.items c.args.level in
+    let h = c.in_ok-read_directory-in-Some-folder.ensures.listed_each in
+    omega (arith, a, h)

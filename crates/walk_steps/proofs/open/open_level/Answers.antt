@@ -9,6 +9,7 @@ use Rattle.walk_steps.proofs.leave.SoundLemmas.{all_same_reads}
 use Rattle.walk_steps.proofs.open.OpenLemmas.{clear_from, is_sound_top, keeps_none, keeps_top, known_folder, less_top, no_top, not_ok, opened_to, read_moves, sound_on, sound_top}
 use Rattle.walk_steps.proofs.next.CauseLemmas.{counts_read}
 use Rattle.walk_steps.proofs.next.ListedLemmas.{settled_read}
+use Rattle.walk_steps.proofs.take.WaitsLemmas.{gives_opened}
 use Rattle.walk_steps.proofs.open.open_level.Goals as goal
 
 one_at_most : (e : Entries) → open_in e ≤ 1
@@ -119,3 +120,14 @@ returns-clause-settled g c = settled_read c.args.inside.now.options.max_depth (S
 
 pub returns-clause-unlisted : goal.returns-clause-unlisted
 returns-clause-unlisted g c = c.open_list.ensures.listed
+
+pub returns-in_err-entries-clause-listed_each : goal.returns-in_err-entries-clause-listed_each
+returns-in_err-entries-clause-listed_each g c = not_ok _ c.from_residual.result c.from_residual.ensures.0
+
+pub returns-clause-listed_each : goal.returns-clause-listed_each
+returns-clause-listed_each g c =
+    let level : Level = record { folder = Some c.args.folder; first = None; entries = c.in_ok-entries.entries; faults = c.open_list.new.faults } in
+    let light = c.in_ok-entries.ensures.light in
+    let none = c.new-faults.ensures.len in
+    let same = c.open_list.ensures.listed in
+    gives_opened (g.D.Disk.state c.args.disk.now) (g.D.Disk.state c.open_list.new.disk) c.args.inside.now.stack.items level refl (omega (arith, light, none)) (omega (arith, same))

@@ -9,6 +9,7 @@ use Rattle.walk_steps.proofs.leave.WithinLemmas.{keeps_on}
 use Rattle.walk_steps.proofs.next.StepLemmas.{moves_more}
 use Rattle.walk_steps.proofs.open.OpenLemmas.{keeps_refused, keeps_room, less_room, no_top, not_ok, on_ok, room_sound, same_walk, still_taken}
 use Rattle.walk_steps.proofs.next.CauseLemmas.{counts_on}
+use Rattle.walk_steps.proofs.take.WaitsLemmas.{gives_on}
 use Rattle.walk_steps.specs.Listed.{IsTopSettled}
 use Rattle.walk_steps.proofs.open.read_directory.Goals as goal
 use Rattle.walk_steps.proofs.open.read_directory.Goals.{then-inside-folder-via-then-inside-folder, then-inside-folder-via-else-inside-folder+then-sorts}
@@ -132,3 +133,12 @@ returns-clause-settled g c =
 
 pub returns-clause-listed_whole : goal.returns-clause-listed_whole
 returns-clause-listed_whole g c = λ tells by count compares sorts to_list none. absurd (let e = sym c.if-sorts.false ∙ (c.sorts.ensures ∙ sorts) in cc e)
+
+pub returns-in_err-make_room-clause-listed_each : goal.returns-in_err-make_room-clause-listed_each
+returns-in_err-make_room-clause-listed_each g c = not_ok _ c.from_residual.result c.from_residual.ensures.0
+
+pub returns-clause-listed_each : goal.returns-clause-listed_each
+returns-clause-listed_each g c =
+    on_ok c.open_level.result
+    (gives_on 0 (g.D.Disk.state c.args.disk.now) (g.D.Disk.state c.make_room.new.disk) (g.D.Disk.state c.open_level.new.disk) c.args.inside.now.stack.items c.make_room.new.inside.stack.items (levels_of c.open_level.new.inside) c.in_ok-make_room.ensures.listed_each)
+    c.open_level.ensures.listed_each

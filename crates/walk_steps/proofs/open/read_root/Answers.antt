@@ -1,4 +1,4 @@
-use Rattle.std.proofs.Common.{◌≡◌, ◌+◌, ◌≤◌, inl, Some, Err, length, arith, [], ◌∷◌, ◌++◌, reverse, List, Bool, None, refl, sym, subst, ◌∙◌, ap}
+use Rattle.std.proofs.Common.{◌≡◌, ◌≤◌, inl, Some, Err, length, arith, [], ◌∷◌, ◌++◌, reverse, List, Bool, None, refl, sym, subst, ◌∙◌, ap}
 use Rattle.walk_rest.specs.declared.level.Level.{Level}
 use Rattle.walk_rest.specs.declared.entry.DirEntry.{DirEntry}
 use Rattle.walk_rest.specs.declared.level.Entries.TheVariants.{Kept}
@@ -7,10 +7,12 @@ use Rattle.walk_rest.specs.Plan.{Item}
 use Rattle.std.specs.Prelude.{Option}
 use Rattle.walk_steps.specs.Causes.{CountsFaults, IsCaused, IsEnteredBy, faults_due, faults_told}
 use Rattle.walk_steps.specs.Inside.{levels_of, with_top}
+use Rattle.walk_steps.specs.Listed.{GivesListed, gives_below}
 use Rattle.walk_steps.specs.Sound.{AllAt}
 use Rattle.walk_steps.specs.Steps.{CannotBegin, TurnsTo}
 use Rattle.walk_steps.proofs.open.RootLemmas.{at_root_none, at_root_one, looks, root_begun, root_failed, root_keeps, root_less, root_refused, root_sound}
 use Rattle.walk_steps.proofs.next.CauseLemmas.{begin_allowed, caused_begin, caused_none, counts_same, due_snoc, top_not}
+use Rattle.walk_steps.proofs.take.WaitsLemmas.{gives_root}
 use Rattle.walk_steps.proofs.open.read_root.Goals as goal
 use Rattle.walk_steps.proofs.open.read_root.Goals.{in-Ok+in_ok-push-in-Ok, in-Err+in_ok-named-in-Err}
 
@@ -132,4 +134,20 @@ returns-clause-counted g c =
           let F : Error → Type 0 = CannotBegin g.D.Disk.tells s now inside.options inside.root in
           let cause = subst F (sym w.in_ok-named-in-Err.ensures.same) w.in-Err.ensures.failed in
           subst P (sym w.answer-is) (counts_same (faults_told g.D.Disk.tells (Some (Err failed))) s now inside.stack.items (levels_of new) same (begin_allowed g.D.Disk.tells s now inside.options inside.root failed later cause))
+    ]
+
+pub returns-clause-listed_each : goal.returns-clause-listed_each
+returns-clause-listed_each g c =
+    let s = g.D.Disk.state c.args.disk.now in
+    let now = g.D.Disk.state c.begin.new.disk in
+    let xs = c.args.inside.now.stack.items in
+    let b = c.begin.ensures in
+    let level : Level = record { folder = None; first = None; entries = Kept c.match-begin.kept; faults = c.new.result } in
+    let new = with_top c.begin.new.inside level in
+    let stack : levels_of new ≡ xs ++ level ∷ [] = ap (λ (i : _). i.stack.items ++ level ∷ []) b.same in
+    let same = b.lists.listed in
+    let P : Option Item → Type 0 = λ answer. GivesListed (gives_below answer) s xs now (levels_of new) in
+    elim c.match-begin.branch [
+      | in-Ok+in_ok-push-in-Ok w ↦ subst P (sym w.answer-is) (gives_root 0 s now xs (levels_of new) level stack refl refl refl (omega (arith, same)))
+      | in-Err+in_ok-named-in-Err w ↦ subst P (sym w.answer-is) (gives_root 0 s now xs (levels_of new) level stack refl refl refl (omega (arith, same)))
     ]

@@ -1,4 +1,5 @@
 use Rattle.std.proofs.Common.{length, Some, None, refl, ap, arith}
+use Rattle.std.specs.Prelude.{vec_len}
 use Rattle.walk_rest.specs.declared.level.Level.{Level}
 use Rattle.walk_rest.specs.declared.level.Entries.TheVariants.{Unread, Kept}
 use Rattle.walk_rest.specs.Listing.{device_to}
@@ -7,6 +8,7 @@ use Rattle.walk_steps.proofs.leave.SoundLemmas.{all_same_reads, clear_unread}
 use Rattle.walk_steps.proofs.open.OpenLemmas.{clear_from, is_sound_top, keeps_none, keeps_top, less_top, most_open, no_top, not_ok, read_moves, sound_on, sound_top}
 use Rattle.walk_steps.proofs.next.CauseLemmas.{counts_read}
 use Rattle.walk_steps.proofs.next.ListedLemmas.{listed_read}
+use Rattle.walk_steps.proofs.take.WaitsLemmas.{counted_each, gives_read}
 use Rattle.walk_steps.proofs.open.read_whole.Goals as goal
 
 pub read_folder-requires : goal.read_folder-requires
@@ -119,3 +121,15 @@ returns-clause-listed_whole g c = λ tells by count compares to_list none.
     let device = device_to s.tree inside.root in
     listed_read s (g.D.Disk.state c.read_folder.new.disk) inside.options (g.S.Order.sorts inside.order) by device c.args.folder c.new-faults.result.items c.read_folder.new.faults.items _ count
     (λ inner contents. r.read tells by device inner compares contents) r.unopened to_list none
+
+pub returns-in_err-entries-clause-listed_each : goal.returns-in_err-entries-clause-listed_each
+returns-in_err-entries-clause-listed_each g c = not_ok _ c.from_residual.result c.from_residual.ensures.0
+
+pub returns-clause-listed_each : goal.returns-clause-listed_each
+returns-clause-listed_each g c =
+    let s = g.D.Disk.state c.args.disk.now in
+    let now = g.D.Disk.state c.read_folder.new.disk in
+    let r = c.in_ok-entries.ensures in
+    let level : Level = record { folder = Some c.args.folder; first = None; entries = Kept c.in_ok-entries.entries; faults = c.read_folder.new.faults } in
+    let n = c.in_ok-entries.entries.ok.0 in
+    gives_read s now c.args.inside.now.stack.items level (vec_len c.in_ok-entries.entries) refl (omega (arith, n)) (counted_each (vec_len c.in_ok-entries.entries) s now r.taken r.later)

@@ -5,8 +5,8 @@ use Rattle.hir_core.specs.Stamps.{visited_at, AllUpTo}
 use Rattle.hir_core.proofs.visited.StampsLemmas.{next-unvisited, unset-unvisited, unset-up_to}
 use Rattle.hir_core.proofs.visited.Visited.next_place.Goals as goal
 
-pub returns-then-self-lt18446744073709551615 : goal.returns-then-self-lt18446744073709551615
-returns-then-self-lt18446744073709551615 c =
+pub returns-then-self-lt255 : goal.returns-then-self-lt255
+returns-then-self-lt255 c =
     let many : length c.self.inside.stamps.items ≡ c.args.spots = omega arith in
     next-unvisited _ c.self.inside.stamps.items c.self.invariant ∙ ap (λ n. replicate n false) many
 

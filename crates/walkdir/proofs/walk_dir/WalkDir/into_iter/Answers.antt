@@ -1,9 +1,11 @@
 use Rattle.std.proofs.Common.{◌∙◌, ap, sym, subst}
 use Rattle.walk_rest.specs.Rest.{start}
 use Rattle.walk_steps.specs.declared.inside.Inside.{Inside}
+use Rattle.walk_steps.specs.Causes.{faults_due}
 use Rattle.walk_steps.specs.Inside.{HasRest, levels_of}
+use Rattle.walk_steps.specs.Listed.{waits_in}
 use Rattle.walk_steps.specs.Sound.{IsSound, opens}
-use Rattle.walkdir.proofs.WalkLemmas.{begun_opens, begun_rest, begun_sound}
+use Rattle.walkdir.proofs.WalkLemmas.{begun_due, begun_opens, begun_rest, begun_sound, begun_waits}
 use Rattle.walkdir.proofs.walk_dir.WalkDir.into_iter.Goals as goal
 
 pub returns-clause-order : goal.returns-clause-order
@@ -27,3 +29,11 @@ returns-clause-sound g c =
 pub returns-clause-none_open : goal.returns-clause-none_open
 returns-clause-none_open g c =
     ap (λ (inside : Inside _). opens (levels_of inside)) c.new.ensures.inside ∙ begun_opens c.args.self.options c.args.self.order c.args.self.root c.begun.result c.begun.ensures
+
+pub returns-clause-none_waits : goal.returns-clause-none_waits
+returns-clause-none_waits g c =
+    ap (λ (inside : Inside _). waits_in (levels_of inside)) c.new.ensures.inside ∙ begun_waits c.args.self.options c.args.self.order c.args.self.root c.begun.result c.begun.ensures
+
+pub returns-clause-none_due : goal.returns-clause-none_due
+returns-clause-none_due g c =
+    ap (λ (inside : Inside _). faults_due (levels_of inside)) c.new.ensures.inside ∙ begun_due c.args.self.options c.args.self.order c.args.self.root c.begun.result c.begun.ensures

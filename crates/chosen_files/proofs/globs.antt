@@ -1,0 +1,2 @@
+-- What the proof about the reading of globs uses.
+pub mod GlobsLemmas

@@ -1,0 +1,38 @@
+-- The files that a tree command works on.
+use Rattle.std.specs.Prelude.{◌≡◌, ◌≢◌, ◌↔◌, ℕ, List, [], ◌∷◌, ◌++◌, map, Some, true, Contains}
+use Rattle.std.specs.List.{join_with_byte}
+use Rattle.std.specs.List.Sorted.{IsStrictlySortedBy}
+use Rattle.sd_edge.specs.Tree.{NameList, Tree, name_list_cmp, file_at}
+use Rattle.sd_edge.specs.Paths.{reached}
+use Rattle.sd_edge.specs.Files.{path_text}
+use Rattle.chosen_files.specs.Globs.{FitsAny}
+
+-- a regular file with at least one byte stands at a name list
+abbrev pub IsNonemptyFile : Tree → NameList → Type 0
+IsNonemptyFile tree place = (byte : ℕ) × (bytes : List ℕ) × (mode : ℕ) × (file_at tree place ≡ Some (byte ∷ bytes, mode))
+
+-- A chosen file lies properly below the root, is a regular file with at least one byte, and its names after the root's, joined by `/`,
+-- fit a glob.
+pub record IsChosen (tree : Tree) (root : NameList) (globs : List (List ℕ)) (place : NameList) : Type 0 where
+  pub names : NameList
+  pub below : place ≡ root ++ names
+  pub proper : names ≢ []
+  pub is_file : IsNonemptyFile tree place
+  pub fits : FitsAny globs (join_with_byte 47 names)
+
+-- the list of the name lists of which a fact holds, strictly in their order
+pub record IsListOf (P : NameList → Type 0) (places : List NameList) : Type 0 where
+  pub in_order : IsStrictlySortedBy name_list_cmp places
+  pub these : (place : NameList) → Contains places place ↔ P place
+
+-- the chosen files below a root, in the order of name lists
+abbrev pub Chosen : Tree → NameList → List (List ℕ) → List NameList → Type 0
+Chosen tree root globs places = IsListOf (IsChosen tree root globs) places
+
+-- the paths of the chosen files below the node that the root leads to, links followed
+pub record ListsChosen (tree : Tree) (root : List ℕ) (globs : List (List ℕ)) (paths : List (List ℕ)) : Type 0 where
+  pub top : NameList
+  pub leads : reached tree root true ≡ Some top
+  pub places : List NameList
+  pub chosen : Chosen tree top globs places
+  pub paths_are : paths ≡ map path_text places

@@ -1,0 +1,2 @@
+-- What the laws of rewriting use.
+pub mod KeepingLemmas

@@ -1,0 +1,5 @@
+-- What the rewriting of one file uses.
+pub mod ReachedLemmas
+pub mod FindingLemmas
+pub mod CauseLemmas
+pub mod FileLemmas

@@ -1,0 +1,6 @@
+pub mod Paths
+pub mod Faults
+pub mod Reading
+pub mod Rewritten
+pub mod OneFile
+pub mod Examples

@@ -1,0 +1,6 @@
+mod LevelLemmas
+mod BlockLemmas
+mod MarkLemmas
+mod BlockTurnLemmas
+mod FollowLemmas
+pub mod ThreadsLemmas

@@ -1,0 +1,29 @@
+use Rattle.std.proofs.Common.{true, None, ap, ◌∙◌, arith}
+use Rattle.hir_core.specs.Pass.{match_of}
+use Rattle.hir_core.specs.Program.{Way}
+use Rattle.hir_core.specs.Trails.{way_of}
+use Rattle.hir_core.proofs.block.ThreadsLemmas.{answer-begun}
+use Rattle.hir_core.proofs.block.Block.follow_starts.Goals as goal
+
+pub returns-then-branch-clause-answer : goal.returns-then-branch-clause-answer
+returns-then-branch-clause-answer c =
+    answer-begun c.args.text.now c.args.spots.now c.args.places.begin c.args.groups c.loop-starts.starts.place (match_of true c.follow.new.self.trail) c.follow.new.self.marks c.loop-starts.self.later
+    c.follow.new.self.later (0, way_of c.begin.new.self) (omega arith) (ap (λ (w : Way). (0, w)) c.in_ok-begin.ensures)
+    (rw c.if-branch.true at c.in_ok-follow.ensures.followed)
+    ∙ c.loop-starts.invariant.answer
+
+pub loop-starts-preserved : goal.loop-starts-preserved
+loop-starts-preserved c =
+    let followed = rw c.if-branch.false at c.in_ok-follow.ensures.followed in
+    record {
+      answer =
+          c.pass_over.ensures.answer c.args.spots.now c.args.groups c.requires.filters
+          ∙ answer-begun c.args.text.now c.args.spots.now c.args.places.begin c.args.groups c.loop-starts.starts.place None c.follow.new.self.marks c.loop-starts.self.later
+          c.follow.new.self.later (0, way_of c.begin.new.self) (omega arith) (ap (λ (w : Way). (0, w)) c.in_ok-begin.ensures) followed
+          ∙ c.loop-starts.invariant.answer;
+      later = c.in_ok-follow.ensures.later;
+      spent = followed.0;
+      begin = omega (arith, c.loop-starts.invariant.begin, c.pass_over.ensures.after);
+      within = c.pass_over.ensures.within;
+      room = c.in_ok-follow.ensures.room ∙ c.loop-starts.invariant.room;
+    }

@@ -1,0 +1,20 @@
+use Rattle.std.proofs.Common.{◌≡◌, ◌+◌, ◌-◌, ◌≤◌, None, length}
+use Rattle.hir_core.specs.Blocks.{AreSpent}
+use Rattle.hir_core.specs.Pass.{answer, some_run, stops_give, AllFrom}
+use Rattle.hir_core.proofs.block.Block.follow_starts.Given as goal
+
+-- nothing was found, and the answer is the one that is sought
+abbrev pub invariant-loop-starts : goal.invariant-loop-starts
+invariant-loop-starts l = record {
+  answer :
+      answer l.text l.spots l.groups l.starts.place (stops_give l.text l.spots l.self.later) None
+      ≡ answer l.text l.spots l.groups l.fn.starts.place (stops_give l.text l.spots l.fn.self.later) None;
+  later : AllFrom l.text l.places.end l.self.later;
+  spent : AreSpent l.text l.spots l.places.begin l.self.marks (some_run (stops_give l.text l.spots l.self.later));
+  begin : l.places.begin ≤ l.starts.place;
+  within : l.starts.place ≤ length l.text + 1;
+  room : length l.self.marks ≡ length l.fn.self.marks;
+}
+
+abbrev pub decreases-loop-starts : goal.decreases-loop-starts
+decreases-loop-starts l = l.places.end - l.starts.place

@@ -1,0 +1,344 @@
+-- One turn of the search of a block.
+use Rattle.std.proofs.Common.{◌≡◌, ℕ, ◌<◌, ◌≤◌, Bool, true, false, cond, inl, inr, List, [], ◌∷◌, ◌++◌, length, map, Option, Some, None, if◌then◌else◌, refl, sym, ap, ◌∙◌, subst, true≢false, append-nil, arith}
+use Rattle.std.specs.Prelude.{slice_set}
+use Rattle.std.specs.Option.{option_or}
+use Rattle.std.specs.List.{flat_map, AllByRecursion}
+use Rattle.std.proofs.lemmas.Bool.{cases_lt, cond-false, le-ltb, lt-ltb}
+use Rattle.std.proofs.lemmas.Grind.{flat_map-append}
+use Rattle.std.proofs.lemmas.List.{map-append, get_or_past}
+use Rattle.hir_tree.specs.Looks.{holds}
+use Rattle.hir_tree.specs.Runs.{Run, moved, is_seen, byte_size, char_size, first}
+use Rattle.hir_tree.specs.RunsLaws.{forget}
+use Rattle.hir_tree.proofs.ListLemmas.{All-append}
+use Rattle.hir_tree.proofs.RunsLemmas.{TakesWithin, byte_size-within, char_size-within}
+use Rattle.hir_core.specs.Blocks.{mark_of, trying, GivesWayTo, AreSpent}
+use Rattle.hir_core.specs.Pass.{first_of, some_run, taken, leads, leads_on, comes, keeps, was_visited, visiting, stop_gives, stops_give, fresh}
+use Rattle.hir_core.specs.Program.{spot_at, is_unmarked, way, marked, closed, follow, gives, ClosesFall}
+use Rattle.hir_core.specs.Trails.{Stop}
+use Rattle.hir_core.specs.declared.spot.Spot.{Spot}
+use Rattle.hir_core.specs.declared.spot.Spot.TheVariants as spot
+use Rattle.hir_core.proofs.PlacedLemmas.{gives-at, gives-close}
+use Rattle.hir_core.proofs.closure.ClosureLemmas.{Entry, entry, seen_by, nonempty, pend, Children, Covers, Covers-seen}
+use Rattle.hir_core.proofs.closure.TurnLemmas.{led_to, bare, cons_not_nil, cons_head, cons_tail, led_bare, led_children, taken_gives, gives_fail, some_run-nonempty, visited_again}
+use Rattle.hir_core.proofs.pass.PassLemmas.{Stands-dropped, Stands-led, Stands-kept, Stands-closed, gives_fresh, nowhere}
+use Rattle.hir_core.proofs.block.LevelLemmas.{place, level, AllAt}
+use Rattle.hir_core.proofs.block.BlockLemmas.{Blocking, top-level, replaced, dropped-done, kept-later, moved-on, blocking-match, blocking-begin, blocking-end}
+use Rattle.hir_core.proofs.block.MarkLemmas.{adding, adding-here, adding-elsewhere, AreMarks, AreMarks-adding, AreMarks-tried, tried_by, tried-is}
+
+module _ (text : List ℕ) (spots : List Spot) (falls : ClosesFall spots) (begin end : ℕ) where
+  -- entries past the block have seen nothing
+  abbrev pub Outside : List Entry → Type 0
+  Outside es = AllByRecursion (λ (e : Entry). end ≤ place e → seen_by e ≡ []) es
+
+  -- What the search of a block keeps true.
+  pub record Searching (goal : Option Run) (marks : List Bool) (kept stack : List Stop) : Type 0 where
+    pub tried : ℕ → List ℕ
+    pub entries : List Entry
+    pub are_marks : AreMarks (length spots) begin marks tried
+    pub are_stack : map bare entries ≡ stack
+    pub outside : Outside entries
+    pub blocking : Blocking text spots falls goal tried (stops_give text spots kept) entries
+
+  -- entries that a spot leads to are at its place
+  led_at : (s : Spot) (e : Entry) → AllAt (place e) (led_to text s (marked e.spot e.way))
+  led_at s e = only (led_to text s (marked e.spot e.way)) (led_children text spots falls (place e) s e refl)
+    where
+      only : (cs : List Entry) → Children text spots falls (place e) e cs → AllAt (place e) cs
+      only [] h = tt
+      only (c ∷ cs) h = (h.0.0, only cs h.1)
+
+  -- those in the block aren't among them
+  here_outside : {at : ℕ} → at < end → (cs : List Entry) → AllAt at cs → Outside cs
+  here_outside to [] h = tt
+  here_outside to (c ∷ cs) h = ((λ past. absurd (omega (arith, past, to, h.0))), here_outside to cs h.1)
+
+  module _ (goal : Option Run) (marks : List Bool) (kept : List Stop) (tried : ℕ → List ℕ) (e : Entry) (es : List Entry)
+      (are : AreMarks (length spots) begin marks tried) (out : Outside es) (h : Blocking text spots falls goal tried (stops_give text spots kept) (e ∷ es)) where
+    abbrev others : List Entry
+    others = level (place e) es ++ nowhere text spots falls (place e) ∷ []
+
+    -- the search of its place
+    abbrev stands_goal : Option Run
+    stands_goal = first (map forget (stops_give text spots kept ++ pend text spots falls (place e) (e ∷ others)))
+
+    -- an entry that gives nothing is dropped
+    drop_entry : gives text spots e.spot e.way ≡ [] → Blocking text spots falls goal tried (stops_give text spots kept) es
+    drop_entry nothing =
+        replaced text spots falls goal tried tried (stops_give text spots kept) e es [] h nothing tt (λ p other. refl)
+        (Stands-dropped text spots falls (place e) stands_goal (tried (place e)) (stops_give text spots kept) e others nothing
+        (top-level text spots falls goal tried (stops_give text spots kept) e es h, refl)).0
+
+    -- so is one at a spot that was tried at its place
+    drop_tried : (s : Spot) → spot_at spots e.spot ≡ s → is_unmarked s ≡ false → is_seen e.spot (tried (place e)) ≡ true
+        → Blocking text spots falls goal tried (stops_give text spots kept) es
+    drop_tried s k plain seen =
+        elim (Covers-seen text spots falls (place e) e (tried (place e)) others (nonempty (stops_give text spots kept))
+        (top-level text spots falls goal tried (stops_give text spots kept) e es h) seen
+        (λ before. gives-at text spots falls e.spot s e.way k ∙ cond-false _ _ _ plain ∙ shut before)) [
+          | inl some ↦ dropped-done text spots falls goal tried (stops_give text spots kept) e es some h
+          | inr nothing ↦ drop_entry nothing
+        ]
+      where
+        shut : is_seen e.spot (seen_by e) ≡ true
+            → cond (is_seen e.spot (seen_by e)) [] (follow text spots (gives text spots) s (marked e.spot e.way)) ≡ []
+        shut before = ap (λ (b : Bool). cond b [] (follow text spots (gives text spots) s (marked e.spot e.way))) before
+
+    module _ (s : Spot) (k : spot_at spots e.spot ≡ s) (plain : is_unmarked s ≡ false) (new : is_seen e.spot (tried (place e)) ≡ false) where
+      fresh_gives : gives text spots e.spot e.way ≡ follow text spots (gives text spots) s (marked e.spot e.way)
+      fresh_gives =
+          gives_fresh text spots falls (place e) (tried (place e)) (nonempty (stops_give text spots kept)) e others s k plain new
+          (top-level text spots falls goal tried (stops_give text spots kept) e es h)
+
+      -- one that is new gives way to those that its spot leads to
+      lead_entry : follow text spots (gives text spots) s (marked e.spot e.way) ≡ pend text spots falls (place e) (led_to text s (marked e.spot e.way))
+          → Blocking text spots falls goal (adding (place e) e.spot tried) (stops_give text spots kept) (led_to text s (marked e.spot e.way) ++ es)
+      lead_entry same =
+          replaced text spots falls goal tried (adding (place e) e.spot tried) (stops_give text spots kept) e es (led_to text s (marked e.spot e.way)) h
+          (fresh_gives ∙ same) (led_at s e) (adding-elsewhere (place e) e.spot tried)
+          (subst (λ v. Covers-of v) (sym (adding-here (place e) e.spot tried))
+          (Stands-led text spots falls (place e) stands_goal (tried (place e)) (stops_give text spots kept) e others (led_to text s (marked e.spot e.way)) s
+          k plain new (led_children text spots falls (place e) s e refl) same (top-level text spots falls goal tried (stops_give text spots kept) e es h, refl)).0)
+        where
+          Covers-of : List ℕ → Type 0
+          Covers-of v =
+              Covers text spots falls (place e) v (nonempty (stops_give text spots kept)) v
+              (led_to text s (marked e.spot e.way) ++ others)
+
+      -- one that takes bytes goes on from after them
+      take_entry : (f bytes : ℕ) → 0 < bytes
+          → follow text spots (gives text spots) s (marked e.spot e.way) ≡ gives text spots f (way e.way.starts (moved bytes (forget e.way.run))) ++ []
+          → Blocking text spots falls goal (adding (place e) e.spot tried) (stops_give text spots kept)
+          (entry f (way e.way.starts (moved bytes (forget e.way.run))) ∷ es)
+      take_entry f bytes some same =
+          let on : Entry = entry f (way e.way.starts (moved bytes (forget e.way.run))) in
+          moved-on text spots falls goal tried (adding (place e) e.spot tried) (stops_give text spots kept) e on es h
+          (fresh_gives ∙ same ∙ append-nil _) (omega (arith, some)) refl (adding-elsewhere (place e) e.spot tried)
+          (subst (λ v. Covers text spots falls (place e) v (nonempty (stops_give text spots kept ++ gives text spots on.spot on.way)) v others)
+          (sym (adding-here (place e) e.spot tried))
+          (Stands-kept text spots falls (place e) stands_goal (tried (place e)) (stops_give text spots kept) (gives text spots on.spot on.way) e others s
+          k plain new (same ∙ append-nil _) (top-level text spots falls goal tried (stops_give text spots kept) e es h, refl)).0)
+
+    -- the end of a group gives way to what follows it
+    close_entry : (i f : ℕ) → spot_at spots e.spot ≡ spot.Close i f
+        → Blocking text spots falls goal tried (stops_give text spots kept) (entry f (closed i e.way) ∷ es)
+    close_entry i f k =
+        replaced text spots falls goal tried tried (stops_give text spots kept) e es (entry f (closed i e.way) ∷ []) h
+        (gives-close text spots falls e.spot i f e.way k ∙ sym (append-nil _)) (refl, tt) (λ p other. refl)
+        (Stands-closed text spots falls (place e) stands_goal (tried (place e)) (stops_give text spots kept) e others i f k
+        (top-level text spots falls goal tried (stops_give text spots kept) e es h, refl)).0
+
+    -- what a turn leaves, where the mark isn't set
+    leave : (marks' : List Bool) (tried' : ℕ → List ℕ) (cs : List Entry) (stops : List Stop) → AreMarks (length spots) begin marks' tried' → map bare cs ≡ stops
+        → Outside cs → Blocking text spots falls goal tried' (stops_give text spots kept) (cs ++ es)
+        → Searching goal marks' kept (stops ++ map bare es)
+    leave marks' tried' cs stops are' same fresh b = record {
+      tried = tried';
+      entries = cs ++ es;
+      are_marks = are';
+      are_stack = map-append bare cs es ∙ ap (λ xs. xs ++ map bare es) same;
+      outside = All-append (λ (x : Entry). end ≤ place x → seen_by x ≡ []) cs es fresh out;
+      blocking = b;
+    }
+
+    -- the entry at a spot of the program that was not tried at its place
+    module _ (from : begin ≤ place e) (to : place e < end) (few : e.spot < length spots) (room : mark_of (length spots) begin (place e) e.spot < length marks)
+        (new : was_visited marks (mark_of (length spots) begin (place e) e.spot) ≡ false) where
+      abbrev mark : ℕ
+      mark = mark_of (length spots) begin (place e) e.spot
+
+      unseen : is_seen e.spot (tried (place e)) ≡ false
+      unseen = are (place e) e.spot ∙ tried-is (length spots) begin marks (place e) e.spot from few ∙ new
+
+      are_more : AreMarks (length spots) begin (slice_set marks mark true) (adding (place e) e.spot tried)
+      are_more = AreMarks-adding (length spots) begin marks (place e) e.spot from few room tried are
+
+      lead : (s : Spot) → spot_at spots e.spot ≡ s → is_unmarked s ≡ false → leads_on text s (bare e).1 ≡ []
+          → follow text spots (gives text spots) s (marked e.spot e.way) ≡ pend text spots falls (place e) (led_to text s (marked e.spot e.way))
+          → Searching goal (slice_set marks mark true) kept ((leads text s (bare e).1 ++ leads_on text s (bare e).1) ++ map bare es)
+      lead s k plain none_on same =
+          leave (slice_set marks mark true) (adding (place e) e.spot tried) (led_to text s (marked e.spot e.way)) (leads text s (bare e).1 ++ leads_on text s (bare e).1)
+          are_more
+          (led_bare text spots falls (place e) s e ∙ sym (append-nil (leads text s (bare e).1)) ∙ ap (λ xs. leads text s (bare e).1 ++ xs) (sym none_on))
+          (here_outside to (led_to text s (marked e.spot e.way)) (led_at s e))
+          (lead_entry s k plain unseen same)
+
+      take : (s : Spot) (o : Option ℕ) (f : ℕ) → spot_at spots e.spot ≡ s → is_unmarked s ≡ false → ((bytes : ℕ) → o ≡ Some bytes → 0 < bytes)
+          → follow text spots (gives text spots) s (marked e.spot e.way)
+          ≡ flat_map (stop_gives text spots) (taken o f (way e.way.starts (forget e.way.run)))
+          → Searching goal (slice_set marks mark true) kept (taken o f (bare e).1 ++ map bare es)
+      take s None f k plain some same =
+          leave (slice_set marks mark true) (adding (place e) e.spot tried) [] [] are_more refl tt
+          (replaced text spots falls goal tried (adding (place e) e.spot tried) (stops_give text spots kept) e es [] h
+          (fresh_gives s k plain unseen ∙ same) tt (adding-elsewhere (place e) e.spot tried)
+          (subst (λ v. Covers text spots falls (place e) v (nonempty (stops_give text spots kept)) v others) (sym (adding-here (place e) e.spot tried))
+          (Stands-led text spots falls (place e) stands_goal (tried (place e)) (stops_give text spots kept) e others [] s k plain unseen tt same
+          (top-level text spots falls goal tried (stops_give text spots kept) e es h, refl)).0))
+      take s (Some bytes) f k plain some same =
+          leave (slice_set marks mark true) (adding (place e) e.spot tried) (entry f (way e.way.starts (moved bytes (forget e.way.run))) ∷ [])
+          (taken (Some bytes) f (bare e).1) are_more refl ((λ past. refl), tt)
+          (take_entry s k plain unseen f bytes (some bytes refl) same)
+
+      look_same : (f : ℕ) (b : Bool) → cond b (gives text spots f (marked e.spot e.way)) []
+          ≡ pend text spots falls (place e) (if b then entry f (marked e.spot e.way) ∷ [] else [])
+      look_same f true = sym (append-nil _)
+      look_same f false = refl
+
+      sized : (size : ℕ → Option ℕ) → TakesWithin text size → (bytes : ℕ) → size (place e) ≡ Some bytes → 0 < bytes
+      sized size within bytes is = let k = within (place e) bytes is in omega (arith, k.0)
+
+      turn_new : (s : Spot) → spot_at spots e.spot ≡ s → is_unmarked s ≡ false
+          → Searching goal (slice_set marks mark true) kept ((leads text s (bare e).1 ++ leads_on text s (bare e).1) ++ map bare es)
+      turn_new (spot.Bytes set f) k plain =
+          take (spot.Bytes set f) (byte_size set text (place e)) f k plain (sized (byte_size set text) (byte_size-within set text))
+          (taken_gives text spots falls (place e) (byte_size set text (place e)) f e.spot e.way)
+      turn_new (spot.Chars set f) k plain =
+          take (spot.Chars set f) (char_size set text (place e)) f k plain (sized (char_size set text) (char_size-within set text))
+          (taken_gives text spots falls (place e) (char_size set text (place e)) f e.spot e.way)
+      turn_new (spot.Look l f) k plain = lead (spot.Look l f) k plain refl (look_same f (holds l text (place e)))
+      turn_new (spot.Jump f) k plain = lead (spot.Jump f) k plain refl (sym (append-nil _))
+      turn_new (spot.Split a b) k plain =
+          lead (spot.Split a b) k plain refl (ap (λ xs. gives text spots a (marked e.spot e.way) ++ xs) (sym (append-nil _)))
+      turn_new (spot.Open f) k plain = lead (spot.Open f) k plain refl (sym (append-nil _))
+      turn_new (spot.Close i f) k plain = absurd (true≢false plain)
+      turn_new spot.Fail k plain = lead spot.Fail k plain refl refl
+      turn_new spot.Match k plain = absurd (true≢false plain)
+
+    -- an entry gives way to what its spot leads to
+    module _ (from : begin ≤ place e) (to : place e < end) (room : e.spot < length spots → mark_of (length spots) begin (place e) e.spot < length marks) where
+      abbrev after : Spot → Bool → List Stop
+      after s seen = (comes text s seen (bare e).1 ++ keeps text s seen (bare e).1) ++ map bare es
+
+      inside : (s : Spot) → spot_at spots e.spot ≡ s → e.spot < length spots → is_unmarked s ≡ false
+          → (seen : Bool) → was_visited marks (mark_of (length spots) begin (place e) e.spot) ≡ seen
+          → Searching goal (slice_set marks (mark_of (length spots) begin (place e) e.spot) true) kept
+          ((cond seen [] (leads text s (bare e).1) ++ cond seen [] (leads_on text s (bare e).1)) ++ map bare es)
+      inside s k few plain true v =
+          subst (λ bs. Searching goal bs kept (map bare es)) (sym (visited_again marks (mark_of (length spots) begin (place e) e.spot) v))
+          (leave marks tried [] [] are refl tt
+          (drop_tried s k plain (are (place e) e.spot ∙ tried-is (length spots) begin marks (place e) e.spot from few ∙ v)))
+      inside s k few plain false v = turn_new from to few (room few) v s k plain
+
+      past : (seen : Bool) → spot_at spots e.spot ≡ spot.Fail → Searching goal marks kept ((cond seen [] [] ++ cond seen [] []) ++ map bare es)
+      past true k = leave marks tried [] [] are refl tt (drop_entry (gives_fail text spots falls (place e) e k))
+      past false k = leave marks tried [] [] are refl tt (drop_entry (gives_fail text spots falls (place e) e k))
+
+      at_spot : (seen : Bool) → was_visited marks (mark_of (length spots) begin (place e) e.spot) ≡ seen
+          → (s : Spot) → spot_at spots e.spot ≡ s → (s ≡ spot.Match → ⊥) → e.spot < length spots
+          → Searching goal (visiting s (mark_of (length spots) begin (place e) e.spot) marks) kept (after s seen)
+      at_spot seen v (spot.Close i f) k live few = ended seen
+        where
+          ended : (seen : Bool) → Searching goal marks kept (((f, closed i (bare e).1) ∷ keeps text (spot.Close i f) seen (bare e).1) ++ map bare es)
+          ended true = leave marks tried (entry f (closed i e.way) ∷ []) ((f, closed i (bare e).1) ∷ []) are refl ((λ past. absurd (omega (arith, past, to))), tt) (close_entry i f k)
+          ended false = leave marks tried (entry f (closed i e.way) ∷ []) ((f, closed i (bare e).1) ∷ []) are refl ((λ past. absurd (omega (arith, past, to))), tt) (close_entry i f k)
+      at_spot seen v spot.Match k live few = absurd (live refl)
+      at_spot seen v spot.Fail k live few = inside spot.Fail k few refl seen v
+      at_spot seen v (spot.Bytes set f) k live few = inside (spot.Bytes set f) k few refl seen v
+      at_spot seen v (spot.Chars set f) k live few = inside (spot.Chars set f) k few refl seen v
+      at_spot seen v (spot.Look l f) k live few = inside (spot.Look l f) k few refl seen v
+      at_spot seen v (spot.Jump f) k live few = inside (spot.Jump f) k few refl seen v
+      at_spot seen v (spot.Split a b) k live few = inside (spot.Split a b) k few refl seen v
+      at_spot seen v (spot.Open f) k live few = inside (spot.Open f) k few refl seen v
+
+      turn_entry : (seen : Bool) → was_visited marks (mark_of (length spots) begin (place e) e.spot) ≡ seen → (spot_at spots e.spot ≡ spot.Match → ⊥)
+          → Searching goal (trying text spots begin (place e) e.spot marks) kept (after (spot_at spots e.spot) seen)
+      turn_entry seen v live =
+          elim (cases_lt e.spot (length spots)) [
+            | inl few ↦ subst (λ (b : Bool). Searching goal (if b then visiting (spot_at spots e.spot) (mark_of (length spots) begin (place e) e.spot) marks else marks) kept (after (spot_at spots e.spot) seen))
+                (sym (lt-ltb e.spot (length spots) few)) (at_spot seen v (spot_at spots e.spot) refl live few)
+            | inr many ↦ let fail : spot_at spots e.spot ≡ spot.Fail = get_or_past spots e.spot spot.Fail many in
+                subst (λ (b : Bool). Searching goal (if b then visiting (spot_at spots e.spot) (mark_of (length spots) begin (place e) e.spot) marks else marks) kept (after (spot_at spots e.spot) seen))
+                (sym (le-ltb e.spot (length spots) many)) (subst (λ s. Searching goal marks kept (after s seen)) (sym fail) (past seen fail))
+          ]
+
+  -- an entry that has seen nothing gives what it gives without what it saw
+  bare_gives : (e : Entry) → seen_by e ≡ [] → gives text spots e.spot e.way ≡ stop_gives text spots (bare e)
+  bare_gives e new =
+      ap (λ xs. gives text spots e.spot (way e.way.starts (record { at = e.way.run.at; groups = e.way.run.groups; seen = xs }))) new
+
+  -- the first of the stack apart
+  module _ (goal : Option Run) (marks : List Bool) (kept rest : List Stop) (p : Stop) where
+    abbrev At : Type 0
+    At = (tried : ℕ → List ℕ) × (e : Entry) × (es : List Entry) × AreMarks (length spots) begin marks tried × (bare e ≡ p) × (map bare es ≡ rest)
+        × Outside (e ∷ es) × Blocking text spots falls goal tried (stops_give text spots kept) (e ∷ es)
+
+    apart : Searching goal marks kept (p ∷ rest) → At
+    apart c = cases c.entries c.are_stack c.outside c.blocking
+      where
+        cases : (entries : List Entry) → map bare entries ≡ p ∷ rest → Outside entries
+            → Blocking text spots falls goal c.tried (stops_give text spots kept) entries → At
+        cases [] same out b = absurd (cons_not_nil p rest (sym same))
+        cases (e ∷ es) same out b = (c.tried, e, es, c.are_marks, cons_head same, cons_tail same, out, b)
+
+    -- one turn
+    pub Searching-turn : (marks' : List Bool) (stack' : List Stop) → begin ≤ p.1.run.at → p.1.run.at < end
+        → (p.0 < length spots → mark_of (length spots) begin p.1.run.at p.0 < length marks)
+        → Searching goal marks kept (p ∷ rest) → GivesWayTo text spots begin p marks marks' rest stack' → Searching goal marks' kept stack'
+    Searching-turn marks' stack' from to room c turned =
+        let a = apart c in
+        let e = a.1 in
+        let now : GivesWayTo text spots begin (bare e) marks marks' (map bare a.2) stack' =
+        subst (λ r. GivesWayTo text spots begin (bare e) marks marks' r stack') (sym a.5) (subst (λ q. GivesWayTo text spots begin q marks marks' rest stack') (sym a.4) turned) in
+        subst (λ bs. Searching goal bs kept stack') (sym now.1)
+        (subst (λ st. Searching goal (trying text spots begin (place e) e.spot marks) kept st) (sym now.0)
+        (turn_entry goal marks kept a.0 e a.2 a.3 a.6.1 a.7 (subst (λ (q : Stop). begin ≤ q.1.run.at) (sym a.4) from)
+        (subst (λ (q : Stop). q.1.run.at < end) (sym a.4) to)
+        (subst (λ (q : Stop). q.0 < length spots → mark_of (length spots) begin q.1.run.at q.0 < length marks) (sym a.4) room)
+        (was_visited marks (mark_of (length spots) begin (place e) e.spot)) refl now.2))
+
+    -- a thread that goes on past the block is kept
+    pub Searching-kept : end ≤ p.1.run.at → Searching goal marks kept (p ∷ rest) → Searching goal marks (kept ++ p ∷ []) rest
+    Searching-kept past c =
+        let a = apart c in
+        let new : seen_by a.1 ≡ [] = a.6.0 (subst (λ (q : Stop). end ≤ q.1.run.at) (sym a.4) past) in
+        let given : gives text spots a.1.spot a.1.way ≡ stop_gives text spots p = bare_gives a.1 new ∙ ap (stop_gives text spots) a.4 in
+        record {
+          tried = a.0;
+          entries = a.2;
+          are_marks = a.3;
+          are_stack = a.5;
+          outside = a.6.1;
+          blocking =
+              subst (λ ks. Blocking text spots falls goal a.0 ks a.2)
+              (ap (λ xs. stops_give text spots kept ++ xs) (given ∙ sym (append-nil _)) ∙ sym (flat_map-append (stop_gives text spots) kept (p ∷ [])))
+              (kept-later text spots falls goal a.0 (stops_give text spots kept) a.1 a.2 a.7);
+        }
+
+    -- at a match the search of the block is over
+    pub Searching-match : spot_at spots p.0 ≡ spot.Match → Searching goal marks kept (p ∷ rest)
+        → option_or (first_of (stops_give text spots kept)) (Some (forget p.1.run)) ≡ goal
+    Searching-match k c =
+        let a = apart c in
+        ap (λ (x : Stop). option_or (first_of (stops_give text spots kept)) (Some (forget x.1.run))) (sym a.4)
+        ∙ blocking-match text spots falls goal a.0 (stops_give text spots kept) a.1 a.2 (ap (λ (x : Stop). spot_at spots x.0) a.4 ∙ k) a.7
+
+  -- a thread comes into the block
+  pub Searching-begin : (marks : List Bool) (kept : List Stop) (p : Stop) → p.1.run.seen ≡ []
+      → AreSpent text spots begin marks (some_run (stops_give text spots kept))
+      → Searching (first_of (stops_give text spots kept ++ stop_gives text spots p)) marks kept (p ∷ [])
+  Searching-begin marks kept p new spent = record {
+    tried = tried_by (length spots) begin marks;
+    entries = entry p.0 p.1 ∷ [];
+    are_marks = AreMarks-tried (length spots) begin marks;
+    are_stack = ap (λ xs. (p.0, way p.1.starts (record { at = p.1.run.at; groups = p.1.run.groups; seen = xs })) ∷ []) (sym new);
+    outside = ((λ past. new), tt);
+    blocking =
+        blocking-begin text spots falls (tried_by (length spots) begin marks) (stops_give text spots kept) (entry p.0 p.1) new
+        (λ at m k. elim (spent at m (sym (AreMarks-tried (length spots) begin marks at m) ∙ k)) [
+          | inl some ↦ inl (sym (some_run-nonempty _) ∙ some)
+          | inr dead ↦ inr dead
+        ]);
+  }
+
+  -- when none is left
+  pub Searching-end : (goal : Option Run) (marks : List Bool) (kept : List Stop) → Searching goal marks kept []
+      → AreSpent text spots begin marks (some_run (stops_give text spots kept)) × (first_of (stops_give text spots kept) ≡ goal)
+  Searching-end goal marks kept c = cases c.entries c.are_stack c.blocking
+    where
+      cases : (entries : List Entry) → map bare entries ≡ [] → Blocking text spots falls goal c.tried (stops_give text spots kept) entries
+          → AreSpent text spots begin marks (some_run (stops_give text spots kept)) × (first_of (stops_give text spots kept) ≡ goal)
+      cases (e ∷ es) same b = absurd (cons_not_nil (bare e) (map bare es) same)
+      cases [] same b =
+          let over = blocking-end text spots falls goal c.tried (stops_give text spots kept) b in (
+            (λ at m k. elim (over.0 at m (c.are_marks at m ∙ k)) [ inl some ↦ inl (some_run-nonempty _ ∙ some) | inr dead ↦ inr dead ]),
+            over.1,
+          )

@@ -1,0 +1,51 @@
+-- The search of a block of places, in which a spot is tried once at each place.
+use Rattle.std.specs.Prelude.{◌≡◌, ℕ, ◌+◌, ◌-◌, ◌*◌, Bool, true, ◌&&◌, ◌⊎◌, nat_le, nat_lt, List, [], ◌++◌, length, Option, Some, None, if◌then◌else◌}
+use Rattle.std.specs.Option.{option_or}
+use Rattle.hir_tree.specs.Runs.{Run}
+use Rattle.hir_core.specs.Pass.{comes, first_of, fresh, keeps, some_run, stops_give, visiting, was_visited}
+use Rattle.hir_core.specs.Program.{gives, spot_at}
+use Rattle.hir_core.specs.Trails.{Stop, stops_on, way_of}
+use Rattle.hir_core.specs.declared.closure.Turn.{Turn}
+use Rattle.hir_core.specs.declared.closure.Turn.TheVariants as turn
+use Rattle.hir_core.specs.declared.spot.Spot.{Spot}
+use Rattle.hir_core.specs.declared.spot.Spot.TheVariants as spot
+use Rattle.hir_core.specs.declared.trail.Trail.{Trail}
+
+-- which mark is that of a spot at a place: there is a row of so many marks for each place from the first one on
+abbrev pub mark_of : ℕ → ℕ → ℕ → ℕ → ℕ
+mark_of count begin at q = (at - begin) * count + q
+
+-- the spot was tried at the place
+abbrev pub was_tried : ℕ → ℕ → List Bool → ℕ → ℕ → Bool
+was_tried count begin marks at q = nat_le begin at && (nat_lt q count && was_visited marks (mark_of count begin at q))
+
+module _ (text : List ℕ) (spots : List Spot) (begin : ℕ) where
+  -- the marks, with that of a spot at a place, if it leaves one
+  abbrev pub trying : ℕ → ℕ → List Bool → List Bool
+  trying at q marks = if nat_lt q (length spots) then visiting (spot_at spots q) (mark_of (length spots) begin at q) marks else marks
+
+  -- where every spot that was tried gives nothing from where it was tried, whatever the groups, unless something was found
+  abbrev pub AreSpent : List Bool → Bool → Type 0
+  AreSpent marks found =
+      (at q : ℕ) → was_tried (length spots) begin marks at q ≡ true → (found ≡ true) ⊎ (gives text spots q (fresh at) ≡ [])
+
+  -- What was to be followed in a block has been: what is kept gives the first run of what was kept and what was to be followed, or
+  -- else it is the run of the match that was found.
+  abbrev pub IsFollowed : List Run → Option Run → List Bool → List Stop → List Stop → Type 0
+  IsFollowed runs None marks old new =
+      AreSpent marks (some_run (stops_give text spots new)) × (first_of (stops_give text spots new) ≡ first_of (stops_give text spots old ++ runs))
+  IsFollowed runs (Some m) marks old new = option_or (first_of (stops_give text spots new)) (Some m) ≡ first_of (stops_give text spots old ++ runs)
+
+  -- others come in the place of one, at its place or after bytes from there
+  abbrev pub GivesWayTo : Stop → List Bool → List Bool → List Stop → List Stop → Type 0
+  GivesWayTo p marks marks' stack stack' =
+      let s = spot_at spots p.0 in
+      let tried = was_visited marks (mark_of (length spots) begin p.1.run.at p.0) in
+      (stack' ≡ (comes text s tried p.1 ++ keeps text s tried p.1) ++ stack)
+      × (marks' ≡ trying p.1.run.at p.0 marks)
+      × ((s ≡ spot.Match) → ⊥)
+
+  -- one turn of a thread, after which the trail is this one: it is a match, or others come in its place
+  abbrev pub TurnedAt : Turn → Stop → Trail → List Bool → List Bool → List Stop → Type 0
+  TurnedAt (turn.On q) p trail marks marks' stack = GivesWayTo p marks marks' stack (stops_on q trail)
+  TurnedAt turn.Match p trail marks marks' stack = (way_of trail ≡ p.1) × (spot_at spots p.0 ≡ spot.Match) × (marks' ≡ marks)

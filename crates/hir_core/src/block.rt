@@ -1,0 +1,263 @@
+//! The search of a block of places, which tries each spot once at each place, depth first.
+
+ghost use Rattle.std.specs.Prelude.{◌≡◌, ℕ, List, ◌+◌, ◌-◌, ◌*◌, ◌^◌, ◌≤◌, ◌<◌, [], ◌++◌, false, length, replicate, None, IfOk, IfSome};
+ghost use Rattle.hir_core.specs.Blocks.{AreSpent, IsFollowed, TurnedAt, mark_of};
+ghost use Rattle.hir_core.specs.Pass.{answer, leads, leads_on, match_of, some_run, stop_gives, stops_give, taken, AllFrom};
+ghost use Rattle.hir_core.specs.Program.{ClosesFall};
+ghost use Rattle.hir_core.specs.Scan.{IsFilterOf};
+ghost use Rattle.hir_core.specs.Trails.{stops_of, stops_on, way_of};
+ghost use Rattle.hir_core.specs.declared.spot.Spot.{Spot};
+
+use crate::closure::{Turn, lead};
+use crate::later::Later;
+use crate::scan::Scan;
+use crate::set_size::{byte_size, char_size};
+use crate::spot::Spot;
+use crate::starts::Starts;
+use crate::trail::Trail;
+use crate::visited::Visited;
+use sd_base::NoMemory;
+use std::alloc::Global;
+
+/// The places of a block: from the first one to before the end.
+#[derive(Clone, Copy)]
+pub struct Places {
+    /// The first place.
+    pub begin: usize,
+    /// The place after the last one.
+    pub end: usize,
+}
+
+/// Which mark is that of a spot at a place, where there are so many spots.
+fn mark_of(spots: usize, places: Places, at: usize, spot: usize) -> usize
+    requires few { spots * (places.end - places.begin) ≤ 65536 }
+    requires begin { places.begin ≤ at }
+    requires end { at < places.end }
+    requires spot { spot < spots }
+    ensures mark { result ≡ mark_of spots places.begin at spot }
+    ensures within { result < spots * (places.end - places.begin) }
+{
+    (at - places.begin) * spots + spot
+}
+
+/// Moves a trail on by so many bytes, if there are any, and gives the spot at which it goes on then.
+fn move_on(size: Option<usize>, next: usize, trail: &mut Trail) -> Option<usize>
+    requires { IfSome size (λ bytes. trail.old.at + bytes < 2 ^ 64) }
+    ensures { stops_on result trail.new ≡ taken size next (way_of trail.old) ++ stops_of trail.old }
+{
+    match size {
+        None => None,
+        Some(bytes) => {
+            trail.move_on(bytes);
+            Some(next)
+        }
+    }
+}
+
+/// The spot that a spot leads to, at the place of the trail or after bytes from there, if there is one; a second one is put before
+/// the alternatives. Refuses for want of memory alone.
+fn advance(spot: &Spot, text: &[u8], trail: &mut Trail) -> Result<Option<usize>, NoMemory>
+    requires { trail.old.at ≤ length text.now }
+    ensures { IfOk result (λ on. stops_on on trail.new
+        ≡ (leads text.now spot.now (way_of trail.old) ++ leads_on text.now spot.now (way_of trail.old)) ++ stops_of trail.old) }
+{
+    match spot {
+        Spot::Bytes { set, next } => {
+            let size = byte_size(set, text, trail.at);
+            Ok(move_on(size, *next, trail))
+        }
+        Spot::Chars { set, next } => {
+            let size = char_size(set, text, trail.at);
+            Ok(move_on(size, *next, trail))
+        }
+        _ => lead(spot, text, trail),
+    }
+}
+
+/// The search of a block: the thread that is followed, the spots that were tried, and the threads that go on past the block.
+#[derive(Drop)]
+pub struct Block {
+    /// The thread that is followed, and the alternatives on its way.
+    pub trail: Trail,
+    /// Which spots were tried at which places: a row of all spots for each place of the block.
+    pub marks: Visited,
+    /// The threads that go on past the block, in order.
+    pub later: Later,
+}
+
+impl Block {
+    /// A search with empty lists.
+    pub fn new(alloc: Global) -> Block
+        ensures later { result.later ≡ [] }
+    {
+        Block {
+            trail: Trail::new(alloc),
+            marks: Visited::new(alloc),
+            later: Later::new(alloc),
+        }
+    }
+
+    /// Comes to a block with so many marks, where nothing was tried. Refuses for want of memory alone.
+    pub fn enter(&mut self, marks: usize) -> Result<(), NoMemory>
+        ensures marks { IfOk result (λ _. self.new.marks ≡ replicate marks false) }
+        ensures later { IfOk result (λ _. self.new.later ≡ []) }
+    {
+        self.marks.next_place(marks)?;
+        self.later.clear();
+        Ok(())
+    }
+
+    /// Follows the thread, which is in the block, from this spot to those that it leads to, and says whether it is a match, or where
+    /// it goes on. Refuses for want of memory alone.
+    fn turn(
+        &mut self,
+        spots: &[Spot],
+        text: &[u8],
+        places: Places,
+        spot: usize,
+    ) -> Result<Turn, NoMemory>
+        requires room { length spots.now * (places.end - places.begin) ≤ length self.old.marks }
+        requires few { length self.old.marks ≤ 65536 }
+        requires begin { places.begin ≤ self.old.trail.at }
+        requires end { self.old.trail.at < places.end }
+        requires at { self.old.trail.at ≤ length text.now }
+        ensures turned { IfOk result (λ turn. TurnedAt text.now spots.now places.begin turn (spot, way_of self.old.trail) self.new.trail
+            self.old.marks self.new.marks (stops_of self.old.trail)) }
+        ensures later { self.new.later ≡ self.old.later }
+    {
+        let Some(here) = spots.get(spot) else {
+            return Ok(Turn::On(None));
+        };
+        if let Spot::Match = here {
+            return Ok(Turn::Match);
+        }
+        if let Spot::Close { index, next } = here {
+            self.trail.close(*index)?;
+            return Ok(Turn::On(Some(*next)));
+        }
+        let mark = mark_of(spots.len(), places, self.trail.at, spot);
+        if self.marks.has(mark) {
+            return Ok(Turn::On(None));
+        }
+        self.marks.add(mark);
+        Ok(Turn::On(advance(here, text, &mut self.trail)?))
+    }
+
+    /// Follows the thread from a spot, within the block, and says whether it comes to a match: the trail then holds it. What goes on
+    /// past the block is kept. Refuses for want of memory alone.
+    fn follow(
+        &mut self,
+        spots: &[Spot],
+        text: &[u8],
+        places: Places,
+        spot: usize,
+    ) -> Result<bool, NoMemory>
+        requires falls { ClosesFall spots.now }
+        requires room { length spots.now * (places.end - places.begin) ≤ length self.old.marks }
+        requires few { length self.old.marks ≤ 65536 }
+        requires begin { places.begin ≤ self.old.trail.at }
+        requires at { self.old.trail.at ≤ length text.now }
+        requires later { AllFrom text.now places.end self.old.later }
+        requires spent { AreSpent text.now spots.now places.begin self.old.marks (some_run (stops_give text.now spots.now self.old.later)) }
+        ensures followed { IfOk result (λ found. IsFollowed text.now spots.now places.begin (stop_gives text.now spots.now (spot, way_of self.old.trail))
+            (match_of found self.new.trail) self.new.marks self.old.later self.new.later) }
+        ensures later { IfOk result (λ _. AllFrom text.now places.end self.new.later) }
+        ensures room { IfOk result (λ _. length self.new.marks ≡ length self.old.marks) }
+    {
+        self.trail.clear();
+        let mut on = Some(spot);
+        while let Some(here) = self.trail.next(on)? {
+            if self.trail.at >= places.end {
+                self.later.push(here, self.trail.at, &self.trail)?;
+                on = None;
+                continue;
+            }
+            match self.turn(spots, text, places, here)? {
+                Turn::Match => return Ok(true),
+                Turn::On(next) => on = next,
+            }
+        }
+        Ok(false)
+    }
+
+    /// Follows threads within the block, up to the first match, and says whether there is one: the trail then holds it. Refuses for
+    /// want of memory alone.
+    pub fn follow_all(
+        &mut self,
+        spots: &[Spot],
+        text: &[u8],
+        places: Places,
+        threads: &Later,
+    ) -> Result<bool, NoMemory>
+        requires falls { ClosesFall spots.now }
+        requires room { length spots.now * (places.end - places.begin) ≤ length self.old.marks }
+        requires few { length self.old.marks ≤ 65536 }
+        requires from { AllFrom text.now places.begin threads.now }
+        requires later { AllFrom text.now places.end self.old.later }
+        requires spent { AreSpent text.now spots.now places.begin self.old.marks (some_run (stops_give text.now spots.now self.old.later)) }
+        ensures followed { IfOk result (λ found. IsFollowed text.now spots.now places.begin (stops_give text.now spots.now threads.now)
+            (match_of found self.new.trail) self.new.marks self.old.later self.new.later) }
+        ensures later { IfOk result (λ _. AllFrom text.now places.end self.new.later) }
+        ensures room { IfOk result (λ _. length self.new.marks ≡ length self.old.marks) }
+    {
+        for i in 0..threads.len() {
+            let spot = threads.load(i, &mut self.trail)?;
+            if self.follow(spots, text, places, spot)? {
+                return Ok(true);
+            }
+        }
+        Ok(false)
+    }
+
+    /// Passes over places that have no match, as a filter tells, where no thread goes on.
+    fn pass_over(&self, filter: &Scan, text: &[u8], starts: &mut Starts)
+        requires { starts.old.place ≤ length text.now + 1 }
+        ensures answer { (spots : List Spot) (groups : ℕ) → IsFilterOf spots filter.now
+            → answer text.now spots groups starts.new.place (stops_give text.now spots self.now.later) None
+            ≡ answer text.now spots groups starts.old.place (stops_give text.now spots self.now.later) None }
+        ensures after { starts.old.place ≤ starts.new.place }
+        ensures within { starts.new.place ≤ length text.now + 1 }
+    {
+        if self.later.is_empty() {
+            starts.pass_over(filter, text);
+        }
+    }
+
+    /// Follows threads that begin in the block, where a match may begin, up to the first match, and says whether there is one: the
+    /// trail then holds it. Refuses for want of memory alone.
+    pub fn follow_starts(
+        &mut self,
+        spots: &[Spot],
+        filter: &Scan,
+        text: &[u8],
+        places: Places,
+        starts: &mut Starts,
+        groups: u32,
+    ) -> Result<bool, NoMemory>
+        requires falls { ClosesFall spots.now }
+        requires filters { IsFilterOf spots.now filter.now }
+        requires room { length spots.now * (places.end - places.begin) ≤ length self.old.marks }
+        requires few { length self.old.marks ≤ 65536 }
+        requires begin { places.begin ≤ starts.old.place }
+        requires within { starts.old.place ≤ length text.now + 1 }
+        requires end { places.end ≤ length text.now + 1 }
+        requires later { AllFrom text.now places.end self.old.later }
+        requires spent { AreSpent text.now spots.now places.begin self.old.marks (some_run (stops_give text.now spots.now self.old.later)) }
+        ensures answer { IfOk result (λ found.
+            answer text.now spots.now groups starts.new.place (stops_give text.now spots.now self.new.later) (match_of found self.new.trail)
+            ≡ answer text.now spots.now groups starts.old.place (stops_give text.now spots.now self.old.later) None) }
+        ensures later { IfOk result (λ _. AllFrom text.now places.end self.new.later) }
+        ensures within { IfOk result (λ _. starts.new.place ≤ length text.now + 1) }
+        ensures past { IfOk result (λ found. found ≡ false → places.end ≤ starts.new.place) }
+    {
+        while starts.place < places.end {
+            self.trail.begin(starts.place, groups)?;
+            starts.place += 1;
+            if self.follow(spots, text, places, 0)? {
+                return Ok(true);
+            }
+            self.pass_over(filter, text, starts);
+        }
+        Ok(false)
+    }
+}

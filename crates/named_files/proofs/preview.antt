@@ -1,0 +1,2 @@
+-- What the preview uses.
+pub mod PreviewLemmas

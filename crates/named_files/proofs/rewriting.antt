@@ -1,0 +1,3 @@
+-- What the rewriting of named files uses.
+pub mod ChainLemmas
+pub mod CauseLemmas

@@ -1,0 +1,4 @@
+pub mod OneFile
+pub mod Named
+pub mod Preview
+pub mod Examples

@@ -1,0 +1,48 @@
+-- How the rewriting of named files ends.
+use Rattle.std.specs.Prelude.{◌≡◌, ◌≢◌, ℕ, IsTrue, List, [], ◌∷◌, map, All, sum_by, Err, IsOk}
+use Rattle.std.specs.List.{AllZip}
+use Rattle.sd_edge.specs.Disk.{DiskState}
+use Rattle.sd_change.specs.Change.{Change}
+use Rattle.sd_course.specs.Course.{Course, HasRisenBy}
+use Rattle.file_rewrite.specs.Paths.{IsNoPath}
+use Rattle.file_rewrite.specs.declared.fault.JobFault.TheVariants as job
+use Rattle.tree_rewrite.specs.Jobs.{Job, failed_of, end_of, faults_needed, HasJobCause}
+use Rattle.tree_rewrite.specs.declared.fault.FilesFault.{FilesFault}
+use Rattle.tree_rewrite.specs.declared.fault.FilesFault.TheVariants as fault
+use Rattle.named_files.specs.OneFile.{OneEnd, ReplacesOne}
+
+-- ---- one file after the other
+
+-- The files were rewritten in turn, each as the one before left the disk.
+abbrev pub ReplacesInTurn : Change → List (List ℕ) → List OneEnd → DiskState → DiskState → Type 0
+ReplacesInTurn change [] [] old new = new ≡ old
+ReplacesInTurn change [] (result ∷ results) old new = ⊥
+ReplacesInTurn change (path ∷ paths) [] old new = ⊥
+ReplacesInTurn change (path ∷ paths) (result ∷ results) old new =
+    (next : DiskState) × ReplacesOne change path result old next × ReplacesInTurn change paths results next new
+
+-- a path that names no file is told to
+abbrev pub TellsNoPath : List ℕ → OneEnd → Type 0
+TellsNoPath path result = IsNoPath path → result ≡ Err job.InvalidPath
+
+-- each file was rewritten
+pub record DoesFiles (change : Change) (paths : List (List ℕ)) (d : Course DiskState) : Type 0 where
+  pub results : List OneEnd
+  pub in_turn : IsTrue d.tells → ReplacesInTurn change paths results d.old d.new
+  pub told : AllZip TellsNoPath paths results
+  pub all : All IsOk results
+
+-- at least one failed, and the jobs are exactly those that did, in order
+pub record FailsNamed (change : Change) (paths : List (List ℕ)) (d : Course DiskState) (jobs : List Job) : Type 0 where
+  pub results : List OneEnd
+  pub in_turn : IsTrue d.tells → ReplacesInTurn change paths results d.old d.new
+  pub told : AllZip TellsNoPath paths results
+  pub jobs_are : jobs ≡ failed_of paths (map end_of results)
+  pub some : jobs ≢ []
+  pub counted : HasRisenBy (sum_by (faults_needed d.tells d.old.tree) jobs) d.old.faults d.new.faults
+  pub causes : All (HasJobCause d) jobs
+
+-- What a refused rewriting of named files leaves, and why it is refused.
+abbrev pub NamedFail : Change → List (List ℕ) → Course DiskState → FilesFault → Type 0
+NamedFail change paths d (fault.Failed jobs) = FailsNamed change paths d jobs
+NamedFail change paths d fault.NoMemory = d.new ≡ d.old

@@ -1,0 +1,28 @@
+//! Worked examples of the definitions.
+
+ghost use Rattle.std.specs.Prelude.{◌≡◌, ◌∷◌, [], codes, true, false, Ok, Err, Some};
+ghost use Rattle.sd_edge.specs.Tree.{Tree};
+ghost use Rattle.sd_edge.specs.Files.{file_of};
+ghost use Rattle.sd_edge.specs.Disk.{DiskState};
+ghost use Rattle.file_rewrite.specs.declared.fault.JobFault.TheVariants as job;
+ghost use Rattle.file_rewrite.specs.declared.rewrite.Rewrite.{Rewrite};
+ghost use Rattle.file_rewrite.specs.Examples.{OneToDigit};
+ghost use Rattle.named_files.specs.Named.{ReplacesInTurn, TellsNoPath};
+ghost use Rattle.named_files.specs.Preview.{header_of, text_with, HasText, are_many};
+ghost use Rattle.named_files.specs.Examples.{a_path, b_path};
+
+/// What is shown of files, which chains there are, and what is told of a path that names no file.
+pub fn named_files_are_shown_as_in_the_examples()
+    ensures header { header_of (codes "a") ≡ codes "----- FILE a -----\n" }
+    ensures of_many { text_with true a_path (codes "1") 1 ≡ codes "----- FILE /t/a.txt -----\n1\n" }
+    ensures alone { text_with false a_path (codes "1") 1 ≡ codes "1\n" }
+    ensures nothing_replaced { text_with true a_path (codes "two") 0 ≡ [] }
+    ensures one_word { are_many (a_path ∷ []) ≡ false }
+    ensures two_words { are_many (a_path ∷ b_path ∷ []) ≡ true }
+    ensures text { (tree : Tree) → file_of tree a_path ≡ Some (codes "one", 416) → HasText OneToDigit true tree a_path (codes "----- FILE /t/a.txt -----\n1\n") }
+    ensures none_of_two { (tree : Tree) → file_of tree a_path ≡ Some (codes "two", 416) → HasText OneToDigit false tree a_path [] }
+    ensures no_files { (disk : DiskState) → ReplacesInTurn OneToDigit [] [] disk disk }
+    ensures one_end_each { (old new : DiskState) → ReplacesInTurn OneToDigit (a_path ∷ []) [] old new → ⊥ }
+    ensures told { TellsNoPath [] (Err job.InvalidPath) }
+    ensures not_done { (rewrite : Rewrite) → TellsNoPath [] (Ok rewrite) → ⊥ }
+{}

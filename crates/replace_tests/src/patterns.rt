@@ -1,0 +1,114 @@
+//! What takes the place of the matches of patterns and literal texts.
+
+use crate::asking::{Case, Kind, Limit, check, literal, pattern};
+use std::test::Fail;
+
+/// A pattern, a replacement text, what becomes of a text, and how many matches are replaced.
+const PATTERNS: &[(&str, &str, &str, &str, u128)] = &[
+    ("a*", "X", "baac", "XbXcX", 3),
+    (".*(/.*/)", "$1", "sample with /path/\n", "/path/\n", 1),
+    (r"\s+$", "", "lorem ipsum 23   \n", "lorem ipsum 23", 1),
+    (
+        r"(?P<dollars>\d+)\.(?P<cents>\d+)",
+        "$dollars_dollars and $cents_cents",
+        "123.45",
+        " and ",
+        1,
+    ),
+    (
+        r"(?P<dollars>\d+)\.(?P<cents>\d+)",
+        "${dollars}_dollars and ${cents}_cents",
+        "123.45",
+        "123_dollars and 45_cents",
+        1,
+    ),
+    (
+        r"(?P<name>\w+)@(\w+)",
+        "$2 at ${name}$$$3$",
+        "x@y, a@bc!",
+        "y at x$$, bc at a$$!",
+        2,
+    ),
+    ("b", r"\x241a", "abcb", "ac", 2),
+    ("b", "[$0]", "abc", "a[b]c", 1),
+    ("(a)|(b)", "<$1$2>", "ab", "<a><b>", 2),
+    ("o(n)e", r"${1}\x24\x7b1}", "one", "nn", 1),
+    ("one", r"\t\u00e9\q", "one one", r"\t\u00e9\q \t\u00e9\q", 2),
+    ("one", r"\t\u00e9", "one", "\t\u{e9}", 1),
+    ("^", ">", "a\nb\n", ">a\n>b\n>", 3),
+    ("$", "<", "a\nb\n", "a<\nb<\n<", 3),
+    ("x*", "-", "axb", "-a-b-", 3),
+    ("x*", "-", "xx", "-", 1),
+    ("x*", "-", "", "-", 1),
+    ("", "-", "", "-", 1),
+    ("x", "-", "", "", 0),
+    ("x", "-", "abc", "abc", 0),
+];
+
+#[test]
+fn matches_give_way_to_texts(rt: HostRuntime) -> Result<(), Fail> {
+    for (find, with, old, new, count) in PATTERNS {
+        check(
+            &rt,
+            &pattern(find, with),
+            old.as_bytes(),
+            new.as_bytes(),
+            *count,
+        )?;
+    }
+    Ok(())
+}
+
+/// A text, what takes its place as it stands, what becomes of another text, and how often.
+const LITERALS: &[(&str, &str, &str, &str, u128)] = &[
+    (
+        "((([])))",
+        "",
+        "lots((([]))) of special chars",
+        "lots of special chars",
+        1,
+    ),
+    ("a.b", r"$0\n", "a.b axb", r"$0\n axb", 1),
+    ("one", "$1a", "one", "$1a", 1),
+    (r"\n", "-", "a\\nb\n", "a-b\n", 1),
+    ("", "-", "ab", "-a-b-", 3),
+];
+
+#[test]
+fn literal_texts_mean_themselves(rt: HostRuntime) -> Result<(), Fail> {
+    for (find, with, old, new, count) in LITERALS {
+        check(
+            &rt,
+            &literal(find, with),
+            old.as_bytes(),
+            new.as_bytes(),
+            *count,
+        )?;
+    }
+    Ok(())
+}
+
+/// A limit, what becomes of `aaa` where `a` becomes `b`, and how many matches are replaced.
+const LIMITS: &[(u64, &str, u128)] = &[
+    (0, "bbb", 3),
+    (1, "baa", 1),
+    (2, "bba", 2),
+    (3, "bbb", 3),
+    (4, "bbb", 3),
+    (u64::MAX, "bbb", 3),
+];
+
+#[test]
+fn a_limit_counts_the_first_matches(rt: HostRuntime) -> Result<(), Fail> {
+    for (most, new, count) in LIMITS {
+        let case = Case {
+            find: "a",
+            with: "b",
+            kind: Kind::Pattern,
+            flags: None,
+            limit: Limit::Whole(*most),
+        };
+        check(&rt, &case, b"aaa", new.as_bytes(), *count)?;
+    }
+    Ok(())
+}

@@ -1,0 +1,9 @@
+//! Tests of what is rewritten, a file and a stream, by public calls alone.
+#![tactic(auto)]
+
+#[cfg(test)]
+mod files;
+#[cfg(test)]
+mod replacers;
+#[cfg(test)]
+mod streams;

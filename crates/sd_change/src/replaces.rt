@@ -1,0 +1,26 @@
+//! What changes bytes.
+
+ghost use Rattle.std.specs.Prelude.{IfOk};
+ghost use Rattle.sd_change.specs.Change.{Change, IsOne, Tells, AreFew};
+
+use crate::Changed;
+use sd_base::NoMemory;
+
+/// What changes bytes. It does one thing to the same bytes.
+///
+/// Above this trait nothing looks into what is searched for, or what takes its place.
+pub trait Replaces {
+    /// From the old bytes to the new ones, in which so many spans were replaced.
+    ghost change: { Self → Change };
+
+    /// The new bytes and the number of spans that were replaced. `None` exactly where none is: then nothing changes, and no
+    /// memory was taken. At most one span begins at each place, the end among them.
+    ///
+    /// Refuses only where memory is out.
+    fn change(&self, content: &[u8]) -> Result<Option<Changed>, NoMemory>
+        ensures changed { IfOk result (Tells (change self.now) content.now) }
+        ensures few { IfOk result (AreFew content.now) };
+
+    // The same bytes become the same bytes.
+    ghost one: { (replacer : Self) → IsOne (change replacer) };
+}

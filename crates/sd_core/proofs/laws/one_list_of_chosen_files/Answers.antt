@@ -1,8 +1,0 @@
-use Rattle.sd_core.proofs.laws.ChosenLemmas.{one_chosen, one_list_of_paths}
-use Rattle.sd_core.proofs.laws.one_list_of_chosen_files.Goals as goal
-
-pub returns-clause-places : goal.returns-clause-places
-returns-clause-places c = one_chosen
-
-pub returns-clause-paths : goal.returns-clause-paths
-returns-clause-paths c = one_list_of_paths

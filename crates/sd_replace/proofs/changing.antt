@@ -1,0 +1,2 @@
+pub mod ChangingLemmas
+pub mod SearchLemmas

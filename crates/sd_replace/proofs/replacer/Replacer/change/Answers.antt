@@ -1,0 +1,28 @@
+use Rattle.std.proofs.Common.{Option, Some, length, subst}
+use Rattle.grep_matcher.specs.Cover.{IsFirst, accepts}
+use Rattle.grep_matcher.specs.Span.{Span}
+use Rattle.grep_regex.specs.Matching.{end_at}
+use Rattle.grep_regex.specs.MatchingLemmas.{lawful_ends}
+use Rattle.hir_tree.specs.Tree.{tree_of}
+use Rattle.sd_replace.specs.Replacer.{replacement_of}
+use Rattle.sd_replace.proofs.changing.ChangingLemmas.{as_first, as_start, nothing_changes, something_changes}
+use Rattle.sd_replace.proofs.replacer.Replacer.change.Goals as goal
+
+pub returns-in_default-clause-changed : goal.returns-in_default-clause-changed
+returns-in_default-clause-changed c =
+    let self = c.args.self.now in
+    let bytes = c.args.content.now in
+    let search = c.new-search.result in
+    nothing_changes (replacement_of self) bytes (lawful_ends (tree_of self.matcher.searcher) self.matcher.whole bytes) c.in_ok-first.field-0 c.in_default.not-Some
+    (as_start (end_at (tree_of self.matcher.searcher) bytes) (length bytes) search.from search.last c.in_ok-first.field-0 c.new-search.ensures.none c.new-search.ensures.start
+    (as_first search.matcher.now self.matcher search.content.now bytes search.last search.from c.in_ok-first.field-0 c.new-search.ensures.pattern c.new-search.ensures.content c.in_ok-first.ensures.found))
+
+pub returns-clause-changed : goal.returns-clause-changed
+returns-clause-changed c =
+    let self = c.args.self.now in
+    let bytes = c.args.content.now in
+    let search = c.new-search.result in
+    let first = as_start (end_at (tree_of self.matcher.searcher) bytes) (length bytes) search.from search.last (Some c.in-Some.first) c.new-search.ensures.none c.new-search.ensures.start
+    (as_first search.matcher.now self.matcher search.content.now bytes search.last search.from (Some c.in-Some.first) c.new-search.ensures.pattern c.new-search.ensures.content
+    (subst (λ (o : Option Span). IsFirst (accepts search.last (end_at (tree_of search.matcher.now.searcher) search.content.now)) search.from (length search.content.now) o) c.in-Some.is c.in_ok-first.ensures.found)) in
+    (c.in_ok-changed.ensures.changed, something_changes (replacement_of self) self.matcher.whole bytes c.in_ok-changed.changed.new_bytes.items c.in_ok-changed.changed.count c.in-Some.first first c.in_ok-changed.ensures.changed)

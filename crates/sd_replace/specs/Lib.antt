@@ -1,0 +1,13 @@
+pub mod Ambiguous
+pub mod Examples
+pub mod Faults
+pub mod Flags
+pub mod Making
+pub mod OneChange
+pub mod Quota
+pub mod Replacement
+pub mod Replacer
+pub mod Searching
+pub mod Templates
+pub mod Unescaped
+pub mod Writing

@@ -1,0 +1,2 @@
+-- What the replacing of a stream uses.
+pub mod StreamLemmas

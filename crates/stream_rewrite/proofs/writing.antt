@@ -1,0 +1,2 @@
+-- What writing uses.
+pub mod WritingLemmas

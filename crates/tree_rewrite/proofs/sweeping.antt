@@ -1,0 +1,3 @@
+-- What a sweep uses.
+pub mod NamedLemmas
+pub mod SweepLemmas

@@ -1,0 +1,171 @@
+//! Walks by their options, and what they give as lines.
+//!
+//! A line is an item's depth, its kind (`d`, `f`, `l`, `o`; behind `l>` where it is a link that was followed) and its path, or `!` and
+//! the text of an error.
+
+ghost use Rattle.std.specs.Iterator.{IsFinite};
+
+use sd_edge::{Disk, Kind, MemDisk};
+use std::alloc::{AllocError, Global};
+use std::process::Abort;
+use std::test::Fail;
+use walkdir::{DirEntry, Error, Order, Unsorted, Walk, WalkDir};
+
+/// An option with its value.
+#[derive(Clone, Copy, Debug)]
+pub(crate) enum Setting {
+    MinDepth(usize),
+    MaxDepth(usize),
+    FollowLinks(bool),
+    FollowRootLinks(bool),
+    MaxOpen(usize),
+    ContentsFirst(bool),
+    SameFileSystem(bool),
+}
+
+/// Sets an option.
+fn set(walk: WalkDir<Unsorted>, setting: Setting) -> WalkDir<Unsorted> {
+    match setting {
+        Setting::MinDepth(depth) => walk.min_depth(depth),
+        Setting::MaxDepth(depth) => walk.max_depth(depth),
+        Setting::FollowLinks(yes) => walk.follow_links(yes),
+        Setting::FollowRootLinks(yes) => walk.follow_root_links(yes),
+        Setting::MaxOpen(n) => walk.max_open(n),
+        Setting::ContentsFirst(yes) => walk.contents_first(yes),
+        Setting::SameFileSystem(yes) => walk.same_file_system(yes),
+    }
+}
+
+/// A root that is walked with the defaults but for these options, set one after the other.
+pub(crate) fn asked(
+    alloc: Global,
+    root: &str,
+    settings: &[Setting],
+) -> Result<WalkDir<Unsorted>, Fail> {
+    let mut walk = WalkDir::new(alloc, root)?;
+    for setting in settings {
+        walk = set(walk, *setting);
+    }
+    Ok(walk)
+}
+
+/// The letter of a kind.
+fn letter(kind: Kind) -> &'static str {
+    match kind {
+        Kind::Directory => "d",
+        Kind::File => "f",
+        Kind::Link => "l",
+        Kind::Other => "o",
+    }
+}
+
+/// An entry as a line.
+fn entry_line(alloc: Global, entry: &DirEntry) -> Result<String, AllocError> {
+    let depth = entry.depth();
+    let followed = if entry.followed { "l>" } else { "" };
+    let letter = letter(entry.file_type());
+    let path = entry.path();
+    format!(in alloc; "{depth} {followed}{letter} {path}")
+}
+
+/// An error as a line.
+fn error_line(alloc: Global, error: &Error) -> Result<String, AllocError> {
+    let depth = error.depth();
+    format!(in alloc; "{depth} ! {error}")
+}
+
+/// An item as a line.
+pub(crate) fn line(alloc: Global, item: &Result<DirEntry, Error>) -> Result<String, AllocError> {
+    match item {
+        Ok(entry) => entry_line(alloc, entry),
+        Err(error) => error_line(alloc, error),
+    }
+}
+
+/// What a walk gives up to its end, a line an item.
+pub(crate) fn text_of<W: Walk + Drop>(alloc: Global, walk: W) -> Result<String, Fail>
+    requires can { W.can_next walk }
+    requires ends { IsFinite (W.remaining walk) }
+{
+    let mut text = String::new(alloc);
+    for item in walk {
+        text.push_str(line(alloc, &item)?.as_str())?;
+        text.push('\n')?;
+    }
+    Ok(text)
+}
+
+/// These lines as one text.
+pub(crate) fn joined(alloc: Global, lines: &[&str]) -> Result<String, Fail> {
+    let mut text = String::new(alloc);
+    for line in lines {
+        text.push_str(line)?;
+        text.push('\n')?;
+    }
+    Ok(text)
+}
+
+/// What a root gives under these options, in the disk's order.
+pub(crate) fn unsorted<D: Disk>(
+    alloc: Global,
+    disk: &mut D,
+    root: &str,
+    settings: &[Setting],
+) -> Result<String, Fail> {
+    let walk = asked(alloc, root, settings)?;
+    text_of(alloc, walk.into_iter(disk))
+}
+
+/// What a root gives under these options, sorted by file name.
+pub(crate) fn sorted<D: Disk>(
+    alloc: Global,
+    disk: &mut D,
+    root: &str,
+    settings: &[Setting],
+) -> Result<String, Fail> {
+    let walk = asked(alloc, root, settings)?.sort_by_file_name();
+    text_of(alloc, walk.into_iter(disk))
+}
+
+/// The bounds on open lists that walks are tried with, and how many lists they allow.
+const BOUNDS: [(usize, u64); 5] = [(0, 1), (1, 1), (2, 2), (3, 3), (10, 10)];
+
+/// Whatever the bound on open lists, a root gives these lines under these options sorted by file name, and keeps the bound.
+pub(crate) fn check_sorted(
+    rt: &(impl Abort + AllocGlobal),
+    disk: &mut MemDisk,
+    root: &str,
+    settings: &[Setting],
+    lines: &[&str],
+) -> Result<(), Fail> {
+    let alloc = rt.alloc();
+    let wanted = joined(alloc, lines)?;
+    for (bound, lists) in BOUNDS {
+        let walk = asked(alloc, root, settings)?
+            .max_open(bound)
+            .sort_by_file_name();
+        let given = text_of(alloc, walk.into_iter(disk))?;
+        assert_eq!(rt; given.as_str(), wanted.as_str(), "{root}, {bound} open");
+        assert!(rt; disk.lists_most() <= lists, "{root}, {bound} open");
+    }
+    Ok(())
+}
+
+/// The same in the disk's order.
+pub(crate) fn check_unsorted(
+    rt: &(impl Abort + AllocGlobal),
+    disk: &mut MemDisk,
+    root: &str,
+    settings: &[Setting],
+    lines: &[&str],
+) -> Result<(), Fail> {
+    let alloc = rt.alloc();
+    let wanted = joined(alloc, lines)?;
+    for (bound, lists) in BOUNDS {
+        let walk = asked(alloc, root, settings)?.max_open(bound);
+        let given = text_of(alloc, walk.into_iter(disk))?;
+        assert_eq!(rt; given.as_str(), wanted.as_str(), "{root}, {bound} open");
+        assert!(rt; disk.lists_most() <= lists, "{root}, {bound} open");
+    }
+    Ok(())
+}

@@ -1,0 +1,236 @@
+//! Walks of random trees under all options, with and without failing calls: the bound on open lists changes nothing.
+
+ghost use Rattle.std.specs.Iterator.{IsFinite};
+
+use crate::asking::{asked, line};
+use crate::trees::{Question, Random, random_question, random_tree};
+use sd_edge::{Disk, MemDisk};
+use std::alloc::Global;
+use std::ops::Range;
+use std::process::Abort;
+use std::test::Fail;
+use walkdir::{Error, Walk};
+
+/// What a walk gave: the lines of its items but those of failures, and how many failures it told.
+#[derive(Drop)]
+struct Answer {
+    lines: Vec<String>,
+    failures: u64,
+}
+
+/// What a walk gives.
+fn items_of<W: Walk + Drop>(alloc: Global, walk: W) -> Result<Answer, Fail>
+    requires can { W.can_next walk }
+    requires ends { IsFinite (W.remaining walk) }
+{
+    let mut lines = Vec::new(alloc);
+    let mut failures = 0_u64;
+    for item in walk {
+        if matches!(item, Err(Error::Disk { .. })) {
+            failures = failures.saturating_add(1);
+        } else {
+            lines.push(line(alloc, &item)?)?;
+        }
+    }
+    Ok(Answer { lines, failures })
+}
+
+/// What is given, with so many lists open at most.
+fn answered(
+    alloc: Global,
+    disk: &mut MemDisk,
+    question: &Question,
+    max_open: usize,
+) -> Result<Answer, Fail> {
+    let walk = asked(alloc, question.root, &question.settings)?.max_open(max_open);
+    if question.sorts {
+        items_of(alloc, walk.sort_by_file_name().into_iter(disk))
+    } else {
+        items_of(alloc, walk.into_iter(disk))
+    }
+}
+
+/// Takes some items of a walk, and closes it.
+fn close_after<W: Walk + Drop>(walk: W, items: u64)
+    requires can { W.can_next walk }
+    requires ends { IsFinite (W.remaining walk) }
+{
+    let mut walk = walk;
+    for _taken in 0..items {
+        let _item = walk.next();
+    }
+    walk.close();
+}
+
+/// Takes some items with so many lists open at most, and closes the walk.
+fn closed(
+    alloc: Global,
+    disk: &mut MemDisk,
+    question: &Question,
+    max_open: usize,
+    items: u64,
+) -> Result<(), Fail> {
+    let walk = asked(alloc, question.root, &question.settings)?.max_open(max_open);
+    if question.sorts {
+        close_after(walk.sort_by_file_name().into_iter(disk), items);
+    } else {
+        close_after(walk.into_iter(disk), items);
+    }
+    Ok(())
+}
+
+/// Whether some lines stand among others in their order.
+fn stand_among(lines: &[String], others: &[String]) -> bool {
+    let mut rest = lines;
+    for other in others {
+        if let Some((first, later)) = rest.split_first()
+            && first.as_str() == other.as_str()
+        {
+            rest = later;
+        }
+    }
+    rest.is_empty()
+}
+
+/// How many lists a disk has open: so many fewer than ever are opened before there are more than ever.
+fn lists_open(disk: &mut MemDisk) -> Result<u64, Fail> {
+    let most = disk.lists_most();
+    for opened in 0..=most {
+        let _list = disk.open_dir("/")?;
+        if disk.lists_most() > most {
+            return Ok(most - opened);
+        }
+    }
+    Err("more lists are open than ever were".into())
+}
+
+/// The tree of a seed, and what is asked of it.
+fn world(alloc: Global, seed: u64) -> Result<(MemDisk, Question), Fail> {
+    let mut random = Random::new(seed);
+    let disk = random_tree(alloc, &mut random)?;
+    Ok((disk, random_question(&mut random)))
+}
+
+/// Where no call fails, the same is given whatever the bound on open lists, which is kept, and no list stays open.
+fn check_bounds(rt: &(impl Abort + AllocGlobal), seed: u64) -> Result<(), Fail> {
+    let alloc = rt.alloc();
+    let (mut disk, question) = world(alloc, seed)?;
+    let whole = answered(alloc, &mut disk, &question, 1)?;
+    for max_open in [1, 2, 3, 10] {
+        let given = answered(alloc, &mut disk, &question, max_open)?;
+        assert!(rt; given.lines == whole.lines, "tree {seed}, {max_open} open");
+        assert_eq!(rt; given.failures, 0, "tree {seed}, {max_open} open");
+        assert!(rt;
+            disk.lists_most() <= max_open as u64,
+            "tree {seed}, {max_open} open"
+        );
+    }
+    assert_eq!(rt; lists_open(&mut disk)?, 0, "tree {seed}");
+    Ok(())
+}
+
+/// Makes so many calls, whatever they answer.
+fn make_calls(disk: &mut MemDisk, calls: u64) {
+    for _ in 0..calls {
+        let _answer = disk.stat("/", false);
+    }
+}
+
+/// Where one of the calls of a walk fails, one failure is told, and the rest is some of what is given where none fails.
+fn check_failure(
+    rt: &(impl Abort + AllocGlobal),
+    disk: &mut MemDisk,
+    question: &Question,
+    max_open: usize,
+    whole: &[String],
+    call: u64,
+) -> Result<(), Fail> {
+    let alloc = rt.alloc();
+    let faults = disk.faults();
+    disk.fail_at(disk.calls().saturating_add(call))?;
+    let given = answered(alloc, disk, question, max_open)?;
+    let counted = disk.faults().saturating_sub(faults);
+    assert_eq!(rt; given.failures, counted, "{max_open} open, call {call}");
+    assert!(rt;
+        stand_among(&given.lines, whole),
+        "{max_open} open, call {call}"
+    );
+    disk.fail_at(disk.calls().saturating_add(call))?;
+    closed(alloc, disk, question, max_open, call / 2)?;
+    make_calls(disk, call);
+    Ok(())
+}
+
+/// With each call of a walk failing in turn, the bound on open lists is kept, and no list stays open.
+fn check_failures(rt: &(impl Abort + AllocGlobal), seed: u64, max_open: usize) -> Result<(), Fail> {
+    let alloc = rt.alloc();
+    let (mut disk, question) = world(alloc, seed)?;
+    let whole = answered(alloc, &mut disk, &question, max_open)?;
+    for call in 1..=disk.calls() {
+        check_failure(rt, &mut disk, &question, max_open, &whole.lines, call)?;
+    }
+    assert!(rt;
+        disk.lists_most() <= max_open as u64,
+        "tree {seed}, {max_open} open"
+    );
+    assert_eq!(rt; lists_open(&mut disk)?, 0, "tree {seed}, {max_open} open");
+    Ok(())
+}
+
+/// The same of each of these trees, for each bound.
+fn check_all_failures(rt: &(impl Abort + AllocGlobal), seeds: Range<u64>) -> Result<(), Fail> {
+    for seed in seeds {
+        for max_open in [1, 2, 3, 10] {
+            check_failures(rt, seed, max_open)?;
+        }
+    }
+    Ok(())
+}
+
+#[test]
+fn the_bound_on_open_lists_changes_nothing(rt: HostRuntime) -> Result<(), Fail> {
+    for seed in 0..200 {
+        check_bounds(&rt, seed)?;
+    }
+    Ok(())
+}
+
+#[test]
+fn each_call_may_fail_on_the_first_trees(rt: HostRuntime) -> Result<(), Fail> {
+    check_all_failures(&rt, 0..25)
+}
+
+#[test]
+fn each_call_may_fail_on_the_second_trees(rt: HostRuntime) -> Result<(), Fail> {
+    check_all_failures(&rt, 25..50)
+}
+
+#[test]
+fn each_call_may_fail_on_the_third_trees(rt: HostRuntime) -> Result<(), Fail> {
+    check_all_failures(&rt, 50..75)
+}
+
+#[test]
+fn each_call_may_fail_on_the_fourth_trees(rt: HostRuntime) -> Result<(), Fail> {
+    check_all_failures(&rt, 75..100)
+}
+
+#[test]
+fn each_call_may_fail_on_the_fifth_trees(rt: HostRuntime) -> Result<(), Fail> {
+    check_all_failures(&rt, 100..125)
+}
+
+#[test]
+fn each_call_may_fail_on_the_sixth_trees(rt: HostRuntime) -> Result<(), Fail> {
+    check_all_failures(&rt, 125..150)
+}
+
+#[test]
+fn each_call_may_fail_on_the_seventh_trees(rt: HostRuntime) -> Result<(), Fail> {
+    check_all_failures(&rt, 150..175)
+}
+
+#[test]
+fn each_call_may_fail_on_the_eighth_trees(rt: HostRuntime) -> Result<(), Fail> {
+    check_all_failures(&rt, 175..200)
+}

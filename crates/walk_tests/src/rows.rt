@@ -1,0 +1,142 @@
+//! Worked walks of small trees.
+
+use crate::asking::{Setting, asked, check_sorted, check_unsorted};
+use sd_edge::MemDisk;
+use std::alloc::Global;
+use std::test::Fail;
+use walkdir::{ErrorKind, device_num};
+
+/// A folder `foo` with `abc`, which holds two empty files, and `def`.
+pub(crate) fn foo(alloc: Global) -> Result<MemDisk, Fail> {
+    let mut disk = MemDisk::new(alloc);
+    disk.add_dir("foo")?;
+    disk.add_file("foo/def", b"def", 0o640)?;
+    disk.add_dir("foo/abc")?;
+    disk.add_file("foo/abc/tuv", b"", 0o640)?;
+    disk.add_file("foo/abc/qrs", b"", 0o640)?;
+    Ok(disk)
+}
+
+#[test]
+fn directories_come_before_or_after_their_contents(rt: HostRuntime) -> Result<(), Fail> {
+    let mut disk = foo(rt.alloc())?;
+    let before = [
+        "0 d foo",
+        "1 d foo/abc",
+        "2 f foo/abc/qrs",
+        "2 f foo/abc/tuv",
+        "1 f foo/def",
+    ];
+    check_sorted(&rt, &mut disk, "foo", &[], &before)?;
+    let after = [
+        "2 f foo/abc/qrs",
+        "2 f foo/abc/tuv",
+        "1 d foo/abc",
+        "1 f foo/def",
+        "0 d foo",
+    ];
+    check_sorted(
+        &rt,
+        &mut disk,
+        "foo",
+        &[Setting::ContentsFirst(true)],
+        &after,
+    )
+}
+
+#[test]
+fn unsorted_walks_keep_the_order_of_the_disk(rt: HostRuntime) -> Result<(), Fail> {
+    let mut disk = foo(rt.alloc())?;
+    let lines = [
+        "0 d foo",
+        "1 f foo/def",
+        "1 d foo/abc",
+        "2 f foo/abc/tuv",
+        "2 f foo/abc/qrs",
+    ];
+    check_unsorted(&rt, &mut disk, "foo", &[], &lines)
+}
+
+#[test]
+fn a_link_to_an_ancestor_is_a_loop(rt: HostRuntime) -> Result<(), Fail> {
+    let mut disk = MemDisk::new(rt.alloc());
+    disk.add_dir("/r")?;
+    disk.add_dir("/r/a")?;
+    disk.add_link("/r/a/l", "/r")?;
+    let lines = [
+        "0 d /r",
+        "1 d /r/a",
+        "2 ! File system loop found: /r/a/l points to an ancestor /r",
+    ];
+    let settings = [Setting::FollowLinks(true)];
+    check_sorted(&rt, &mut disk, "/r", &settings, &lines)?;
+    check_unsorted(&rt, &mut disk, "/r", &settings, &lines)
+}
+
+#[test]
+fn depths_have_bounds(rt: HostRuntime) -> Result<(), Fail> {
+    let mut disk = foo(rt.alloc())?;
+    let settings = [Setting::MinDepth(1), Setting::MaxDepth(1)];
+    let lines = ["1 d foo/abc", "1 f foo/def"];
+    check_sorted(&rt, &mut disk, "foo", &settings, &lines)?;
+    let deep = [Setting::MinDepth(2)];
+    let lines = ["2 f foo/abc/qrs", "2 f foo/abc/tuv"];
+    check_sorted(&rt, &mut disk, "foo", &deep, &lines)?;
+    check_sorted(&rt, &mut disk, "foo", &[Setting::MaxDepth(0)], &["0 d foo"])
+}
+
+#[test]
+fn of_two_bounds_on_depths_that_cross_the_earlier_holds(rt: HostRuntime) -> Result<(), Fail> {
+    let mut disk = foo(rt.alloc())?;
+    let least_first = [Setting::MinDepth(2), Setting::MaxDepth(1)];
+    let deepest = ["2 f foo/abc/qrs", "2 f foo/abc/tuv"];
+    check_sorted(&rt, &mut disk, "foo", &least_first, &deepest)?;
+    let greatest_first = [Setting::MaxDepth(1), Setting::MinDepth(2)];
+    let middle = ["1 d foo/abc", "1 f foo/def"];
+    check_sorted(&rt, &mut disk, "foo", &greatest_first, &middle)?;
+    let beyond = [Setting::MinDepth(3)];
+    check_sorted(&rt, &mut disk, "foo", &beyond, &[])
+}
+
+#[test]
+fn directories_on_other_devices_are_not_entered(rt: HostRuntime) -> Result<(), Fail> {
+    let mut disk = foo(rt.alloc())?;
+    disk.set_dev("foo/abc", 2)?;
+    let lines = ["0 d foo", "1 d foo/abc", "1 f foo/def"];
+    let settings = [Setting::SameFileSystem(true)];
+    check_sorted(&rt, &mut disk, "foo", &settings, &lines)?;
+    assert_eq!(rt; device_num(&mut disk, "foo/abc")?, 2);
+    assert_eq!(rt; device_num(&mut disk, "foo")?, 1);
+    assert!(rt; device_num(&mut disk, "none").is_err());
+    Ok(())
+}
+
+/// How many entries a walk of `foo` has by a cap, or the kind of its error.
+fn collected(alloc: Global, max_open: usize, cap: u64) -> Result<Result<usize, ErrorKind>, Fail> {
+    if cap == 0 {
+        return Err("no cap".into());
+    }
+    let mut disk = foo(alloc)?;
+    let walk = asked(alloc, "foo", &[Setting::MaxOpen(max_open)])?;
+    let entries = walk.into_iter(&mut disk).collect_capped(cap);
+    Ok(match entries {
+        Ok(entries) => Ok(entries.len()),
+        Err(error) => Err(error.kind()),
+    })
+}
+
+#[test]
+fn walks_are_collected_up_to_a_cap(rt: HostRuntime) -> Result<(), Fail> {
+    for max_open in [1, 2, 10] {
+        for (cap, wanted) in [
+            (5, Ok(5)),
+            (u64::MAX, Ok(5)),
+            (4, Err(ErrorKind::TooMany)),
+            (1, Err(ErrorKind::TooMany)),
+        ] {
+            let given = collected(rt.alloc(), max_open, cap)?;
+            assert_eq!(rt; given, wanted, "{max_open} open, {cap} at most");
+        }
+    }
+    Ok(())
+}

@@ -1,0 +1,2 @@
+-- What the proofs about all calls of a walk use.
+pub mod CallsLemmas

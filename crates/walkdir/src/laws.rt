@@ -1,0 +1,37 @@
+//! What holds of all calls of a walk together.
+
+ghost use Rattle.std.specs.Prelude.{◌≡◌, ◌+◌, ◌≤◌, Bool, true, List, Some, Ok};
+ghost use Rattle.sd_edge.specs.Disk.{DiskState};
+ghost use Rattle.walk_rest.specs.declared.entry.DirEntry.{DirEntry};
+ghost use Rattle.walk_rest.specs.Level.{IsAllowed};
+ghost use Rattle.walk_rest.specs.Plan.{Comparison, Item};
+ghost use Rattle.walk_rest.specs.Rest.{Rest};
+ghost use Rattle.walk_steps.specs.declared.inside.Inside.{Inside};
+ghost use Rattle.walk_steps.specs.Causes.{FitsTree, faults_due};
+ghost use Rattle.walk_steps.specs.Inside.{levels_of};
+ghost use Rattle.walk_steps.specs.Listed.{waits_in};
+ghost use Rattle.walk_steps.specs.Steps.{IsNextInto, StepsTo};
+ghost use Rattle.walkdir.specs.Calls.{Calls, all_below, all_told};
+ghost use Rattle.walkdir.specs.Steps.{lies_unread};
+
+use sd_edge::Disk;
+use walk_rest::Order;
+
+/// The failures of the disk that a walk gave since it began are at most as many as the disk counted, or its count stands at its last value.
+pub fn failures_were_counted<D: Disk, S: Order>()
+    ensures { (old new : DiskState) (before now : Inside S) (items : List Item) → faults_due (levels_of before) ≡ 0
+        → FitsTree D.tells S.compares_by old (S.sorts before.order) before → Calls D.tells S.sorts S.compares_by old before items new now
+        → IsAllowed (all_told D.tells items) old.faults new.faults }
+{}
+
+/// The entries below the root that a walk gave since it began, with those that it keeps, are at most as many as were listed.
+pub fn entries_were_listed<D: Disk, S: Order>()
+    ensures { (old new : DiskState) (before now : Inside S) (items : List Item) → waits_in (levels_of before) ≡ 0
+        → Calls D.tells S.sorts S.compares_by old before items new now → all_below items + waits_in (levels_of now) + old.listed ≤ new.listed }
+{}
+
+/// A step that gives the entry of a directory as it enters it leaves that unread on top, where `just_entered` looks for it.
+pub fn an_entered_directory_lies_unread<S>()
+    ensures { (old new : DiskState) (sorts : Bool) (by : Comparison) (rest : Rest) (entry : DirEntry) (now : Inside S)
+        → (step : StepsTo old sorts by rest (Some (Ok entry)) new now) → IsNextInto step.is_step.mid → lies_unread now.top ≡ true }
+{}
