@@ -38,7 +38,8 @@ pub fn preview_named<D: Disk, O: Sink, R: Replaces>(
     ensures disk_never_falls { (D.state disk.old).faults ≤ (D.state disk.new).faults }
     ensures sink_never_falls { (O.state out.old).faults ≤ (O.state out.new).faults }
     ensures no_path { IsTrue D.tells → (path : List ℕ) → IsFirstUnshown paths.items (D.state disk.old).tree path → IsNoPath path
-        → MatchResult result (λ _. ⊥) (IsShownWhy (course D.tells (D.state disk.old) (D.state disk.new)) (course O.tells (O.state out.old) (O.state out.new)) path) }
+        → MatchResult result (λ _. ⊥) (IsShownWhy
+        (course D.tells (D.state disk.old) (D.state disk.new)) (course O.tells (O.state out.old) (O.state out.new)) path) }
     ensures complete { IsPreviewClear paths.items (course D.tells (D.state disk.old) (D.state disk.new)) (course O.tells (O.state out.old) (O.state out.new))
         → IfErr result (λ fault. fault ≡ PreviewFault.NoMemory) }
 {

@@ -22,11 +22,15 @@ module _ (change : Change) (paths : List (List ℕ)) (d : Course DiskState) (out
 
   module _ (told : IsTrue d.tells) (path : List ℕ) (first : IsFirstUnshown paths d.old.tree path) (no : IsNoPath path) where
     -- a preview stops there, or before at a word that can be shown
-    stops_there : (other : List ℕ) (texts : List (List ℕ)) → StopsAt change paths d other texts → (other ≡ path) ⊎ (LeadsToFile d.old.tree other × (IsNoPath other → ⊥))
+    stops_there : (other : List ℕ) (texts : List (List ℕ)) → StopsAt change paths d other texts
+        → (other ≡ path) ⊎ (LeadsToFile d.old.tree other × (IsNoPath other → ⊥))
     stops_there other texts stops = elim (two_cuts first.before path first.after stops.before other stops.after (sym first.paths_are ∙ stops.paths_are)) [
       | inl (all, same) ↦ inl (sym same)
       | inr (inl (more, is)) ↦
-          inr (at_cut (LeadsToFile d.old.tree) first.before stops.before other more first.before_shown is, at_cut (λ p. IsNoPath p → ⊥) first.before stops.before other more first.before_name is)
+          inr (
+            at_cut (LeadsToFile d.old.tree) first.before stops.before other more first.before_shown is,
+            at_cut (λ p. IsNoPath p → ⊥) first.before stops.before other more first.before_name is,
+          )
       | inr (inr (more, is)) ↦ absurd (at_cut (λ p. IsNoPath p → ⊥) stops.before first.before path more stops.before_name is no)
     ]
 
@@ -66,7 +70,8 @@ module _ (change : Change) (paths : List (List ℕ)) (d : Course DiskState) (out
       | inl told ↦
           let none = faults.0 told in
           let stops = none.stops.stops in
-          not_none (file_of d.old.tree none.path) (at_cut (LeadsToFile d.old.tree) paths stops.before none.path stops.after (clear.files told) stops.paths_are) none.no_file
+          let leads = at_cut (LeadsToFile d.old.tree) paths stops.before none.path stops.after (clear.files told) stops.paths_are in
+          not_none (file_of d.old.tree none.path) leads none.no_file
       | inr untold ↦ clear.no_disk_fault (faults.1 untold).0
     ]
     no_file_fault disk.Taken faults = faults

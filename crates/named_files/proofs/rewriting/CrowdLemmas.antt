@@ -31,7 +31,8 @@ pub record WasFull (s0 s : DiskState) (earlier : List Job) (path : List ℕ) : T
   pub few : (later : Tree) → KeepsAll s.tree later → FreeAtMost s0.tree (parent_of place) (jobs_in later (parent_of place) earlier)
   pub memory : (q : NameList) → Free s0.tree (parent_of place) q → HasRisen s0.faults s.faults ⊎ HasMemoryJob earlier (parent_of place) s.tree
 
-later_full : (s0 s1 s2 : DiskState) → KeepsAll s1.tree s2.tree → s1.faults ≤ s2.faults → (earlier : List Job) (path : List ℕ) → WasFull s0 s1 earlier path → WasFull s0 s2 earlier path
+later_full : (s0 s1 s2 : DiskState) → KeepsAll s1.tree s2.tree → s1.faults ≤ s2.faults → (earlier : List Job) (path : List ℕ) → WasFull s0 s1 earlier path
+    → WasFull s0 s2 earlier path
 later_full s0 s1 s2 keeps lower earlier path f = record {
   place = f.place;
   leads = still_leads keeps.ways path true f.place f.leads (keeps.stands f.place f.stands);
@@ -48,15 +49,16 @@ stands_unless None not = absurd (not refl)
 stands_unless (Some node) not = refl
 
 -- it has none now
-now_full : (s0 s : DiskState) (jobs : List Job) (path : List ℕ) → ((folder : NameList) → AreTaken s0 s jobs folder) → IsCrowded s.tree path 0 → WasFull s0 s jobs path
+now_full : (s0 s : DiskState) (jobs : List Job) (path : List ℕ) → ((folder : NameList) → AreTaken s0 s jobs folder) → IsCrowded s.tree path 0
+    → WasFull s0 s jobs path
 now_full s0 s jobs path taken crowded =
-    let folder = parent_of crowded.place in
+    let here = taken (parent_of crowded.place) in
     record {
       place = crowded.place;
       leads = crowded.leads;
       stands = file_there (node_at s.tree crowded.place) crowded.is_file;
-      few = λ later still. record { places = (taken folder).places; few = (taken folder).few later still; all = λ q free. (taken folder).all q free (stands q free) };
-      memory = λ q free. (taken folder).memory q free (stands q free);
+      few = λ later still. record { places = here.places; few = here.few later still; all = λ q free. here.all q free (stands q free) };
+      memory = λ q free. here.memory q free (stands q free);
     }
   where
     none_free : (q : NameList) → Free s.tree (parent_of crowded.place) q → ⊥
@@ -80,12 +82,13 @@ pub none_crowded : (s : DiskState) (jobs : List Job) → jobs ≡ [] → AreCrow
 none_crowded s jobs none =
     subst (AreCrowded s s) (sym none) (record { taken = none_taken s; full = λ earlier later path e. absurd (no_cut earlier later (path, job.TempName) e) })
 
-module _ (tells : Bool) (told : IsTrue tells) (change : Change) (s0 s1 s2 : DiskState) (keeps : KeepsAll s1.tree s2.tree) (low : s0.faults ≤ s1.faults) (lower : s1.faults ≤ s2.faults)
-    (jobs : List Job) (so : AreCrowded s0 s1 jobs) (path : List ℕ) where
+module _ (tells : Bool) (told : IsTrue tells) (change : Change) (s0 s1 s2 : DiskState) (keeps : KeepsAll s1.tree s2.tree) (low : s0.faults ≤ s1.faults)
+    (lower : s1.faults ≤ s2.faults) (jobs : List Job) (so : AreCrowded s0 s1 jobs) (path : List ℕ) where
   full_still : (earlier later : List Job) (other : List ℕ) → jobs ≡ earlier ++ (other, job.TempName) ∷ later → WasFull s0 s2 earlier other
   full_still earlier later other e = later_full s0 s1 s2 keeps lower earlier other (so.full earlier later other e)
 
-  full_now : (fault : JobFault) → HasFileCause (course tells s1 s2) path fault → (earlier : List Job) (other : List ℕ) → jobs ≡ earlier → ◌≡◌ {A = Job} (path, fault) (other, job.TempName)
+  full_now : (fault : JobFault) → HasFileCause (course tells s1 s2) path fault → (earlier : List Job) (other : List ℕ) → jobs ≡ earlier
+      → ◌≡◌ {A = Job} (path, fault) (other, job.TempName)
       → WasFull s0 s2 earlier other
   full_now fault cause earlier other all last =
       let same : path ≡ other = ap (λ (failed : Job). failed.0) last in
@@ -94,7 +97,8 @@ module _ (tells : Bool) (told : IsTrue tells) (change : Change) (s0 s1 s2 : Disk
       subst (λ (list : List Job). WasFull s0 s2 list other) all
       (subst (WasFull s0 s2 jobs) same (later_full s0 s1 s2 keeps lower jobs path (now_full s0 s1 jobs path so.taken crowded)))
 
-  more_refused : (fault : JobFault) → LeavesFile change path fault s1 s2 → HasFileCause (course tells s1 s2) path fault → AreCrowded s0 s2 (jobs ++ (path, fault) ∷ [])
+  more_refused : (fault : JobFault) → LeavesFile change path fault s1 s2 → HasFileCause (course tells s1 s2) path fault
+      → AreCrowded s0 s2 (jobs ++ (path, fault) ∷ [])
   more_refused fault left cause = record {
     taken = λ folder. taken_if_refused s0 s1 s2 keeps low lower jobs folder (so.taken folder) change path fault left;
     full = λ earlier later other e. elim (last_or_before jobs (path, fault) earlier (other, job.TempName) later e) [
@@ -111,13 +115,15 @@ module _ (tells : Bool) (told : IsTrue tells) (change : Change) (s0 s1 s2 : Disk
   }
   more_of (Err fault) rewritten left cause = more_refused fault left cause
 
-  pub more_crowded : (more : List Job) (result : OneEnd) → more ≡ jobs ++ failed_of (path ∷ []) (end_of result ∷ []) → IfOk result (λ rewrite. RewritesFile change path rewrite s1 s2)
+  pub more_crowded : (more : List Job) (result : OneEnd) → more ≡ jobs ++ failed_of (path ∷ []) (end_of result ∷ [])
+      → IfOk result (λ rewrite. RewritesFile change path rewrite s1 s2)
       → IfErr result (λ fault. LeavesFile change path fault s1 s2) → IfErr result (HasFileCause (course tells s1 s2) path) → AreCrowded s0 s2 more
   more_crowded more result added rewritten left cause = subst (AreCrowded s0 s2) (sym added) (more_of result rewritten left cause)
 
 -- ---- at the end
 
-pub crowded_out : (tells : Bool) (s0 s : DiskState) (jobs : List Job) → AreCrowded s0 s jobs → (earlier later : List Job) (path : List ℕ) → jobs ≡ earlier ++ (path, job.TempName) ∷ later
+pub crowded_out : (tells : Bool) (s0 s : DiskState) (jobs : List Job) → AreCrowded s0 s jobs → (earlier later : List Job) (path : List ℕ)
+    → jobs ≡ earlier ++ (path, job.TempName) ∷ later
     → IsCrowdedOut (course tells s0 s) earlier path
 crowded_out tells s0 s jobs so earlier later path e =
     let full = so.full earlier later path e in

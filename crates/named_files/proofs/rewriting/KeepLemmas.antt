@@ -55,7 +55,8 @@ some_or_not None place = inr (λ e. cc)
 some_or_not (Some q) place = elim (same_or_other q place) [ inl e ↦ inl (ap (λ (p : NameList). Some p) e) | inr n ↦ inr (λ e. n (same_Some q place e)) ]
 
 -- a file stands at the place before and after, and all else is as before but a name that was free
-module _ (old new : Tree) (place : NameList) (left : Option NameList) (was : IsSome (file_at old place)) (is : IsSome (file_at new place)) (free : (q : NameList) → left ≡ Some q → node_at old q ≡ None)
+module _ (old new : Tree) (place : NameList) (left : Option NameList) (was : IsSome (file_at old place)) (is : IsSome (file_at new place))
+    (free : (q : NameList) → left ≡ Some q → node_at old q ≡ None)
     (others : (q : NameList) → q ≢ place → left ≢ Some q → node_at new q ≡ node_at old q) where
   file_was : (q : NameList) → q ≡ place → IsSome (file_at old q)
   file_was q here = subst (λ (p : NameList). IsSome (file_at old p)) (sym here) was
@@ -88,26 +89,32 @@ module _ (old new : Tree) (place : NameList) (left : Option NameList) (was : IsS
     ];
   }
 
-old_or_new_file : (change : Change) (old new : Tree) (place : NameList) → IsSome (file_at old place) → IsOldOrNew change old new place → IsSome (file_at new place)
+old_or_new_file : (change : Change) (old new : Tree) (place : NameList) → IsSome (file_at old place) → IsOldOrNew change old new place
+    → IsSome (file_at new place)
 old_or_new_file change old new place was (inl same) = subst (λ (o : Option Node). IsSome (file_node o)) (sym same) was
 old_or_new_file change old new place was (inr now) = ap is_some now.holds
 
-left_file : (change : Change) (old new : Tree) (place : NameList) (fault : JobFault) → IsSome (file_at old place) → IsLeft change old new place fault → IsSome (file_at new place)
+left_file : (change : Change) (old new : Tree) (place : NameList) (fault : JobFault) → IsSome (file_at old place) → IsLeft change old new place fault
+    → IsSome (file_at new place)
 left_file change old new place (job.File fault) was is = old_or_new_file change old new place was (inl is)
 left_file change old new place (job.TempfilePersist fault) was is = old_or_new_file change old new place was is
 left_file change old new place job.InvalidPath was is = old_or_new_file change old new place was (inl is)
 left_file change old new place job.TempName was is = old_or_new_file change old new place was (inl is)
 left_file change old new place job.NoMemory was is = old_or_new_file change old new place was is
 
-rewritten_keeps : (change : Change) (path : List ℕ) (rewrite : Rewrite) (old new : DiskState) → RewritesFile change path rewrite old new → KeepsAll old.tree new.tree
-rewritten_keeps change path rewrite old new r = keeps_but old.tree new.tree r.place None (ap is_some r.was) (ap is_some r.holds) (λ q e. cc) (λ q n m. r.others q n)
+rewritten_keeps : (change : Change) (path : List ℕ) (rewrite : Rewrite) (old new : DiskState) → RewritesFile change path rewrite old new
+    → KeepsAll old.tree new.tree
+rewritten_keeps change path rewrite old new r =
+    keeps_but old.tree new.tree r.place None (ap is_some r.was) (ap is_some r.holds) (λ q e. cc) (λ q n m. r.others q n)
 
 refused_keeps : (change : Change) (path : List ℕ) (fault : JobFault) (old new : DiskState) → LeavesFile change path fault old new → KeepsAll old.tree new.tree
 refused_keeps change path fault old new (inl same) = subst (λ (t : Tree). KeepsAll old.tree t) (sym same.tree) (keeps_itself old.tree)
 refused_keeps change path fault old new (inr l) =
-    keeps_but old.tree new.tree l.place l.temporary l.is_file (left_file (FileChange change) old.tree new.tree l.place fault l.is_file l.left) (λ q e. (l.was_free q e).free) l.others
+    keeps_but old.tree new.tree l.place l.temporary l.is_file (left_file (FileChange change) old.tree new.tree l.place fault l.is_file l.left)
+    (λ q e. (l.was_free q e).free) l.others
 
-pub one_keeps : (change : Change) (path : List ℕ) (result : Result Rewrite JobFault) (old new : DiskState) → IfOk result (λ rewrite. RewritesFile change path rewrite old new)
+pub one_keeps : (change : Change) (path : List ℕ) (result : Result Rewrite JobFault) (old new : DiskState)
+    → IfOk result (λ rewrite. RewritesFile change path rewrite old new)
     → IfErr result (λ fault. LeavesFile change path fault old new) → KeepsAll old.tree new.tree
 one_keeps change path (Ok rewrite) old new rewritten left = rewritten_keeps change path rewrite old new rewritten
 one_keeps change path (Err fault) old new rewritten left = refused_keeps change path fault old new left

@@ -28,22 +28,29 @@ use Rattle.named_files.proofs.rewriting.CauseLemmas.{HaveCausesSoFar}
 use Rattle.named_files.proofs.rewriting.CrowdLemmas.{AreCrowded}
 use Rattle.named_files.proofs.rewriting.ChainLemmas.{TellsJobs, IsNamedSoFar}
 
-rest_of : (path : List ℕ) (paths : List (List ℕ)) (jobs : List Job) → All (λ (failed : Job). Contains paths failed.0) jobs → All (λ (failed : Job). Contains (path ∷ paths) failed.0) jobs
-rest_of path paths jobs all = All-weaker (λ (failed : Job). Contains paths failed.0) (λ (failed : Job). Contains (path ∷ paths) failed.0) (λ failed c. Contains-append_right (path ∷ []) paths failed.0 c) jobs all
+-- the job is one of the files
+abbrev pub IsOf : List (List ℕ) → Job → Type 0
+IsOf paths failed = Contains paths failed.0
+
+rest_of : (path : List ℕ) (paths : List (List ℕ)) (jobs : List Job) → All (IsOf paths) jobs
+    → All (IsOf (path ∷ paths)) jobs
+rest_of path paths jobs all = All-weaker (IsOf paths) (IsOf (path ∷ paths)) (λ failed c. Contains-append_right (path ∷ []) paths failed.0 c) jobs all
 
 -- the jobs are some of the files
-failed_paths : (paths : List (List ℕ)) (ends : List (Option JobFault)) → All (λ (failed : Job). Contains paths failed.0) (failed_of paths ends)
-failed_paths [] ends = All-nil (λ (failed : Job). Contains [] failed.0)
-failed_paths (path ∷ paths) [] = All-nil (λ (failed : Job). Contains (path ∷ paths) failed.0)
+failed_paths : (paths : List (List ℕ)) (ends : List (Option JobFault)) → All (IsOf paths) (failed_of paths ends)
+failed_paths [] ends = All-nil (IsOf [])
+failed_paths (path ∷ paths) [] = All-nil (IsOf (path ∷ paths))
 failed_paths (path ∷ paths) (None ∷ ends) = rest_of path paths (failed_of paths ends) (failed_paths paths ends)
 failed_paths (path ∷ paths) (Some fault ∷ ends) =
-    All-cons (λ (failed : Job). Contains (path ∷ paths) failed.0) (path, fault) (failed_of paths ends) (0, omega arith, refl) (rest_of path paths (failed_of paths ends) (failed_paths paths ends))
+    All-cons (IsOf (path ∷ paths)) (path, fault) (failed_of paths ends) (0, omega arith, refl)
+    (rest_of path paths (failed_of paths ends) (failed_paths paths ends))
 
-pub named_jobs : (change : Change) (tells : Bool) (s0 s : DiskState) (done paths : List (List ℕ)) (jobs : List Job) → IsNamedSoFar change tells s0 s done jobs → done ≡ paths
-    → All (λ (failed : Job). Contains paths failed.0) jobs
+pub named_jobs : (change : Change) (tells : Bool) (s0 s : DiskState) (done paths : List (List ℕ)) (jobs : List Job)
+    → IsNamedSoFar change tells s0 s done jobs → done ≡ paths
+    → All (IsOf paths) jobs
 named_jobs change tells s0 s done paths jobs so whole =
-    subst (All (λ (failed : Job). Contains paths failed.0)) (sym so.jobs_are)
-    (subst (λ (list : List (List ℕ)). All (λ (failed : Job). Contains list failed.0) (failed_of done (map end_of so.results))) whole (failed_paths done (map end_of so.results)))
+    subst (All (IsOf paths)) (sym so.jobs_are)
+    (subst (λ (list : List (List ℕ)). All (IsOf list) (failed_of done (map end_of so.results))) whole (failed_paths done (map end_of so.results)))
 
 -- one counted fault of many
 rises : (n before now : ℕ) → 0 < n → HasRisenBy n before now → HasRisen before now
@@ -58,15 +65,17 @@ one_of_all f jobs earlier later failed cut =
     let rest = sum_by-cons f failed later in
     omega (arith, whole, parts, rest)
 
-module _ (tells : Bool) (s0 s : DiskState) (paths : List (List ℕ)) (jobs : List Job) (clear : AreFilesClear paths (course tells s0 s)) (have : HaveCausesSoFar tells s0 s jobs)
-    (crowded : IsTrue tells → AreCrowded s0 s jobs) (named : All (λ (failed : Job). Contains paths failed.0) jobs) where
+module _ (tells : Bool) (s0 s : DiskState) (paths : List (List ℕ)) (jobs : List Job) (clear : AreFilesClear paths (course tells s0 s))
+    (have : HaveCausesSoFar tells s0 s jobs)
+    (crowded : IsTrue tells → AreCrowded s0 s jobs) (named : All (IsOf paths) jobs) where
   module _ (earlier later : List Job) (path : List ℕ) where
     -- the path is one of the files
     of_path : (P : List ℕ → Type 0) (failed : Job) → jobs ≡ earlier ++ failed ∷ later → All P paths → P failed.0
-    of_path P failed cut all = All-contains P paths failed.0 all (at_cut (λ (f : Job). Contains paths f.0) jobs earlier failed later named cut)
+    of_path P failed cut all = All-contains P paths failed.0 all (at_cut (IsOf paths) jobs earlier failed later named cut)
 
     -- why else it would fail
-    by_cause : (fault : JobFault) → jobs ≡ earlier ++ (path, fault) ∷ later → HasJobCause (course tells s0 s) (path, fault) → (fault ≡ job.NoMemory) ⊎ (fault ≡ job.TempName)
+    by_cause : (fault : JobFault) → jobs ≡ earlier ++ (path, fault) ∷ later → HasJobCause (course tells s0 s) (path, fault)
+        → (fault ≡ job.NoMemory) ⊎ (fault ≡ job.TempName)
     by_cause (job.File disk.Absent) cut cause = elim (cases_Bool tells) [
       | inl told ↦ absurd (not_none (file_of s0.tree path) (of_path (LeadsToFile s0.tree) (path, job.File disk.Absent) cut (clear.files told)) (cause.0 told))
       | inr untold ↦ absurd (clear.no_fault (cause.1 untold))
@@ -74,7 +83,10 @@ module _ (tells : Bool) (s0 s : DiskState) (paths : List (List ℕ)) (jobs : Lis
     by_cause (job.File disk.Taken) cut cause = absurd cause
     by_cause (job.File disk.Failed) cut cause = absurd (clear.no_fault cause)
     by_cause (job.File disk.NoMemory) cut cause = absurd cause
-    by_cause (job.TempfilePersist disk.Absent) cut cause = elim (cases_Bool tells) [ inl told ↦ absurd (cause.0 told) | inr untold ↦ absurd (clear.no_fault (cause.1 untold)) ]
+    by_cause (job.TempfilePersist disk.Absent) cut cause = elim (cases_Bool tells) [
+      | inl told ↦ absurd (cause.0 told)
+      | inr untold ↦ absurd (clear.no_fault (cause.1 untold))
+    ]
     by_cause (job.TempfilePersist disk.Taken) cut cause = absurd cause
     by_cause (job.TempfilePersist disk.Failed) cut cause = absurd (clear.no_fault cause)
     by_cause (job.TempfilePersist disk.NoMemory) cut cause = absurd cause
@@ -84,7 +96,9 @@ module _ (tells : Bool) (s0 s : DiskState) (paths : List (List ℕ)) (jobs : Lis
 
     -- an earlier job for want of memory has its file in the folder
     abbrev HasEarlier : Type 0
-    HasEarlier = (place : NameList) × (other : List ℕ) × (reached s.tree path true ≡ Some place) × Contains earlier (other, job.NoMemory) × IsTrue (is_in_folder s.tree (parent_of place) other)
+    HasEarlier =
+        (place : NameList) × (other : List ℕ) × (reached s.tree path true ≡ Some place) × Contains earlier (other, job.NoMemory)
+        × IsTrue (is_in_folder s.tree (parent_of place) other)
 
     module _ (cut : jobs ≡ earlier ++ (path, job.TempName) ∷ later) where
       -- a disk that tells nothing would have counted the names

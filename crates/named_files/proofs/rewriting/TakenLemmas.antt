@@ -40,7 +40,8 @@ pub record TakesBeside (path : List ℕ) (fault : JobFault) (old new : DiskState
   pub reserved : Reserved (parent_of place) taken
   pub why : (fault ≡ job.NoMemory) ⊎ HasRisen old.faults new.faults
 
-pub rewritten_takes : (change : Change) (path : List ℕ) (rewrite : Rewrite) (old new : DiskState) → RewritesFile change path rewrite old new → StandsBut None old.tree new.tree
+pub rewritten_takes : (change : Change) (path : List ℕ) (rewrite : Rewrite) (old new : DiskState) → RewritesFile change path rewrite old new
+    → StandsBut None old.tree new.tree
 rewritten_takes change path rewrite old new r q stands = elim (same_or_other q r.place) [
   | inl here ↦ inl (subst (λ (p : NameList). IsSome (node_at old.tree p)) (sym here) (file_there (node_at old.tree r.place) (ap is_some r.was)))
   | inr n ↦ inl (subst (λ (o : Option Node). IsSome o) (r.others q n) stands)
@@ -83,10 +84,12 @@ same_folder : (folder other q : NameList) → Reserved folder q → Reserved oth
 same_folder folder other q (m, lt, is) (n, less, at) = sym (parent_of_child other _) ∙ ap parent_of (sym at ∙ is) ∙ parent_of_child folder _
 
 -- a path still leads into the folder of its file
-still_inside : (s later : Tree) → KeepsAll s later → (path : List ℕ) (place folder : NameList) → reached s path true ≡ Some place → IsSome (node_at s place) → parent_of place ≡ folder
+still_inside : (s later : Tree) → KeepsAll s later → (path : List ℕ) (place folder : NameList) → reached s path true ≡ Some place → IsSome (node_at s place)
+    → parent_of place ≡ folder
     → is_in_folder later folder path ≡ true
 still_inside s later keeps path place folder leads stands here =
-    ap (λ (o : Option NameList). option_map_or (λ (p : NameList). same_place (parent_of p) folder) o false) (still_leads keeps.ways path true place leads (keeps.stands place stands))
+    ap (λ (o : Option NameList). option_map_or (λ (p : NameList). same_place (parent_of p) folder) o false)
+    (still_leads keeps.ways path true place leads (keeps.stands place stands))
     ∙ (pointwise_decides bytes_decides (parent_of place) folder).1 here
 
 -- ---- so far
@@ -123,19 +126,22 @@ none_taken s folder = record {
   memory = λ q free stands. absurd (no_node (node_at s.tree q) free.free stands);
 }
 
-module _ (s0 s1 s2 : DiskState) (keeps : KeepsAll s1.tree s2.tree) (low : s0.faults ≤ s1.faults) (lower : s1.faults ≤ s2.faults) (jobs : List Job) (folder : NameList) (so : AreTaken s0 s1 jobs folder) where
+module _ (s0 s1 s2 : DiskState) (keeps : KeepsAll s1.tree s2.tree) (low : s0.faults ≤ s1.faults) (lower : s1.faults ≤ s2.faults) (jobs : List Job)
+    (folder : NameList) (so : AreTaken s0 s1 jobs folder) where
   few_still : (later : Tree) → KeepsAll s2.tree later → length so.places ≤ jobs_in later folder jobs
   few_still later still = so.few later (keeps_then s1.tree s2.tree later keeps still)
 
   more_jobs : (later : Tree) (more : List Job) → jobs_in later folder jobs ≤ jobs_in later folder (jobs ++ more)
   more_jobs later more = let sums = sum_by-append (λ (failed : Job). cond (is_in_folder later folder failed.0) 1 0) jobs more in omega (arith, sums)
 
-  memory_still : (more : List Job) → HasRisen s0.faults s1.faults ⊎ HasMemoryJob jobs folder s1.tree → HasRisen s0.faults s2.faults ⊎ HasMemoryJob (jobs ++ more) folder s2.tree
+  memory_still : (more : List Job) → HasRisen s0.faults s1.faults ⊎ HasMemoryJob jobs folder s1.tree
+      → HasRisen s0.faults s2.faults ⊎ HasMemoryJob (jobs ++ more) folder s2.tree
   memory_still more (inl rose) = inl (risen_then s0.faults s1.faults s2.faults lower rose)
   memory_still more (inr m) = inr (more_memory jobs more folder s2.tree (later_memory jobs folder s1.tree s2.tree keeps m))
 
   -- no name of the folder was taken
-  pub no_more_taken : (more : List Job) → ((q : NameList) → Free s0.tree folder q → IsSome (node_at s2.tree q) → IsSome (node_at s1.tree q)) → AreTaken s0 s2 (jobs ++ more) folder
+  pub no_more_taken : (more : List Job) → ((q : NameList) → Free s0.tree folder q → IsSome (node_at s2.tree q) → IsSome (node_at s1.tree q))
+      → AreTaken s0 s2 (jobs ++ more) folder
   no_more_taken more stood = record {
     places = so.places;
     few = λ later still. omega (arith, few_still later still, more_jobs later more);
@@ -143,12 +149,15 @@ module _ (s0 s1 s2 : DiskState) (keeps : KeepsAll s1.tree s2.tree) (low : s0.fau
     memory = λ q free stands. memory_still more (so.memory q free (stood q free stands));
   }
 
-  module _ (path : List ℕ) (fault : JobFault) (taken : NameList) (but : StandsBut (Some taken) s1.tree s2.tree) (beside : TakesBeside path fault s1 s2 taken) where
+  module _ (path : List ℕ) (fault : JobFault) (taken : NameList) (but : StandsBut (Some taken) s1.tree s2.tree)
+      (beside : TakesBeside path fault s1 s2 taken) where
     -- a name of another folder was taken
     taken_elsewhere : parent_of beside.place ≢ folder → AreTaken s0 s2 (jobs ++ (path, fault) ∷ []) folder
     taken_elsewhere apart = no_more_taken ((path, fault) ∷ []) (λ q free stands. elim (but q stands) [
       | inl stood ↦ stood
-      | inr is ↦ absurd (apart (same_folder folder (parent_of beside.place) q free.reserved (subst (Reserved (parent_of beside.place)) (same_Some taken q is) beside.reserved)))
+      | inr is ↦
+          let there = subst (Reserved (parent_of beside.place)) (same_Some taken q is) beside.reserved in
+          absurd (apart (same_folder folder (parent_of beside.place) q free.reserved there))
     ])
 
     module _ (here : parent_of beside.place ≡ folder) where
@@ -176,7 +185,10 @@ module _ (s0 s1 s2 : DiskState) (keeps : KeepsAll s1.tree s2.tree) (low : s0.fau
       taken_here = record {
         places = taken ∷ so.places;
         few = few_here;
-        all = λ q free stands. elim (but q stands) [ inl stood ↦ Contains-append_right (taken ∷ []) so.places q (so.all q free stood) | inr is ↦ (0, omega arith, same_Some taken q is) ];
+        all = λ q free stands. elim (but q stands) [
+          | inl stood ↦ Contains-append_right (taken ∷ []) so.places q (so.all q free stood)
+          | inr is ↦ (0, omega arith, same_Some taken q is)
+        ];
         memory = λ q free stands. elim (but q stands) [ inl stood ↦ memory_still ((path, fault) ∷ []) (so.memory q free stood) | inr is ↦ memory_here ];
       }
 
@@ -185,13 +197,18 @@ module _ (s0 s1 s2 : DiskState) (keeps : KeepsAll s1.tree s2.tree) (low : s0.fau
 
   -- one more call
   pub taken_if_done : (change : Change) (path : List ℕ) (rewrite : Rewrite) → RewritesFile change path rewrite s1 s2 → AreTaken s0 s2 (jobs ++ []) folder
-  taken_if_done change path rewrite r = no_more_taken [] (λ q free stands. elim (rewritten_takes change path rewrite s1 s2 r q stands) [ inl stood ↦ stood | inr none ↦ cc ])
+  taken_if_done change path rewrite r =
+      no_more_taken [] (λ q free stands. elim (rewritten_takes change path rewrite s1 s2 r q stands) [ inl stood ↦ stood | inr none ↦ cc ])
 
-  pub taken_if_refused : (change : Change) (path : List ℕ) (fault : JobFault) → LeavesFile change path fault s1 s2 → AreTaken s0 s2 (jobs ++ (path, fault) ∷ []) folder
-  taken_if_refused change path fault (inl same) = no_more_taken ((path, fault) ∷ []) (λ q free stands. subst (λ (t : Tree). IsSome (node_at t q)) same.tree stands)
+  pub taken_if_refused : (change : Change) (path : List ℕ) (fault : JobFault) → LeavesFile change path fault s1 s2
+      → AreTaken s0 s2 (jobs ++ (path, fault) ∷ []) folder
+  taken_if_refused change path fault (inl same) =
+      no_more_taken ((path, fault) ∷ []) (λ q free stands. subst (λ (t : Tree). IsSome (node_at t q)) same.tree stands)
   taken_if_refused change path fault (inr l) = by l.temporary refl
     where
       by : (o : Option NameList) → l.temporary ≡ o → AreTaken s0 s2 (jobs ++ (path, fault) ∷ []) folder
-      by None none = no_more_taken ((path, fault) ∷ []) (λ q free stands. elim (left_takes change path fault s1 s2 l q stands) [ inl stood ↦ stood | inr is ↦ cc ])
+      by None none =
+          no_more_taken ((path, fault) ∷ []) (λ q free stands. elim (left_takes change path fault s1 s2 l q stands) [ inl stood ↦ stood | inr is ↦ cc ])
       by (Some taken) is =
-          one_more_taken path fault taken (subst (λ (o : Option NameList). StandsBut o s1.tree s2.tree) is (left_takes change path fault s1 s2 l)) (left_beside change path fault s1 s2 l keeps taken is)
+          let but = subst (λ (o : Option NameList). StandsBut o s1.tree s2.tree) is (left_takes change path fault s1 s2 l) in
+          one_more_taken path fault taken but (left_beside change path fault s1 s2 l keeps taken is)
