@@ -1,12 +1,12 @@
 -- What a demo promises.
-use Rattle.std.specs.Prelude.{◌≡◌, ℕ, IsTrue, List, [], ◌++◌, All, ⊤}
+use Rattle.std.specs.Prelude.{◌≡◌, ℕ, IsTrue, List, ◌++◌, All, ⊤}
 use Rattle.sd_edge.specs.Streams.{SinkState}
 use Rattle.sd_change.specs.Change.{Change}
 use Rattle.sd_course.specs.Course.{Course, SinkFailed, AppendsPrefix}
 use Rattle.chosen_files.specs.Globs.{IsValid, IsFirstInvalid}
 use Rattle.tree_rewrite.specs.declared.report.Report.{Report}
 use Rattle.tree_rewrite.specs.declared.sweep_fault.SweepFault.TheVariants as sweep
-use Rattle.demo_tree.specs.Demo.{CountsDemo, DemoFails}
+use Rattle.demo_tree.specs.Sweep.{CountsDemo, DemoFails, IsForMemory}
 use Rattle.sd_core.specs.Report.{line_of}
 use Rattle.sd_core.specs.Run.{IsOrMemory}
 use Rattle.sd_core.specs.declared.error.Error.{Error}
@@ -48,10 +48,24 @@ DemoEnds change n globs out (why.Fault failed) = DemoIsRefused n globs failed
 DemoEnds change n globs out why.Usage = ⊥
 DemoEnds change n globs out why.NotYet = ⊥
 
--- it is done, or, as where no glob is invalid, fails for want of memory
+-- want of memory is the one reason left
+abbrev pub DemoIsForMemory : ℕ → Error → Type 0
+DemoIsForMemory n (error.FailedProcessing jobs) = IsForMemory n (sweep.Failed jobs)
+DemoIsForMemory n error.NoMemory = ⊤
+DemoIsForMemory n (error.BadGlob place) = ⊥
+DemoIsForMemory n (error.Regex refused) = ⊥
+DemoIsForMemory n (error.File fault) = ⊥
+DemoIsForMemory n (error.InvalidPath path) = ⊥
+DemoIsForMemory n (error.InvalidReplaceCapture capture) = ⊥
+DemoIsForMemory n error.RootMissing = ⊥
+DemoIsForMemory n (error.Walk failed) = ⊥
+DemoIsForMemory n error.TooMany = ⊥
+DemoIsForMemory n error.InputTooLong = ⊥
+
+-- it is done, or want of memory is the one reason why not
 abbrev pub IsDemoDone : ℕ → Why → Type 0
 IsDemoDone n why.Done = ⊤
-IsDemoDone n (why.Fault failed) = DemoIsRefused n [] failed
+IsDemoDone n (why.Fault failed) = DemoIsForMemory n failed
 IsDemoDone n why.Print = ⊥
 IsDemoDone n why.Usage = ⊥
 IsDemoDone n why.NotYet = ⊥

@@ -19,6 +19,7 @@ pub fn replacer_of(alloc: Global, options: &Options) -> Result<Replacer, Replace
     let find = options.find.as_str();
     let replace_with = options.replace_with.as_str();
     let flags = options.flags.as_ref().map(Text::as_str);
+    let limit = options.replacements;
     if options.line_mode {
         Replacer::new_lines(
             alloc,
@@ -26,7 +27,7 @@ pub fn replacer_of(alloc: Global, options: &Options) -> Result<Replacer, Replace
             replace_with,
             options.literal_mode,
             flags,
-            options.replacements,
+            limit,
         )
     } else {
         Replacer::new(
@@ -35,7 +36,7 @@ pub fn replacer_of(alloc: Global, options: &Options) -> Result<Replacer, Replace
             replace_with,
             options.literal_mode,
             flags,
-            options.replacements,
+            limit,
         )
     }
 }

@@ -1,6 +1,6 @@
 //! The commands, one for each mode.
 
-ghost use Rattle.std.specs.Prelude.{◌≡◌, ℕ, List, IsTrue, Some};
+ghost use Rattle.std.specs.Prelude.{◌≡◌, ◌≤◌, ℕ, IsTrue};
 ghost use Rattle.sd_change.specs.Change.{Change};
 ghost use Rattle.sd_course.specs.Course.{course};
 ghost use Rattle.sd_replace.specs.Replacement.{Changes};
@@ -55,6 +55,7 @@ pub fn demo_command<O: Sink>(
     globs: &Globs,
     replacer: &Replacer,
 ) -> Why
+    requires few { n ≤ 100000 }
     ensures demo { DemoCommand (Changes (replacement_of replacer.now)) n globs.now (course O.tells (O.state out.old) (O.state out.new)) result }
     ensures out_kept { IsFault result → out.new ≡ out.old }
 {

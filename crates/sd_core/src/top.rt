@@ -1,6 +1,6 @@
 //! The program, from its words to its status.
 
-ghost use Rattle.std.specs.Prelude.{◌≡◌, ◌≢◌, ◌×◌, ℕ, List, IsTrue, None, Some};
+ghost use Rattle.std.specs.Prelude.{◌≡◌, ◌≢◌, ◌≤◌, ℕ, List, IsTrue, None, Some};
 ghost use Rattle.sd_course.specs.Course.{course};
 ghost use Rattle.sd_words.specs.Order.{order_of};
 ghost use Rattle.sd_words.specs.declared.options.Options.{Options};
@@ -113,6 +113,7 @@ fn carry_out<D: Disk, S: Source, O: Sink>(
     input: &mut S,
     out: &mut O,
 ) -> Why
+    requires few { (n : ℕ) → options.demo ≡ Some n → n ≤ 100000 }
     ensures ordered { result ≢ Why.Usage }
     ensures not_yet { (root : List ℕ) → mode_of options ≡ mode.plan root → result ≡ Why.NotYet }
     ensures replacer { result ≢ Why.NotYet → (error : Error) → RefusesReplacer options error → IsRefusedFirst options result }
@@ -159,6 +160,8 @@ fn begin<D: Disk, S: Source, O: Sink>(
     input: &mut S,
     out: &mut O,
 ) -> Why
+    requires no_plan { (root : List ℕ) → mode_of options ≡ mode.plan root → ⊥ }
+    requires few { (n : ℕ) → options.demo ≡ Some n → n ≤ 100000 }
     ensures headline { IsTrue D.tells → (root : List ℕ) → mode_of options ≡ mode.tree root → result ≡ Why.Done
         → DoesTreeCommand (Changes (replacement_of replacer)) root options.words (D.state disk.old) (D.state disk.new) (course O.tells (O.state out.old) (O.state out.new)) }
     ensures tree { (root : List ℕ) → mode_of options ≡ mode.tree root → TreeCommand (Changes (replacement_of replacer)) root options.words
