@@ -84,7 +84,7 @@ impl App {
 }
 
 /// Replaces standard input.
-fn replace_input<S: Source, O: Sink>(
+pub(crate) fn replace_input<S: Source, O: Sink>(
     alloc: Global,
     input: &mut S,
     out: &mut O,
@@ -98,7 +98,7 @@ fn replace_input<S: Source, O: Sink>(
 }
 
 /// Rewrites each named file.
-fn rewrite_files<D: Disk>(
+pub(crate) fn rewrite_files<D: Disk>(
     alloc: Global,
     disk: &mut D,
     words: &Words,
@@ -112,7 +112,7 @@ fn rewrite_files<D: Disk>(
 }
 
 /// Writes what each named file would become.
-fn preview_files<D: Disk, O: Sink>(
+pub(crate) fn preview_files<D: Disk, O: Sink>(
     alloc: Global,
     disk: &mut D,
     out: &mut O,

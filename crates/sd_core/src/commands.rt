@@ -7,14 +7,15 @@ ghost use Rattle.sd_replace.specs.Replacement.{Changes};
 ghost use Rattle.sd_replace.specs.Replacer.{replacement_of};
 ghost use Rattle.sd_core.specs.Mode as mode;
 ghost use Rattle.sd_core.specs.Mode.{mode_by, words_mode};
-ghost use Rattle.sd_core.specs.Run.{IsFault, CallsNoDisk, ReadsNoInput, WritesNoOutput};
+ghost use Rattle.sd_core.specs.Run.{IsFault, CallsNoDisk, ReadsNoInput, WritesNoOutput, end_of};
 ghost use Rattle.sd_core.specs.TreeCommand.{DoesTreeCommand, TreeCommand};
 ghost use Rattle.sd_core.specs.DemoCommand.{DemoCommand};
 ghost use Rattle.sd_core.specs.InputCommand.{InputCommand};
 ghost use Rattle.sd_core.specs.NamedCommands.{FilesCommand, PreviewCommand};
 
+use crate::app::{preview_files, replace_input, rewrite_files};
 use crate::printing::print_report;
-use crate::{App, AppSource, Error, Why};
+use crate::{Error, Result, Why};
 use demo_tree::sweep_demo;
 use sd_base::{Globs, Words};
 use sd_edge::{Disk, Sink, Source};
@@ -68,32 +69,40 @@ pub fn demo_command<O: Sink>(
     }
 }
 
-/// Replaces standard input where no files are named, else rewrites the files, or shows what they would become.
+/// Replaces standard input where no files are named, else rewrites the files, or with `preview` shows what they would become.
 pub fn words_command<D: Disk, S: Source, O: Sink>(
     alloc: Global,
     preview: bool,
-    words: Words,
-    replacer: Replacer,
+    words: &Words,
+    replacer: &Replacer,
     disk: &mut D,
     input: &mut S,
     out: &mut O,
 ) -> Why
-    ensures standard_input { words_mode preview words ≡ mode.stream → InputCommand (Changes (replacement_of replacer))
+    ensures standard_input { words_mode preview words.now ≡ mode.stream → InputCommand (Changes (replacement_of replacer.now))
         (course S.tells (S.state input.old) (S.state input.new)) (course O.tells (O.state out.old) (O.state out.new)) result }
-    ensures files { words_mode preview words ≡ mode.files
-        → FilesCommand (Changes (replacement_of replacer)) words (course D.tells (D.state disk.old) (D.state disk.new)) result }
-    ensures preview { words_mode preview words ≡ mode.preview → PreviewCommand (Changes (replacement_of replacer)) words
+    ensures files { words_mode preview words.now ≡ mode.files
+        → FilesCommand (Changes (replacement_of replacer.now)) words.now (course D.tells (D.state disk.old) (D.state disk.new)) result }
+    ensures preview { words_mode preview words.now ≡ mode.preview → PreviewCommand (Changes (replacement_of replacer.now)) words.now
         (course D.tells (D.state disk.old) (D.state disk.new)) (course O.tells (O.state out.old) (O.state out.new)) result }
-    ensures disk_kept { CallsNoDisk (words_mode preview words) result → disk.new ≡ disk.old }
-    ensures input_kept { ReadsNoInput (words_mode preview words) → input.new ≡ input.old }
-    ensures out_kept { WritesNoOutput (words_mode preview words) result → out.new ≡ out.old }
+    ensures disk_kept { CallsNoDisk (words_mode preview words.now) result → disk.new ≡ disk.old }
+    ensures input_kept { ReadsNoInput (words_mode preview words.now) → input.new ≡ input.old }
+    ensures out_kept { WritesNoOutput (words_mode preview words.now) result → out.new ≡ out.old }
 {
-    let source = if words.is_empty() {
-        AppSource::Stdin
-    } else {
-        AppSource::Files(words)
-    };
-    match App::new(source, replacer).run(alloc, preview, disk, input, out) {
+    if words.is_empty() {
+        return why_of(replace_input(alloc, input, out, replacer));
+    }
+    if preview {
+        return why_of(preview_files(alloc, disk, out, words, replacer));
+    }
+    why_of(rewrite_files(alloc, disk, words, replacer))
+}
+
+/// Why a command ended.
+fn why_of(answer: Result<()>) -> Why
+    ensures { result ≡ end_of answer }
+{
+    match answer {
         Ok(()) => Why::Done,
         Err(error) => Why::Fault(error),
     }

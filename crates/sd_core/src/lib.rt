@@ -9,10 +9,12 @@ mod asking;
 mod commands;
 mod ended;
 mod error;
+mod laws;
 mod printing;
 mod top;
 
 pub use app::{App, AppSource};
 pub use ended::{Ended, Why};
 pub use error::{Error, Result};
+pub use laws::{a_crash_leaves_chosen_files_old_or_new, a_crash_leaves_rewritten_files_new};
 pub use top::run;

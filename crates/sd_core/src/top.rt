@@ -75,7 +75,7 @@ pub fn run<D: Disk, S: Source, O: Sink, E: Sink>(
     ensures err_kept { result.why ≡ Why.Done → err.new ≡ err.old }
 {
     let why = match Options::read(alloc, words) {
-        Ok(options) => carry_out(alloc, options, disk, input, out),
+        Ok(options) => carry_out(alloc, &options, disk, input, out),
         Err(OptionsFault::NoMemory) => Why::Fault(Error::NoMemory),
         Err(fault) => {
             print_error(err, &fault);
@@ -108,45 +108,45 @@ fn print_why<E: Sink>(err: &mut E, why: &Why)
 /// Carries out what the options ask for.
 fn carry_out<D: Disk, S: Source, O: Sink>(
     alloc: Global,
-    options: Options,
+    options: &Options,
     disk: &mut D,
     input: &mut S,
     out: &mut O,
 ) -> Why
-    requires few { (n : ℕ) → options.demo ≡ Some n → n ≤ 100000 }
+    requires few { (n : ℕ) → options.now.demo ≡ Some n → n ≤ 100000 }
     ensures ordered { result ≢ Why.Usage }
-    ensures not_yet { (root : List ℕ) → mode_of options ≡ mode.plan root → result ≡ Why.NotYet }
-    ensures replacer { result ≢ Why.NotYet → (error : Error) → RefusesReplacer options error → IsRefusedFirst options result }
-    ensures headline { IsTrue D.tells → (root : List ℕ) → mode_of options ≡ mode.tree root → result ≡ Why.Done
-        → (replacement : Replacement) × IsReplacerOf options replacement
-        × DoesTreeCommand (Changes replacement) root options.words (D.state disk.old) (D.state disk.new) (course O.tells (O.state out.old) (O.state out.new)) }
-    ensures tree { (root : List ℕ) → mode_of options ≡ mode.tree root
-        → Begins options ((disk.new ≡ disk.old) × (input.new ≡ input.old) × (out.new ≡ out.old)) result
-        (λ change. TreeCommand change root options.words (course D.tells (D.state disk.old) (D.state disk.new)) (course O.tells (O.state out.old) (O.state out.new)) result) }
-    ensures demo { (n : ℕ) → mode_of options ≡ mode.demo n
-        → Begins options ((disk.new ≡ disk.old) × (input.new ≡ input.old) × (out.new ≡ out.old)) result
-        (λ change. DemoCommand change n options.words (course O.tells (O.state out.old) (O.state out.new)) result) }
-    ensures standard_input { mode_of options ≡ mode.stream
-        → Begins options ((disk.new ≡ disk.old) × (input.new ≡ input.old) × (out.new ≡ out.old)) result
+    ensures not_yet { (root : List ℕ) → mode_of options.now ≡ mode.plan root → result ≡ Why.NotYet }
+    ensures replacer { result ≢ Why.NotYet → (error : Error) → RefusesReplacer options.now error → IsRefusedFirst options.now result }
+    ensures headline { IsTrue D.tells → (root : List ℕ) → mode_of options.now ≡ mode.tree root → result ≡ Why.Done
+        → (replacement : Replacement) × IsReplacerOf options.now replacement
+        × DoesTreeCommand (Changes replacement) root options.now.words (D.state disk.old) (D.state disk.new) (course O.tells (O.state out.old) (O.state out.new)) }
+    ensures tree { (root : List ℕ) → mode_of options.now ≡ mode.tree root
+        → Begins options.now ((disk.new ≡ disk.old) × (input.new ≡ input.old) × (out.new ≡ out.old)) result
+        (λ change. TreeCommand change root options.now.words (course D.tells (D.state disk.old) (D.state disk.new)) (course O.tells (O.state out.old) (O.state out.new)) result) }
+    ensures demo { (n : ℕ) → mode_of options.now ≡ mode.demo n
+        → Begins options.now ((disk.new ≡ disk.old) × (input.new ≡ input.old) × (out.new ≡ out.old)) result
+        (λ change. DemoCommand change n options.now.words (course O.tells (O.state out.old) (O.state out.new)) result) }
+    ensures standard_input { mode_of options.now ≡ mode.stream
+        → Begins options.now ((disk.new ≡ disk.old) × (input.new ≡ input.old) × (out.new ≡ out.old)) result
         (λ change. InputCommand change (course S.tells (S.state input.old) (S.state input.new)) (course O.tells (O.state out.old) (O.state out.new)) result) }
-    ensures files { mode_of options ≡ mode.files
-        → Begins options ((disk.new ≡ disk.old) × (input.new ≡ input.old) × (out.new ≡ out.old)) result
-        (λ change. FilesCommand change options.words (course D.tells (D.state disk.old) (D.state disk.new)) result) }
-    ensures preview { mode_of options ≡ mode.preview
-        → Begins options ((disk.new ≡ disk.old) × (input.new ≡ input.old) × (out.new ≡ out.old)) result
-        (λ change. PreviewCommand change options.words (course D.tells (D.state disk.old) (D.state disk.new)) (course O.tells (O.state out.old) (O.state out.new)) result) }
-    ensures disk_kept { CallsNoDisk (mode_of options) result → disk.new ≡ disk.old }
-    ensures input_kept { ReadsNoInput (mode_of options) → input.new ≡ input.old }
-    ensures out_kept { WritesNoOutput (mode_of options) result → out.new ≡ out.old }
+    ensures files { mode_of options.now ≡ mode.files
+        → Begins options.now ((disk.new ≡ disk.old) × (input.new ≡ input.old) × (out.new ≡ out.old)) result
+        (λ change. FilesCommand change options.now.words (course D.tells (D.state disk.old) (D.state disk.new)) result) }
+    ensures preview { mode_of options.now ≡ mode.preview
+        → Begins options.now ((disk.new ≡ disk.old) × (input.new ≡ input.old) × (out.new ≡ out.old)) result
+        (λ change. PreviewCommand change options.now.words (course D.tells (D.state disk.old) (D.state disk.new)) (course O.tells (O.state out.old) (O.state out.new)) result) }
+    ensures disk_kept { CallsNoDisk (mode_of options.now) result → disk.new ≡ disk.old }
+    ensures input_kept { ReadsNoInput (mode_of options.now) → input.new ≡ input.old }
+    ensures out_kept { WritesNoOutput (mode_of options.now) result → out.new ≡ out.old }
 {
     if options.preview && options.root.is_some() {
         return Why::NotYet;
     }
-    match replacer_of(alloc, &options) {
+    match replacer_of(alloc, options) {
         Err(fault) => Why::Fault(Error::from(fault)),
         Ok(replacer) => {
             an_asked_replacement_is_readable();
-            begin(alloc, options, replacer, disk, input, out)
+            begin(alloc, options, &replacer, disk, input, out)
         }
     }
 }
@@ -154,37 +154,37 @@ fn carry_out<D: Disk, S: Source, O: Sink>(
 /// Begins the command of the options' mode, which is no plan.
 fn begin<D: Disk, S: Source, O: Sink>(
     alloc: Global,
-    options: Options,
-    replacer: Replacer,
+    options: &Options,
+    replacer: &Replacer,
     disk: &mut D,
     input: &mut S,
     out: &mut O,
 ) -> Why
-    requires no_plan { (root : List ℕ) → mode_of options ≡ mode.plan root → ⊥ }
-    requires few { (n : ℕ) → options.demo ≡ Some n → n ≤ 100000 }
-    ensures headline { IsTrue D.tells → (root : List ℕ) → mode_of options ≡ mode.tree root → result ≡ Why.Done
-        → DoesTreeCommand (Changes (replacement_of replacer)) root options.words (D.state disk.old) (D.state disk.new) (course O.tells (O.state out.old) (O.state out.new)) }
-    ensures tree { (root : List ℕ) → mode_of options ≡ mode.tree root → TreeCommand (Changes (replacement_of replacer)) root options.words
+    requires no_plan { (root : List ℕ) → mode_of options.now ≡ mode.plan root → ⊥ }
+    requires few { (n : ℕ) → options.now.demo ≡ Some n → n ≤ 100000 }
+    ensures headline { IsTrue D.tells → (root : List ℕ) → mode_of options.now ≡ mode.tree root → result ≡ Why.Done
+        → DoesTreeCommand (Changes (replacement_of replacer.now)) root options.now.words (D.state disk.old) (D.state disk.new) (course O.tells (O.state out.old) (O.state out.new)) }
+    ensures tree { (root : List ℕ) → mode_of options.now ≡ mode.tree root → TreeCommand (Changes (replacement_of replacer.now)) root options.now.words
         (course D.tells (D.state disk.old) (D.state disk.new)) (course O.tells (O.state out.old) (O.state out.new)) result }
-    ensures demo { (n : ℕ) → mode_of options ≡ mode.demo n
-        → DemoCommand (Changes (replacement_of replacer)) n options.words (course O.tells (O.state out.old) (O.state out.new)) result }
-    ensures standard_input { mode_of options ≡ mode.stream → InputCommand (Changes (replacement_of replacer))
+    ensures demo { (n : ℕ) → mode_of options.now ≡ mode.demo n
+        → DemoCommand (Changes (replacement_of replacer.now)) n options.now.words (course O.tells (O.state out.old) (O.state out.new)) result }
+    ensures standard_input { mode_of options.now ≡ mode.stream → InputCommand (Changes (replacement_of replacer.now))
         (course S.tells (S.state input.old) (S.state input.new)) (course O.tells (O.state out.old) (O.state out.new)) result }
-    ensures files { mode_of options ≡ mode.files
-        → FilesCommand (Changes (replacement_of replacer)) options.words (course D.tells (D.state disk.old) (D.state disk.new)) result }
-    ensures preview { mode_of options ≡ mode.preview → PreviewCommand (Changes (replacement_of replacer)) options.words
+    ensures files { mode_of options.now ≡ mode.files
+        → FilesCommand (Changes (replacement_of replacer.now)) options.now.words (course D.tells (D.state disk.old) (D.state disk.new)) result }
+    ensures preview { mode_of options.now ≡ mode.preview → PreviewCommand (Changes (replacement_of replacer.now)) options.now.words
         (course D.tells (D.state disk.old) (D.state disk.new)) (course O.tells (O.state out.old) (O.state out.new)) result }
-    ensures disk_kept { CallsNoDisk (mode_of options) result → disk.new ≡ disk.old }
-    ensures input_kept { ReadsNoInput (mode_of options) → input.new ≡ input.old }
-    ensures out_kept { WritesNoOutput (mode_of options) result → out.new ≡ out.old }
+    ensures disk_kept { CallsNoDisk (mode_of options.now) result → disk.new ≡ disk.old }
+    ensures input_kept { ReadsNoInput (mode_of options.now) → input.new ≡ input.old }
+    ensures out_kept { WritesNoOutput (mode_of options.now) result → out.new ≡ out.old }
 {
     match (&options.root, options.demo) {
-        (Some(root), _) => tree_command(alloc, disk, out, root.as_str(), &options.words, &replacer),
-        (None, Some(n)) => demo_command(alloc, out, n, &options.words, &replacer),
+        (Some(root), _) => tree_command(alloc, disk, out, root.as_str(), &options.words, replacer),
+        (None, Some(n)) => demo_command(alloc, out, n, &options.words, replacer),
         (None, None) => words_command(
             alloc,
             options.preview,
-            options.words,
+            &options.words,
             replacer,
             disk,
             input,

@@ -1,5 +1,7 @@
 -- How the answers on streams and named files become those of their commands.
-use Rattle.std.proofs.Common.{◌≡◌, ℕ, ap, ◌⊎◌, inl, inr, ◌^◌, List}
+use Rattle.std.proofs.Common.{◌≡◌, ◌∙◌, ◌+◌, ◌^◌, ◌⊎◌, ℕ, zero, suc, List, [], ◌∷◌, ◌++◌, take, Some, ap, sym, inl, inr, arith}
+use Rattle.std.specs.Prelude.{slice_get}
+use Rattle.std.proofs.lemmas.Option.{same_Some}
 use Rattle.sd_edge.specs.Disk.{DiskState}
 use Rattle.sd_edge.specs.Streams.{SourceState, SinkState}
 use Rattle.sd_change.specs.Change.{Change}
@@ -42,3 +44,15 @@ pub showing_fails : (change : Change) (paths : List (List ℕ)) (d : Course Disk
 showing_fails change paths d out (preview.File fault) h = h
 showing_fails change paths d out (preview.InvalidPath path) h = h
 showing_fails change paths d out preview.NoMemory h = inr h
+
+take_one : (words : List (List ℕ)) (i : ℕ) (word : List ℕ) → slice_get words i ≡ Some word → take (suc i) words ≡ take i words ++ word ∷ []
+take_one [] i word at = cc
+take_one (x ∷ xs) zero word at = ap (λ y. y ∷ []) (same_Some _ _ at)
+take_one (x ∷ xs) (suc i) word at = ap (λ ys. x ∷ ys) (take_one xs i word at)
+
+-- one more word is copied
+pub copied_next : (words : List (List ℕ)) (i : ℕ) (old new : List (List ℕ)) (word : List ℕ) → slice_get words i ≡ Some word
+    → old ≡ take i words → new ≡ old ++ word ∷ [] → new ≡ take (i + 1) words
+copied_next words i old new word at is pushed =
+    let one : i + 1 ≡ suc i = omega arith in
+    pushed ∙ ap (λ ts. ts ++ word ∷ []) is ∙ sym (take_one words i word at) ∙ ap (λ k. take k words) (sym one)

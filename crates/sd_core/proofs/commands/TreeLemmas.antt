@@ -1,22 +1,25 @@
 -- How a sweep's answer becomes that of a command on a tree.
-use Rattle.std.proofs.Common.{◌≡◌, ℕ, ap, subst, ◌⊎◌, inl, inr, ◌^◌, List, ⊤}
-use Rattle.std.specs.Prelude.{Result, Ok, Err}
+use Rattle.std.proofs.Common.{◌≡◌, ℕ, ap, subst, sym, ◌⊎◌, inl, inr, ◌^◌, List}
+use Rattle.std.specs.Prelude.{IsTrue, Result, Ok, Err, ⊤}
 use Rattle.sd_edge.specs.Tree.{Tree}
 use Rattle.sd_edge.specs.Outcomes.{content_at}
 use Rattle.sd_edge.specs.Disk.{DiskState}
+use Rattle.sd_edge.specs.Streams.{SinkState}
 use Rattle.sd_edge.specs.Crashes.{LeavesSince}
 use Rattle.sd_change.specs.Change.{Change}
 use Rattle.sd_course.specs.Course.{Course}
 use Rattle.chosen_files.specs.Globs.{IsFirstInvalid}
+use Rattle.chosen_files.specs.Choice.{KeepsLists}
 use Rattle.tree_rewrite.specs.Files.{IsFreeBeside}
-use Rattle.tree_rewrite.specs.Rewritten.{IsNewOne}
-use Rattle.tree_rewrite.specs.Sweep.{IsChosenBelow, SweepFails, IsSweepForMemory}
+use Rattle.tree_rewrite.specs.Rewritten.{LeavesEach, IsNewOne}
+use Rattle.tree_rewrite.specs.Sweep.{IsChosenBelow, SweepFails, IsClear, IsSweepForMemory}
 use Rattle.tree_rewrite.specs.declared.report.Report.{Report}
 use Rattle.tree_rewrite.specs.declared.sweep_fault.SweepFault.{SweepFault}
 use Rattle.tree_rewrite.specs.declared.sweep_fault.SweepFault.TheVariants as sweep
 use Rattle.sd_core.specs.Errors.{of_sweep}
 use Rattle.sd_core.specs.Run.{IsOrMemory}
-use Rattle.sd_core.specs.TreeCommand.{TreeFails, IsForMemory, CrashesLeave}
+use Rattle.sd_core.specs.TreeCommand.{TreeCommand, TreeFails, IsForMemory, CrashesLeave}
+use Rattle.sd_core.specs.declared.error.Error.{Error}
 use Rattle.sd_core.specs.declared.error.Error.TheVariants as error
 use Rattle.sd_core.specs.declared.ended.Why.{Why}
 use Rattle.sd_core.specs.declared.ended.Why.TheVariants as why
@@ -72,23 +75,22 @@ unfolding IsDone
 not_done report one other (inl same) = subst IsDone same tt
 not_done report one other (inr same) = subst IsDone same tt
 
--- ---- an invalid glob that is told
+-- ---- a refused sweep
 
-TellsGlob : List (List ℕ) → Why → Type 0
-TellsGlob globs (why.Fault (error.BadGlob place)) = IsFirstInvalid globs place
-TellsGlob globs ended = ⊤
-
-tells_glob : (change : Change) (root : List ℕ) (globs : List (List ℕ)) (d : Course DiskState) (fault : SweepFault)
-    → SweepFails change root globs (2 ^ 32) d fault → TellsGlob globs (why.Fault (of_sweep fault))
-unfolding TellsGlob
-tells_glob change root globs d (sweep.BadGlob place) h = h.1
-tells_glob change root globs d sweep.RootMissing h = tt
-tells_glob change root globs d (sweep.Walk failed) h = tt
-tells_glob change root globs d sweep.TooMany h = tt
-tells_glob change root globs d (sweep.Failed jobs) h = tt
-tells_glob change root globs d sweep.NoMemory h = tt
-
-pub told_glob : (change : Change) (root : List ℕ) (globs : List (List ℕ)) (d : Course DiskState) (fault : SweepFault) (place : ℕ)
-    → SweepFails change root globs (2 ^ 32) d fault → why.Fault (of_sweep fault) ≡ why.Fault (error.BadGlob place) → IsFirstInvalid globs place
-unfolding TellsGlob
-told_glob change root globs d fault place h e = subst (TellsGlob globs) e (tells_glob change root globs d fault h)
+pub refused : (change : Change) (root : List ℕ) (globs : List (List ℕ)) (d : Course DiskState) (out : Course SinkState) (failed : Error) (fault : SweepFault)
+    → failed ≡ of_sweep fault → SweepFails change root globs (2 ^ 32) d fault
+    → ((place : ℕ) → IsFirstInvalid globs place → (failing fault ≡ failing (sweep.BadGlob place)) ⊎ (failing fault ≡ failing sweep.NoMemory))
+    → (IsTrue d.tells → LeavesEach (IsChosenBelow d.old.tree root globs) change d.old.tree d.new.tree)
+    → (IsTrue d.tells → LeavesSince (IsNewOne (IsChosenBelow d.old.tree root globs) change d.old.tree) (IsFreeBeside (IsChosenBelow d.old.tree root globs) d.old.tree) d.old d.new)
+    → KeepsLists 10 d.old d.new → (IsClear root globs (2 ^ 32) d → IsSweepForMemory d.new.tree fault)
+    → TreeCommand change root globs d out (why.Fault failed)
+refused change root globs d out failed fault is fails bad however crash lists complete =
+    subst (λ f. TreeCommand change root globs d out (why.Fault f)) (sym is) (record {
+      ends = tree_fails change root globs d fault fails;
+      bad_glob = λ place invalid. or_memory fault (sweep.BadGlob place) (bad place invalid);
+      however = however;
+      crash = λ told. of_images change root globs d.old d.new (crash told);
+      durable = λ told carried. absurd carried;
+      lists = lists;
+      complete = λ clear no. for_memory d.new.tree fault (complete clear);
+    })
