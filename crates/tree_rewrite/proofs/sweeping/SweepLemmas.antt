@@ -2,7 +2,7 @@
 use Rattle.std.proofs.Common.{◌≡◌, ◌≢◌, ◌⊎◌, ℕ, zero, suc, ◌+◌, ◌<◌, ◌≤◌, Bool, true, List, [], ◌∷◌, ◌++◌, map, refl, sym, ◌∙◌, ap, subst, inl, inr, arith}
 use Rattle.std.specs.Prelude.{Option, Some, None, IsSome, IsTrue, Contains, All, Result, Ok, Err, IsErrOf, IsErrAnd, IfOk, IfErr, OnOk, sum_by}
 use Rattle.std.proofs.lemmas.Option.{same_Some}
-use Rattle.std.proofs.lemmas.List.Elements.{All-weaker, All-head, All-tail}
+use Rattle.std.proofs.lemmas.List.Elements.{All-weaker, All-contains, All-head, All-tail}
 use Rattle.sd_edge.specs.Count.{HasRisen}
 use Rattle.sd_edge.specs.Tree.{NameList, Content, Tree, node_at, file_at}
 use Rattle.sd_edge.specs.Paths.{reached, parent_of}
@@ -20,7 +20,7 @@ use Rattle.file_rewrite.specs.Rewritten.{IsNew, IsOld, IsLeft, IsNewFile, IsChan
 use Rattle.file_rewrite.specs.OneFile.{FreeAtMost}
 use Rattle.file_rewrite.specs.declared.fault.JobFault.{JobFault}
 use Rattle.file_rewrite.specs.declared.fault.JobFault.TheVariants as job
-use Rattle.chosen_files.specs.Chosen.{IsChosen, ListsChosen}
+use Rattle.chosen_files.specs.Chosen.{IsChosen, IsPathBelow, ListsChosen}
 use Rattle.chosen_files.specs.Globs.{IsValid, IsFirstInvalid}
 use Rattle.chosen_files.specs.Below.{HasFewerBelow}
 use Rattle.chosen_files.specs.Choice.{KeepsLists, ChoiceFails}
@@ -224,7 +224,7 @@ module _ (change : Change) (s0 s1 s2 : DiskState) (same : SameTree s0 s1) where
 
 module _ (change : Change) (s0 s1 s2 : DiskState) (same : SameTree s0 s1) (root : List ℕ) (globs paths : List (List ℕ)) (cap : ℕ) (tells : Bool) (low : s0.faults ≤ s1.faults)
     (chosen : IsTrue tells → ListsChosen s0.tree root globs paths) (few : IsTrue tells → HasFewerBelow cap s0.tree root)
-    (listed : (told : IsTrue tells) → ListsFiles s1.tree paths (chosen told).places) where
+    (listed : (told : IsTrue tells) → ListsFiles s1.tree paths (chosen told).places) (below : All (IsPathBelow root) paths) where
   failed_below : (jobs : List Job) → FailsJobs change paths (course tells s1 s2) jobs → FailsSomeBelow change root globs cap (course tells s0 s2) jobs
   failed_below jobs f = record {
     some = f.some;
@@ -236,6 +236,9 @@ module _ (change : Change) (s0 s1 s2 : DiskState) (same : SameTree s0 s1) (root 
     };
     causes = causes_from change s0 s1 s2 same tells low jobs f.causes;
     name_files = f.name_files;
+    below_root =
+        All-weaker (λ (failed : Job). Contains paths failed.0) (λ (failed : Job). IsPathBelow root failed.0)
+        (λ failed there. All-contains (IsPathBelow root) paths failed.0 below there) jobs f.by_paths;
   }
 
   pub files_fail : (why : FilesFault) → FilesFail change paths (course tells s1 s2) why → SweepFails change root globs cap (course tells s0 s2) (of_files why)
