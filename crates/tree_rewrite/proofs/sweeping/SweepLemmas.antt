@@ -1,14 +1,12 @@
 -- A sweep, of its choice and the rewriting of what was chosen.
-use Rattle.std.proofs.Common.{◌≡◌, ◌≢◌, ◌⊎◌, ℕ, zero, suc, ◌+◌, ◌<◌, ◌≤◌, Bool, true, List, [], ◌∷◌, ◌++◌, map, refl, sym, ◌∙◌, ap, subst, inl, inr, arith}
-use Rattle.std.specs.Prelude.{Option, Some, None, IsSome, IsTrue, Contains, All, Result, Ok, Err, IsErrOf, IsErrAnd, IfOk, IfErr, OnOk, sum_by}
+use Rattle.std.proofs.Common.{◌≡◌, ◌⊎◌, ℕ, zero, suc, ◌≤◌, Bool, List, [], ◌∷◌, refl, sym, ◌∙◌, ap, subst, inl, inr, arith}
+use Rattle.std.specs.Prelude.{Option, Some, None, IsTrue, Contains, All, Result, Ok, Err, IsErrAnd, IfErr, sum_by}
 use Rattle.std.proofs.lemmas.Option.{same_Some}
 use Rattle.std.proofs.lemmas.List.Elements.{All-weaker, All-contains, All-head, All-tail}
-use Rattle.sd_edge.specs.Count.{HasRisen}
 use Rattle.sd_edge.specs.Tree.{NameList, Content, Tree, node_at, file_at}
-use Rattle.sd_edge.specs.Paths.{reached, parent_of}
-use Rattle.sd_edge.specs.Outcomes.{Leaves}
+use Rattle.sd_edge.specs.Paths.{parent_of}
 use Rattle.sd_edge.specs.Files.{file_of}
-use Rattle.sd_edge.specs.Disk.{DiskState, SameTree, SameLists, outcomes_now}
+use Rattle.sd_edge.specs.Disk.{DiskState, SameTree}
 use Rattle.sd_edge.specs.Crashes.{LeavesSince, IsDurable}
 use Rattle.sd_edge.specs.declared.fault.DiskFault.TheVariants as disk
 use Rattle.sd_edge.proofs.CrashLemmas.{since_same, since_then, since_more}
@@ -17,29 +15,24 @@ use Rattle.sd_course.specs.Course.{course, HasRisenBy}
 use Rattle.file_exchange.specs.Reserved.{Free}
 use Rattle.file_exchange.proofs.CauseLemmas.{risen_since}
 use Rattle.file_rewrite.specs.Rewritten.{IsNew, IsOld, IsLeft, IsNewFile, IsChangedFile}
-use Rattle.file_rewrite.specs.OneFile.{FreeAtMost}
 use Rattle.file_rewrite.specs.declared.fault.JobFault.{JobFault}
 use Rattle.file_rewrite.specs.declared.fault.JobFault.TheVariants as job
 use Rattle.chosen_files.specs.Chosen.{IsChosen, IsPathBelow, ListsChosen}
 use Rattle.chosen_files.specs.Globs.{IsValid, IsFirstInvalid}
 use Rattle.chosen_files.specs.Below.{HasFewerBelow}
-use Rattle.chosen_files.specs.Choice.{KeepsLists, ChoiceFails}
 use Rattle.chosen_files.specs.declared.globs.GlobsError.{GlobsError}
 use Rattle.chosen_files.specs.declared.globs.GlobsError.TheVariants as globs_error
-use Rattle.chosen_files.specs.declared.fault.ChoiceFault.{ChoiceFault}
-use Rattle.chosen_files.specs.declared.fault.ChoiceFault.TheVariants as choice_fault
 use Rattle.tree_rewrite.specs.Files.{ListsFiles, IsFreeBeside, HasRoom}
 use Rattle.tree_rewrite.specs.Rewritten.{KeepsNode, IsRewritten, LeavesEach, IsNewOne, IsChangedOne}
 use Rattle.tree_rewrite.specs.Counts.{Counts, RewritesFiles}
 use Rattle.tree_rewrite.specs.Jobs.{Job, faults_needed, HasJobCause, IsCrowdedOut, HaveCauses}
 use Rattle.tree_rewrite.specs.Turns.{Turn, faults_of_turn, EndsSo, IsTurn, FailsFiles}
 use Rattle.tree_rewrite.specs.Ends.{FailsJobs, FilesFail, IsForMemory}
-use Rattle.tree_rewrite.specs.Sweep.{IsChosenBelow, RewritesTree, FailsTree, FailsSomeBelow, SweepFails, IsSweepForMemory}
-use Rattle.tree_rewrite.specs.SweepFaults.{of_globs, of_choice, of_files}
+use Rattle.tree_rewrite.specs.Sweep.{IsChosenBelow, RewritesTree, FailsSomeBelow, SweepFails, IsSweepForMemory}
+use Rattle.tree_rewrite.specs.SweepFaults.{of_globs, of_files}
 use Rattle.tree_rewrite.specs.declared.report.Report.{Report}
 use Rattle.tree_rewrite.specs.declared.fault.FilesFault.{FilesFault}
 use Rattle.tree_rewrite.specs.declared.fault.FilesFault.TheVariants as files_fault
-use Rattle.tree_rewrite.specs.declared.sweep_fault.SweepFault.{SweepFault}
 use Rattle.tree_rewrite.specs.declared.sweep_fault.SweepFault.TheVariants as sweep
 use Rattle.file_rewrite.specs.Paths.{IsNoPath}
 use Rattle.sd_edge.specs.Tree.{IsTree}

@@ -1,5 +1,5 @@
-use Rattle.std.proofs.Common.{◌≡◌, ◌∙◌, sym, ap, refl, inl, inr}
-use Rattle.std.specs.Prelude.{Err, IsTrue}
+use Rattle.std.proofs.Common.{◌∙◌, ap, refl, inl, inr}
+use Rattle.std.specs.Prelude.{Err}
 use Rattle.file_exchange.proofs.CauseLemmas.{risen_since}
 use Rattle.tree_rewrite.proofs.sweeping.SweepLemmas.{told_on, is_told, none_first, globs_told, globs_for_memory, rewrites_tree, left_from, crash_from, durable_from, room_for, files_fail, files_for_memory, chosen_kept, listed_at}
 use Rattle.tree_rewrite.proofs.sweeping.sweep_capped.Goals as goal
