@@ -1,6 +1,6 @@
 -- Globs of ASCII characters: whether they are valid, and what one fits.
 use Rattle.std.proofs.Common.{◌≡◌, ℕ, ◌<◌, List, [], ◌∷◌, refl, sym, subst, inl, inr}
-use Rattle.std.specs.Prelude.{chars, IsSome, Option, None}
+use Rattle.std.specs.Prelude.{chars, IsSome, None}
 use Rattle.std.specs.List.{AllByRecursion}
 use Rattle.std.specs.Str.{IsAscii}
 use Rattle.std.proofs.lemmas.List.Elements.{All-from_recursion}

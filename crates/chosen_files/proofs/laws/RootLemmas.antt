@@ -1,9 +1,9 @@
 -- Where the path of a root and of names below it leads.
 use Rattle.std.proofs.Common.{◌≡◌, ◌≢◌, ℕ, Bool, true, false, cond, List, [], ◌∷◌, ◌++◌, map, Some, refl, sym, ◌∙◌, ap, subst, inl, inr, append_assoc}
-use Rattle.std.specs.Prelude.{IsSome, is_some, nat_eq, Option}
-use Rattle.std.specs.List.{ends_with, join_with_byte}
+use Rattle.std.specs.Prelude.{IsSome, is_some, Option}
+use Rattle.std.specs.List.{join_with_byte}
 use Rattle.std.proofs.lemmas.List.{append_cancel_left}
-use Rattle.sd_edge.specs.Tree.{Name, NameList, Content, directory, link, file, other, Node, Tree, IsTree, IsName, node_at, file_at, file_node, file_content, is_directory_at, is_directory_node, is_directory_content}
+use Rattle.sd_edge.specs.Tree.{Name, NameList, Content, directory, link, file, other, Node, Tree, IsTree, IsName, node_at, file_node, file_content, is_directory_at, is_directory_node, is_directory_content}
 use Rattle.sd_edge.specs.Paths.{reached}
 use Rattle.sd_edge.specs.Lists.{directory_of}
 use Rattle.sd_edge.proofs.PathTextLemmas.{above}
