@@ -33,11 +33,11 @@ Chosen tree root globs places = IsListOf (IsChosen tree root globs) places
 abbrev pub path_from : List ℕ → NameList → List ℕ
 path_from root names = path_below root (join_with_byte 47 names)
 
--- the path is that of something below a root
+-- the path is the root as it was given, `/` unless it ends with it, and more
 abbrev pub IsPathBelow : List ℕ → List ℕ → Type 0
 IsPathBelow root path = (names : List ℕ) × (path ≡ path_below root names)
 
--- the paths of the chosen files below the node that the root leads to, links followed: each of the root as it was given and the file's names from there
+-- The paths of the chosen files below the node that the root leads to, links followed: each is of the root as it was given, and the file's names from there.
 pub record ListsChosen (tree : Tree) (root : List ℕ) (globs : List (List ℕ)) (paths : List (List ℕ)) : Type 0 where
   pub top : NameList
   pub leads : reached tree root true ≡ Some top
