@@ -80,11 +80,12 @@ fn compare_at(
     Ok(is_found)
 }
 
-/// Compares the searches for a pattern from each place of these texts, by blocks of several lengths too, or, for a pattern of five
-/// nodes, from the first. Gives how many find a match, and how many do not.
+/// Compares the searches for a pattern in these ways from each place of these texts, or, for a pattern of five nodes, from the first.
+/// Gives how many find a match, and how many do not.
 fn compare(
     rt: &(impl Abort + AllocGlobal),
     signs: &[u8],
+    ways: &[Way],
     texts: &[Vec<u8>],
 ) -> Result<(usize, usize), Fail> {
     let alloc = rt.alloc();
@@ -94,19 +95,6 @@ fn compare(
     let mut slots = Slots::new(alloc, groups)?;
     let mut matching: usize = 0;
     let mut others: usize = 0;
-    let ways = [
-        Way::InOnePass,
-        Way::WithCountedSteps,
-        Way::ByBlocks(1),
-        Way::ByBlocks(2),
-        Way::ByBlocks(3),
-        Way::ByBlocks(256),
-    ];
-    let ways = if signs.len() < 5 {
-        ways.as_slice()
-    } else {
-        &ways[..2]
-    };
     for text in texts {
         let last = if signs.len() < 5 { text.len() } else { 0 };
         for at in 0..last + 1 {
@@ -120,13 +108,14 @@ fn compare(
     Ok((matching, others))
 }
 
-/// Compares the searches for all patterns among the words of so many numbers over some signs, on the 31 texts over two letters with
-/// at most four bytes. Gives how many comparisons there were.
+/// Compares the searches in these ways for all patterns among so many words over some signs, on the 31 texts over two letters with at
+/// most four bytes, which have 129 places. Gives how many comparisons there were.
 fn compare_all(
     rt: &(impl Abort + AllocGlobal),
     signs: &[u8],
     numbers: usize,
     letters: &[u8],
+    ways: &[Way],
 ) -> Result<usize, Fail> {
     let alloc = rt.alloc();
     let texts = words(alloc, letters, 31)?;
@@ -135,7 +124,7 @@ fn compare_all(
     for number in 0..numbers {
         let word = word(alloc, signs, number)?;
         if is_pattern(&word) {
-            let (more, less) = compare(rt, &word, &texts)?;
+            let (more, less) = compare(rt, &word, ways, &texts)?;
             matching = matching.saturating_add(more);
             others = others.saturating_add(less);
         }
@@ -144,19 +133,34 @@ fn compare_all(
     Ok(matching.saturating_add(others))
 }
 
-// The words of at most five signs, on texts that have 129 places: 1119 of the shorter words are patterns, and 7992 of those of
-// five.
+// The words of at most five signs: 1119 of the shorter words are patterns, and 7992 of those of five.
 #[test]
 fn all_small_patterns_match_as_by_the_stack(rt: HostRuntime) -> Result<(), Fail> {
-    let comparisons = compare_all(&rt, SIGNS, 177_156, b"ab")?;
+    let ways = [Way::InOnePass, Way::WithCountedSteps];
+    let comparisons = compare_all(&rt, SIGNS, 177_156, b"ab", &ways)?;
     assert_eq!(rt; comparisons, 1_119 * 129 + 7_992 * 31);
     Ok(())
 }
 
-// The same with looks: 284 of the shorter words are patterns, and 1344 of those of five.
+// The words of at most four signs, over blocks of one place, of two, of three and of as many as a search has.
+#[test]
+fn all_small_patterns_match_over_blocks(rt: HostRuntime) -> Result<(), Fail> {
+    let ways = [
+        Way::ByBlocks(1),
+        Way::ByBlocks(2),
+        Way::ByBlocks(3),
+        Way::ByBlocks(256),
+    ];
+    let comparisons = compare_all(&rt, SIGNS, 16_105, b"ab", &ways)?;
+    assert_eq!(rt; comparisons, 1_119 * 129);
+    Ok(())
+}
+
+// The words of at most five signs with looks: 284 of the shorter words are patterns, and 1344 of those of five.
 #[test]
 fn all_small_patterns_with_looks_match_as_by_the_stack(rt: HostRuntime) -> Result<(), Fail> {
-    let comparisons = compare_all(&rt, LOOKS, 37_449, b"a\n")?;
+    let ways = [Way::InOnePass, Way::WithCountedSteps, Way::ByBlocks(1)];
+    let comparisons = compare_all(&rt, LOOKS, 37_449, b"a\n", &ways)?;
     assert_eq!(rt; comparisons, 284 * 129 + 1_344 * 31);
     Ok(())
 }
