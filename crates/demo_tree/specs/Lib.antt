@@ -1,0 +1,4 @@
+pub mod Demo
+pub mod Examples
+pub mod FaultlessDisk
+pub mod Sweep
