@@ -26,13 +26,13 @@ other_place p q ne = by (same_place p q) refl
 
 -- ---- of the numbers in a range
 
-no_file_in : (q : NameList) (a n : ℕ) → ((k : ℕ) → a ≤ k → k < a + n → q ≢ (demo_file k).place) → find (λ found. same_place q found.place) (map demo_file (range_with_len a n)) ≡ None
+pub no_file_in : (q : NameList) (a n : ℕ) → ((k : ℕ) → a ≤ k → k < a + n → q ≢ (demo_file k).place) → find (λ found. same_place q found.place) (map demo_file (range_with_len a n)) ≡ None
 no_file_in q a zero none = refl
 no_file_in q a (suc n) none =
     ap (λ b. cond b (Some (demo_file a)) (find (λ found. same_place q found.place) (map demo_file (range_with_len (a + 1) n)))) (other_place q (demo_file a).place (none a (omega arith) (omega arith)))
     ∙ no_file_in q (a + 1) n (λ k low lower. none k (omega arith) (omega arith))
 
-no_folder_in : (q : NameList) (a n : ℕ) → ((k : ℕ) → a ≤ k → k < a + n → q ≢ demo_folder k) → list_any (same_place q) (map demo_folder (range_with_len a n)) ≡ false
+pub no_folder_in : (q : NameList) (a n : ℕ) → ((k : ℕ) → a ≤ k → k < a + n → q ≢ demo_folder k) → list_any (same_place q) (map demo_folder (range_with_len a n)) ≡ false
 no_folder_in q a zero none = refl
 no_folder_in q a (suc n) none =
     ap (λ b. b || list_any (same_place q) (map demo_folder (range_with_len (a + 1) n))) (other_place q (demo_folder a) (none a (omega arith) (omega arith)))
@@ -138,7 +138,7 @@ module _ (n : ℕ) where
       folders : list_any (same_place (demo_file n).place) (map demo_folder (range_with_len 0 n)) ≡ false
       folders = no_folder_in (demo_file n).place 0 n (λ k low lower e. cc)
 
-split_eq : (a k : ℕ) → (a ≡ k) ⊎ (a ≢ k)
+pub split_eq : (a k : ℕ) → (a ≡ k) ⊎ (a ≢ k)
 split_eq a k = by (eqb a k) refl
   where
     by : (b : Bool) → eqb a k ≡ b → (a ≡ k) ⊎ (a ≢ k)
