@@ -1,7 +1,7 @@
 //! Disks and sinks that fail.
 
 use crate::disks::{NEW_A, NEW_B, OLD_A, OLD_B, held, is_as_built, small_disk};
-use crate::in_turn::rewritten;
+use crate::in_turn::{fault_of, rewritten};
 use crate::shown::shown;
 use sd_edge::{MemDisk, MemSink};
 use std::alloc::Global;
@@ -43,19 +43,15 @@ fn states(alloc: Global, disk: &MemDisk) -> Result<(State, State), Fail> {
     ))
 }
 
-const A_FAILED: &str =
-    "failed processing files:\n\tFailedJobs(\n\t/t/a.txt: input or output failed\n)";
+const A_FAILED: &str = "/t/a.txt: input or output failed";
 
-const A_UNMOVED: &str =
-    "failed processing files:\n\tFailedJobs(\n\t/t/a.txt: failed to move file: input or output failed\n)";
+const A_UNMOVED: &str = "/t/a.txt: failed to move file: input or output failed";
 
-const B_FAILED: &str =
-    "failed processing files:\n\tFailedJobs(\n\t/t/b.md: input or output failed\n)";
+const B_FAILED: &str = "/t/b.md: input or output failed";
 
-const B_UNMOVED: &str =
-    "failed processing files:\n\tFailedJobs(\n\t/t/b.md: failed to move file: input or output failed\n)";
+const B_UNMOVED: &str = "/t/b.md: failed to move file: input or output failed";
 
-/// The faults that one failing call of the disk may bring, and what becomes of the files: the one of the call is old before its move
+/// The jobs that one failing call of the disk may bring, and what becomes of the files: the one of the call is old before its move
 /// and old or new from then on, and the other is new.
 const ENDS: [(&str, State, State); 6] = [
     (A_FAILED, State::Old, State::New),
@@ -67,9 +63,13 @@ const ENDS: [(&str, State, State); 6] = [
 ];
 
 /// Whether one failing call may end so.
-fn may_end(fault: &str, a: State, b: State) -> bool {
-    ENDS.iter()
-        .any(|end| end.0 == fault && end.1 == a && end.2 == b)
+fn may_end(alloc: Global, fault: &str, a: State, b: State) -> Result<bool, Fail> {
+    for (job, state_a, state_b) in ENDS {
+        if state_a == a && state_b == b && fault_of(alloc, &[job])?.as_str() == fault {
+            return Ok(true);
+        }
+    }
+    Ok(false)
 }
 
 /// How many calls the rewriting of both files makes.
@@ -90,7 +90,7 @@ fn one_fault_fails_one_file(rt: HostRuntime) -> Result<(), Fail> {
         let fault = rewritten(alloc, &mut disk, NEW_B, &BOTH)?;
         let (a, b) = states(alloc, &disk)?;
         assert!(rt;
-            may_end(fault.as_str(), a, b),
+            may_end(alloc, fault.as_str(), a, b)?,
             "call {call}: {a:?} {b:?} {fault}"
         );
         assert_eq!(rt; disk.faults(), 1, "call {call}");

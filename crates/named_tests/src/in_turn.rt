@@ -27,14 +27,28 @@ pub(crate) fn rewritten(
     }
 }
 
-/// Files that are named, the text that takes the place of `one`, what `/t/a.txt` and `/t/b.md` hold then, and the fault.
+/// The text of the fault that tells these jobs; none where there is no job.
+pub(crate) fn fault_of(alloc: Global, jobs: &[&str]) -> Result<String, Fail> {
+    let mut text = String::new(alloc);
+    if jobs.is_empty() {
+        return Ok(text);
+    }
+    text.push_str("failed processing files:\n\tFailedJobs(\n")?;
+    for job in jobs {
+        text.push_str(format!(in alloc; "\t{job}\n")?.as_str())?;
+    }
+    text.push(')')?;
+    Ok(text)
+}
+
+/// Files that are named, the text that takes the place of `one`, what `/t/a.txt` and `/t/b.md` hold then, and the jobs.
 #[derive(Clone, Copy)]
 struct Row {
     paths: &'static [&'static str],
     with: &'static [u8],
     a: &'static [u8],
     b: &'static [u8],
-    fault: &'static str,
+    jobs: &'static [&'static str],
 }
 
 /// Names the files of a row on a disk of its own.
@@ -42,8 +56,9 @@ fn check(rt: &(impl Abort + AllocGlobal), row: &Row) -> Result<(), Fail> {
     let alloc = rt.alloc();
     let mut disk = small_disk(alloc)?;
     let paths = row.paths;
+    let wanted = fault_of(alloc, row.jobs)?;
     let fault = rewritten(alloc, &mut disk, row.with, paths)?;
-    assert_eq!(rt; fault.as_str(), row.fault, "{paths:?}");
+    assert_eq!(rt; fault.as_str(), wanted.as_str(), "{paths:?}");
     assert!(rt; holds(alloc, &disk, "/t/a.txt", row.a)?, "{paths:?}");
     assert!(rt; holds(alloc, &disk, "/t/b.md", row.b)?, "{paths:?}");
     assert!(rt; holds(alloc, &disk, "/t/two", b"two")?, "{paths:?}");
@@ -61,21 +76,21 @@ const DONE: [Row; 6] = [
         with: b"1",
         a: OLD_A,
         b: OLD_B,
-        fault: "",
+        jobs: &[],
     },
     Row {
         paths: &["/t/a.txt"],
         with: b"1",
         a: NEW_A,
         b: OLD_B,
-        fault: "",
+        jobs: &[],
     },
     Row {
         paths: &["/t/b.md", "/t/two", "/t/empty", "/t/a.txt"],
         with: b"1",
         a: NEW_A,
         b: NEW_B,
-        fault: "",
+        jobs: &[],
     },
     // a file that is named twice is replaced twice, as the words before left it
     Row {
@@ -83,21 +98,21 @@ const DONE: [Row; 6] = [
         with: b"(one)",
         a: OLD_A,
         b: b"((one))",
-        fault: "",
+        jobs: &[],
     },
     Row {
         paths: &["/l", "/t/b.md", "t/a.txt"],
         with: b"(one)",
         a: b"((one)) two ((one))",
         b: b"(one)",
-        fault: "",
+        jobs: &[],
     },
     Row {
         paths: &["/l", "/t/a.txt"],
         with: b"1",
         a: NEW_A,
         b: OLD_B,
-        fault: "",
+        jobs: &[],
     },
 ];
 
@@ -115,7 +130,7 @@ const FAILED: [Row; 6] = [
         with: b"1",
         a: OLD_A,
         b: NEW_B,
-        fault: "failed processing files:\n\tFailedJobs(\n\t/t/none: no such file or directory\n)",
+        jobs: &["/t/none: no such file or directory"],
     },
     // the files after one that fails are rewritten
     Row {
@@ -123,7 +138,7 @@ const FAILED: [Row; 6] = [
         with: b"1",
         a: NEW_A,
         b: NEW_B,
-        fault: "failed processing files:\n\tFailedJobs(\n\t/t/none: no such file or directory\n)",
+        jobs: &["/t/none: no such file or directory"],
     },
     // a folder is no file
     Row {
@@ -131,7 +146,10 @@ const FAILED: [Row; 6] = [
         with: b"1",
         a: NEW_A,
         b: OLD_B,
-        fault: "failed processing files:\n\tFailedJobs(\n\t/t: no such file or directory\n\t/t/a.txt/b: no such file or directory\n)",
+        jobs: &[
+            "/t: no such file or directory",
+            "/t/a.txt/b: no such file or directory",
+        ],
     },
     // paths that name no file
     Row {
@@ -139,7 +157,11 @@ const FAILED: [Row; 6] = [
         with: b"1",
         a: NEW_A,
         b: NEW_B,
-        fault: "failed processing files:\n\tFailedJobs(\n\t: file doesn't have parent path\n\t/: file doesn't have parent path\n\t//: file doesn't have parent path\n)",
+        jobs: &[
+            ": file doesn't have parent path",
+            "/: file doesn't have parent path",
+            "//: file doesn't have parent path",
+        ],
     },
     // a path that is named twice fails twice, and paths are told as they were named
     Row {
@@ -147,14 +169,20 @@ const FAILED: [Row; 6] = [
         with: b"1",
         a: OLD_A,
         b: OLD_B,
-        fault: "failed processing files:\n\tFailedJobs(\n\tt/../none: no such file or directory\n\tt/../none: no such file or directory\n)",
+        jobs: &[
+            "t/../none: no such file or directory",
+            "t/../none: no such file or directory",
+        ],
     },
     Row {
         paths: &["/", "/t/none"],
         with: b"1",
         a: OLD_A,
         b: OLD_B,
-        fault: "failed processing files:\n\tFailedJobs(\n\t/: file doesn't have parent path\n\t/t/none: no such file or directory\n)",
+        jobs: &[
+            "/: file doesn't have parent path",
+            "/t/none: no such file or directory",
+        ],
     },
 ];
 
