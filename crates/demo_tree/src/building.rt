@@ -1,11 +1,11 @@
 //! The tree of a demo on a disk in memory.
 
-ghost use Rattle.std.specs.Prelude.{◌≡◌, ◌≤◌, ◌<◌, ◌↔◌, ⊥, IsOk, IsErrOf, IfOk, OnOk};
+ghost use Rattle.std.specs.Prelude.{◌≡◌, ◌≤◌, ◌<◌, ◌↔◌, ◌+◌, IsOk, IsErrOf, IfOk, OnOk};
 ghost use Rattle.std.specs.String.{string_bytes};
-ghost use Rattle.sd_edge.specs.Tree.{directory, file};
 ghost use Rattle.sd_edge.specs.Files.{path_text};
-ghost use Rattle.sd_edge.specs.MemDisk.{mem_state, IsUncalled, Builds, KeepsCounts};
-ghost use Rattle.demo_tree.specs.Demo.{IsDemo, demo_folder, demo_file, demo_bytes, demo_mode};
+ghost use Rattle.sd_edge.specs.MemDisk.{mem_state, IsUncalled, KeepsCounts};
+ghost use Rattle.demo_tree.specs.Demo.{IsDemo, demo_folder, demo_file, demo_ending, demo_bytes};
+ghost use Rattle.demo_tree.specs.Building.{HasNextFolder};
 
 use sd_base::NoMemory;
 use sd_edge::{BuildFault, MemDisk};
@@ -30,22 +30,32 @@ pub fn demo_disk(alloc: Global, n: u64) -> Result<MemDisk, NoMemory>
     let mut disk = MemDisk::new(alloc);
     memory_alone(disk.add_dir("/demo"))?;
     for i in 0..n {
+        add_folder(alloc, &mut disk, i)?;
         add_file(alloc, &mut disk, i)?;
     }
     Ok(disk)
 }
 
-/// Adds the file of a number, which has the next one; its folder too, where it is the first file there.
+/// Adds the folder of the next file, where it isn't there yet.
+fn add_folder(alloc: Global, disk: &mut MemDisk, i: u64) -> Result<(), NoMemory>
+    requires { IsDemo i (mem_state disk.old).tree }
+    ensures added { OnOk result (HasNextFolder i (mem_state disk.new).tree) }
+    ensures counts { KeepsCounts disk.old disk.new }
+{
+    if i >= FOLDERS {
+        return Ok(());
+    }
+    let path = folder_path(alloc, i)?;
+    memory_alone(disk.add_dir(path.as_str()))
+}
+
+/// Adds the next file to its folder.
 fn add_file(alloc: Global, disk: &mut MemDisk, i: u64) -> Result<(), NoMemory>
     requires few { i < 100000 }
-    requires demo { IsDemo i (mem_state disk.old).tree }
+    requires folder { HasNextFolder i (mem_state disk.old).tree }
     ensures added { OnOk result (IsDemo (i + 1) (mem_state disk.new).tree) }
     ensures counts { KeepsCounts disk.old disk.new }
 {
-    if i < FOLDERS {
-        let folder = folder_path(alloc, i)?;
-        memory_alone(disk.add_dir(folder.as_str()))?;
-    }
     let path = file_path(alloc, i)?;
     let text = text_of(alloc, i)?;
     memory_alone(disk.add_file(path.as_str(), text.as_bytes(), MODE))
@@ -77,8 +87,15 @@ fn file_path(alloc: Global, i: u64) -> Result<String, NoMemory>
     ensures { IfOk result (λ path. string_bytes path ≡ path_text (demo_file i).place) }
 {
     let folder = i % FOLDERS;
-    let extension = if i % 3 == 2 { "md" } else { "txt" };
-    Ok(format!(in alloc; "/demo/d{folder:02}/f{i:08}.{extension}")?)
+    let ending = ending(i);
+    Ok(format!(in alloc; "/demo/d{folder:02}/f{i:08}{ending}")?)
+}
+
+/// How the name of a file ends.
+fn ending(i: u64) -> &'static str
+    ensures { result.now ≡ demo_ending i }
+{
+    if i % 3 == 2 { ".md" } else { ".txt" }
 }
 
 /// The text of a file.

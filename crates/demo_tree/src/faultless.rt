@@ -63,11 +63,13 @@ impl Disk for FaultlessDisk {
         if self.listed == u64::MAX {
             return Err(DiskFault::NoMemory);
         }
-        let entry = self.disk.next_entry(alloc, list)?;
-        if entry.is_some() {
-            self.listed += 1;
+        match self.disk.next_entry(alloc, list)? {
+            None => Ok(None),
+            Some(entry) => {
+                self.listed += 1;
+                Ok(Some(entry))
+            }
         }
-        Ok(entry)
     }
 
     fn close_dir(&mut self, list: ListId) {

@@ -1,0 +1,107 @@
+//! Disks that fail under a command.
+
+use crate::disks::{NEW, OLD, holds, one_to_digit, swept};
+use sd_edge::MemDisk;
+use std::alloc::Global;
+use std::test::Fail;
+
+/// Three files in two folders.
+fn three_files(alloc: Global) -> Result<MemDisk, Fail> {
+    let mut disk = MemDisk::new(alloc);
+    for folder in ["/t", "/t/a", "/t/b"] {
+        disk.add_dir(folder)?;
+    }
+    for path in PATHS {
+        disk.add_file(path, OLD, 0o640)?;
+    }
+    Ok(disk)
+}
+
+/// The paths of the three files, in the order of names.
+const PATHS: [&str; 3] = ["/t/a/x", "/t/a/y", "/t/b/z"];
+
+/// Puts `1` in place of each `one` in all three files, and gives what is told.
+fn told(alloc: Global, disk: &mut MemDisk) -> Result<String, Fail> {
+    swept(alloc, disk, "/t", &["**"], &one_to_digit(alloc))
+}
+
+/// Whether each file but that at a path holds these bytes.
+fn others_hold(alloc: Global, disk: &MemDisk, path: &str, bytes: &[u8]) -> Result<bool, Fail> {
+    for other in PATHS {
+        if other != path && !holds(alloc, disk, other, bytes)? {
+            return Ok(false);
+        }
+    }
+    Ok(true)
+}
+
+/// What is told where the one file at this path failed so.
+fn one_job(alloc: Global, path: &str, fault: &str) -> Result<String, Fail> {
+    Ok(format!(in alloc; "failed processing files:\n\tFailedJobs(\n\t{path}: {fault}\n)")?)
+}
+
+const FAILED: &str = "input or output failed";
+
+const UNMOVED: &str = "failed to move file: input or output failed";
+
+/// Whether it is told that the one file at this path failed, and it is as its fault says: old before its move, and old or new from
+/// then on.
+fn is_failed(alloc: Global, disk: &MemDisk, text: &str, path: &str) -> Result<bool, Fail> {
+    let old = holds(alloc, disk, path, OLD)?;
+    let new = holds(alloc, disk, path, NEW)?;
+    let before = text == one_job(alloc, path, FAILED)?.as_str();
+    let since = text == one_job(alloc, path, UNMOVED)?.as_str();
+    Ok(before && old || since && (old || new))
+}
+
+/// Whether it is told that one file failed, which is as its fault says, and all others are new.
+fn has_one_failed(alloc: Global, disk: &MemDisk, text: &str) -> Result<bool, Fail> {
+    for path in PATHS {
+        if is_failed(alloc, disk, text, path)? {
+            return others_hold(alloc, disk, path, NEW);
+        }
+    }
+    Ok(false)
+}
+
+/// Whether a failure of the listing is told, and all files are old.
+fn is_unlisted(alloc: Global, disk: &MemDisk, text: &str) -> Result<bool, Fail> {
+    let is_told = text == FAILED
+        || text.starts_with("IO error for operation on /t") && text.ends_with(FAILED);
+    Ok(is_told && others_hold(alloc, disk, "", OLD)?)
+}
+
+/// How many calls the command makes.
+fn calls_of_all(alloc: Global) -> Result<u64, Fail> {
+    let mut disk = three_files(alloc)?;
+    let _told = told(alloc, &mut disk)?;
+    Ok(disk.calls())
+}
+
+#[test]
+fn one_fault_fails_one_file(rt: HostRuntime) -> Result<(), Fail> {
+    let alloc = rt.alloc();
+    let calls = calls_of_all(alloc)?;
+    let mut unlisted = 0_u64;
+    for call in 1..=calls {
+        let mut disk = three_files(alloc)?;
+        disk.fail_at(call)?;
+        let text = told(alloc, &mut disk)?;
+        let text = text.as_str();
+        if is_unlisted(alloc, &disk, text)? {
+            unlisted = unlisted.saturating_add(1);
+        } else {
+            assert!(rt; has_one_failed(alloc, &disk, text)?, "call {call}: {text}");
+        }
+        assert_eq!(rt; disk.faults(), 1, "call {call}");
+        assert_eq!(rt; disk.mode_at("/t/a/x"), Some(0o640), "call {call}");
+        assert_eq!(rt; disk.mode_at("/t/a/.sd-0000.tmp"), None, "call {call}");
+        assert_eq!(rt; disk.mode_at("/t/b/.sd-0000.tmp"), None, "call {call}");
+    }
+    // three lists with five entries, and three lengths; then six steps for each file
+    assert!(rt;
+        unlisted >= 11 && calls.saturating_sub(unlisted) >= 18,
+        "{unlisted} of {calls}"
+    );
+    Ok(())
+}
