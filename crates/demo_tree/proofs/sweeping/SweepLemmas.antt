@@ -41,7 +41,8 @@ pub all_or_first : (globs : List (List ℕ)) → All IsValid globs ⊎ ((place :
 all_or_first [] = inl (All-nil IsValid)
 all_or_first (glob ∷ globs) = by (is_some (pieces_of (chars glob))) refl (all_or_first globs)
   where
-    by : (b : Bool) → is_some (pieces_of (chars glob)) ≡ b → All IsValid globs ⊎ ((place : ℕ) × IsFirstInvalid globs place) → All IsValid (glob ∷ globs) ⊎ ((place : ℕ) × IsFirstInvalid (glob ∷ globs) place)
+    by : (b : Bool) → is_some (pieces_of (chars glob)) ≡ b → All IsValid globs ⊎ ((place : ℕ) × IsFirstInvalid globs place)
+        → All IsValid (glob ∷ globs) ⊎ ((place : ℕ) × IsFirstInvalid (glob ∷ globs) place)
     by true valid (inl all) = inl (All-cons IsValid glob globs valid all)
     by true valid (inr (place, at)) = inr (suc place, (valid, at))
     by false e rest = inr (0, λ valid. cc (sym e ∙ valid))
@@ -70,11 +71,13 @@ module _ (change : Change) (n : ℕ) (globs : List (List ℕ)) (old new : DiskSt
     is_demo = demo;
     places = r.chosen.places;
     chosen =
-        subst (λ (top : NameList). Chosen old.tree top globs r.chosen.places) (same_Some r.chosen.top demo_place (sym r.chosen.leads ∙ demo_leads n old.tree demo)) r.chosen.chosen;
+        subst (λ (top : NameList). Chosen old.tree top globs r.chosen.places) (same_Some r.chosen.top demo_place (sym r.chosen.leads
+        ∙ demo_leads n old.tree demo)) r.chosen.chosen;
     counts = r.files.counts;
   }
 
-  pub reports_demo : (result : Result Report SweepFault) → IfOk result (λ report. RewritesTree change (path_text demo_place) globs report old new) → IfOk result (CountsDemo change n globs)
+  pub reports_demo : (result : Result Report SweepFault) → IfOk result (λ report. RewritesTree change (path_text demo_place) globs report old new)
+      → IfOk result (CountsDemo change n globs)
   reports_demo (Ok report) r = counts_demo report r
   reports_demo (Err fault) r = tt
 
@@ -118,7 +121,8 @@ module _ (change : Change) (n : ℕ) (globs : List (List ℕ)) (old new : DiskSt
         let (node, stands, content) = node_there (node_at old.tree q) (file bytes mode) (file_there (node_at old.tree q) bytes mode is) in
         text_no_link old.tree q true node demo.is_tree stands (λ target e. cc (sym content ∙ e))
 
-    same_lead : (q : NameList) (bytes : List ℕ) (mode : ℕ) → file_at old.tree q ≡ Some (bytes, mode) → reached new.tree (path_text q) true ≡ reached old.tree (path_text q) true
+    same_lead : (q : NameList) (bytes : List ℕ) (mode : ℕ) → file_at old.tree q ≡ Some (bytes, mode)
+        → reached new.tree (path_text q) true ≡ reached old.tree (path_text q) true
     same_lead q bytes mode is =
         let led = led_there q bytes mode is in
         still_leads keeps_ways (path_text q) true q led (still_stands q (bytes, mode) is) ∙ sym led
@@ -128,8 +132,10 @@ module _ (change : Change) (n : ℕ) (globs : List (List ℕ)) (old new : DiskSt
       job_leads : (failed : Job) → In failed jobs → reached new.tree failed.0 true ≡ reached old.tree failed.0 true
       job_leads failed i =
           let turns = fails.files.turns in
-          let among : In failed.0 (map path_of turns) = in_failed (map path_of turns) (map fault_of turns) failed (subst (λ (js : List Job). In failed js) fails.files.jobs_are i) in
-          let named : In failed.0 (map path_text fails.chosen.places) = subst (λ (paths : List (List ℕ)). In failed.0 paths) (fails.files.paths_are ∙ fails.chosen.paths_are) among in
+          let among : In failed.0 (map path_of turns) = in_failed (map path_of turns) (map fault_of turns) failed
+          (subst (λ (js : List Job). In failed js) fails.files.jobs_are i) in
+          let named : In failed.0 (map path_text fails.chosen.places) = subst (λ (paths : List (List ℕ)). In failed.0 paths) (fails.files.paths_are
+          ∙ fails.chosen.paths_are) among in
           let (q, there, is) = in_mapped path_text fails.chosen.places failed.0 named in
           let chosen = (fails.chosen.chosen.these q).0 (contains_from_in fails.chosen.places q there) in
           let (byte, bytes, mode, held) = chosen.is_file in
@@ -147,24 +153,31 @@ module _ (change : Change) (n : ℕ) (globs : List (List ℕ)) (old new : DiskSt
 
           by : (fault ≡ job.NoMemory)
               ⊎ ((fault ≡ job.TempName)
-              × ((place : NameList) × (other : List ℕ) × (reached new.tree path true ≡ Some place) × Contains earlier (other, job.NoMemory) × IsTrue (is_in_folder new.tree (parent_of place) other)))
+              × ((place : NameList) × (other : List ℕ) × (reached new.tree path true ≡ Some place) × Contains earlier (other, job.NoMemory)
+              × IsTrue (is_in_folder new.tree (parent_of place) other)))
               → (fault ≡ job.NoMemory)
               ⊎ ((fault ≡ job.TempName)
-              × ((place : NameList) × (other : List ℕ) × (reached old.tree path true ≡ Some place) × Contains earlier (other, job.NoMemory) × IsTrue (is_in_folder old.tree (parent_of place) other)))
+              × ((place : NameList) × (other : List ℕ) × (reached old.tree path true ≡ Some place) × Contains earlier (other, job.NoMemory)
+              × IsTrue (is_in_folder old.tree (parent_of place) other)))
           by (inl memory) = inl memory
           by (inr (no_name, (place, other, leads, has, near))) =
-              let there = job_leads (other, job.NoMemory) (inside (other, job.NoMemory) (in_left earlier ((path, fault) ∷ later) (other, job.NoMemory) (in_from_contains earlier (other, job.NoMemory) has))) in
-              inr (no_name, (
-                place,
-                other,
-                sym here ∙ leads,
-                has,
-                subst (λ (r : Option NameList). IsTrue (option_map_or (λ p. same_place (parent_of p) (parent_of place)) r false)) there near,
-              ))
+              let there = job_leads (other, job.NoMemory) (inside (other, job.NoMemory)
+              (in_left earlier ((path, fault) ∷ later) (other, job.NoMemory) (in_from_contains earlier (other, job.NoMemory) has))) in
+              inr (
+                no_name,
+                (
+                  place,
+                  other,
+                  sym here ∙ leads,
+                  has,
+                  subst (λ (r : Option NameList). IsTrue (option_map_or (λ p. same_place (parent_of p) (parent_of place)) r false)) there near,
+                ),
+              )
 
     -- ---- why a demo is refused
 
-    pub for_memory : (fault : SweepFault) → SweepFails change (path_text demo_place) globs (2 ^ 32) (course true old new) fault → IsSweepForMemory new.tree fault → IsForMemory n fault
+    pub for_memory : (fault : SweepFault) → SweepFails change (path_text demo_place) globs (2 ^ 32) (course true old new) fault
+        → IsSweepForMemory new.tree fault → IsForMemory n fault
     for_memory (sweep.Failed jobs) f want = (f.some, (old.tree, demo, wanted_memory jobs (f.files refl) want))
     for_memory sweep.NoMemory f want = tt
     for_memory (sweep.BadGlob place) f want = want
@@ -172,7 +185,8 @@ module _ (change : Change) (n : ℕ) (globs : List (List ℕ)) (old new : DiskSt
     for_memory (sweep.Walk failed) f want = want
     for_memory sweep.TooMany f want = want
 
-    pub refused_for_memory : (result : Result Report SweepFault) → IfErr result (SweepFails change (path_text demo_place) globs (2 ^ 32) (course true old new)) → IfErr result (IsSweepForMemory new.tree)
+    pub refused_for_memory : (result : Result Report SweepFault)
+        → IfErr result (SweepFails change (path_text demo_place) globs (2 ^ 32) (course true old new)) → IfErr result (IsSweepForMemory new.tree)
         → IfErr result (IsForMemory n)
     refused_for_memory (Ok report) f want = tt
     refused_for_memory (Err fault) f want = for_memory fault f want
