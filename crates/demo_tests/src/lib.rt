@@ -3,3 +3,5 @@
 
 #[cfg(test)]
 mod built;
+#[cfg(test)]
+mod swept;

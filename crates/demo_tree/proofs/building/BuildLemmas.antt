@@ -40,7 +40,8 @@ pub record Puts (old : Tree) (place : NameList) (content : Content) (new : Tree)
   pub there : content_at new place ≡ Some content
   pub others : (q : NameList) → q ≢ place → content_at new q ≡ content_at old q
 
-pub built_puts : (old new : MemDisk) (path : List ℕ) (content : Content) (place : NameList) → parts_of path ≡ place → Builds old path content new → Puts (mem_state old).tree place content (mem_state new).tree
+pub built_puts : (old new : MemDisk) (path : List ℕ) (content : Content) (place : NameList) → parts_of path ≡ place → Builds old path content new
+    → Puts (mem_state old).tree place content (mem_state new).tree
 built_puts old new path content place parts b =
     let here : b.place ≡ place = sym b.was_free.names ∙ parts in
     subst (λ (q : NameList). Puts (mem_state old).tree q content (mem_state new).tree) here (record {
@@ -61,13 +62,22 @@ demo_first old new alone is puts = record { is_tree = is; holds = by }
       where
         before : (q : NameList) → q ≢ demo_place → (q ≡ []) ⊎ (q ≢ []) → content_at old q ≡ demo_content 0 q
         before q ne (inl e) = subst (λ (p : NameList). content_at old p ≡ demo_content 0 p) (sym e) (ap content_of alone.top)
-        before q ne (inr below) = ap content_of (alone.others q below) ∙ (λ i. cond (sym (other_place q [] below) i || (sym (other_place q demo_place ne) i || false)) (Some directory) None)
+        before q ne (inr below) = ap content_of (alone.others q below)
+            ∙ (λ i. cond (sym (other_place q [] below) i || (sym (other_place q demo_place ne) i || false)) (Some directory) None)
 
 pub demo_can_stand : (tree : Tree) → IsTopAlone tree → HasNoFreePlace tree (codes "/demo") → ⊥
 demo_can_stand tree alone (inl none) = cc (sym demo_parts ∙ none)
 demo_can_stand tree alone (inr (inl up)) = cc (sym (ap (list_any is_up) demo_parts) ∙ up)
-demo_can_stand tree alone (inr (inr (inl gone))) = cc (ap is_directory_node alone.top, sym (ap (λ parts. is_directory_at tree (parent_of parts)) demo_parts) ∙ gone)
-demo_can_stand tree alone (inr (inr (inr taken))) = cc (ap is_some (alone.others demo_place (λ e. cc)), sym (ap (λ q. is_some (node_at tree q)) demo_parts) ∙ taken)
+demo_can_stand tree alone (inr (inr (inl gone))) = cc (
+  ap is_directory_node alone.top,
+  sym (ap (λ parts. is_directory_at tree (parent_of parts)) demo_parts)
+      ∙ gone,
+)
+demo_can_stand tree alone (inr (inr (inr taken))) = cc (
+  ap is_some (alone.others demo_place (λ e. cc)),
+  sym (ap (λ q. is_some (node_at tree q)) demo_parts)
+      ∙ taken,
+)
 
 -- ---- the next file
 
@@ -77,11 +87,14 @@ folder_stands n tree high demo = record { there = demo.holds (demo_folder n) ∙
 pub folder_added : (n : ℕ) (old new : Tree) → IsDemo n old → Puts old (demo_folder n) directory new → HasNextFolder n new
 folder_added n old new demo puts = record { there = puts.there; others = λ q ne. puts.others q ne ∙ demo.holds q }
 
-pub file_added : (n : ℕ) (old new : Tree) → n < 100000 → HasNextFolder n old → IsTree new → Puts old (demo_file n).place (file (demo_bytes n) demo_mode) new → IsDemo (n + 1) new
+pub file_added : (n : ℕ) (old new : Tree) → n < 100000 → HasNextFolder n old → IsTree new → Puts old (demo_file n).place (file (demo_bytes n) demo_mode) new
+    → IsDemo (n + 1) new
 file_added n old new low has is puts = record { is_tree = is; holds = λ q. by q (same_or_other q (demo_file n).place) (same_or_other q (demo_folder n)) }
   where
-    by : (q : NameList) → (q ≡ (demo_file n).place) ⊎ (q ≢ (demo_file n).place) → (q ≡ demo_folder n) ⊎ (q ≢ demo_folder n) → content_at new q ≡ demo_content (n + 1) q
-    by q (inl e) folder = subst (λ (p : NameList). content_at new p ≡ demo_content (n + 1) p) (sym e) (puts.there ∙ sym (next_file n (file_free n (omega arith))))
+    by : (q : NameList) → (q ≡ (demo_file n).place) ⊎ (q ≢ (demo_file n).place) → (q ≡ demo_folder n) ⊎ (q ≢ demo_folder n)
+        → content_at new q ≡ demo_content (n + 1) q
+    by q (inl e) folder = subst (λ (p : NameList). content_at new p ≡ demo_content (n + 1) p) (sym e) (puts.there
+        ∙ sym (next_file n (file_free n (omega arith))))
     by q (inr off) (inl e) = puts.others q off ∙ ap (content_at old) e ∙ has.there ∙ sym (next_folder n) ∙ ap (demo_content (n + 1)) (sym e)
     by q (inr off) (inr away) = puts.others q off ∙ has.others q away ∙ sym (others_as_before n q off away)
 
@@ -101,7 +114,8 @@ folder_can_stand n tree path low demo is = λ hindered. by hindered
         let free : node_at tree (demo_folder n) ≡ None = no_node (node_at tree (demo_folder n)) (demo.holds (demo_folder n) ∙ folder_free n low) in
         cc (ap is_some free, sym (ap (λ q. is_some (node_at tree q)) parts) ∙ taken)
 
-pub file_can_stand : (n : ℕ) (tree : Tree) (path : List ℕ) → n < 100000 → HasNextFolder n tree → path ≡ path_text (demo_file n).place → HasNoFreePlace tree path → ⊥
+pub file_can_stand : (n : ℕ) (tree : Tree) (path : List ℕ) → n < 100000 → HasNextFolder n tree → path ≡ path_text (demo_file n).place
+    → HasNoFreePlace tree path → ⊥
 file_can_stand n tree path low has is = λ hindered. by hindered
   where
     place : NameList
@@ -117,7 +131,8 @@ file_can_stand n tree path low has is = λ hindered. by hindered
         let there : is_directory_at tree (demo_folder n) ≡ true = directory_node (node_at tree (demo_folder n)) has.there in
         cc (there, sym (ap (λ names. is_directory_at tree (parent_of names)) parts) ∙ gone)
     by (inr (inr (inr taken))) =
-        let free : node_at tree (demo_file n).place ≡ None = no_node (node_at tree (demo_file n).place) (has.others (demo_file n).place (λ e. cc) ∙ file_free n (omega arith)) in
+        let free : node_at tree (demo_file n).place ≡ None = no_node (node_at tree (demo_file n).place) (has.others (demo_file n).place (λ e. cc)
+        ∙ file_free n (omega arith)) in
         cc (ap is_some free, sym (ap (λ q. is_some (node_at tree q)) parts) ∙ taken)
 
 -- ---- counts
@@ -137,10 +152,12 @@ counts_kept old new keeps was = record {
 -- ---- what is told on
 
 -- what holds of what was built holds of what is told of it
-pub told_of_built : (told : Result (Unit {0}) NoMemory) (built : Result (Unit {0}) BuildFault) (P Q : Type 0) → (IsOk told ↔ IsOk built) → OnOk built P → (P → Q) → OnOk told Q
+pub told_of_built : (told : Result (Unit {0}) NoMemory) (built : Result (Unit {0}) BuildFault) (P Q : Type 0) → (IsOk told ↔ IsOk built) → OnOk built P
+    → (P → Q) → OnOk told Q
 told_of_built (Ok x) (Ok y) P Q same p then = then p
 told_of_built (Ok x) (Err e) P Q same p then = cc (same.0 refl)
 told_of_built (Err e) built P Q same p then = tt
 
-pub built_where_told : (told : Result (Unit {0}) NoMemory) (built : Result (Unit {0}) BuildFault) (P : Type 0) (x : Unit {0}) → (IsOk told ↔ IsOk built) → told ≡ Ok x → OnOk built P → P
+pub built_where_told : (told : Result (Unit {0}) NoMemory) (built : Result (Unit {0}) BuildFault) (P : Type 0) (x : Unit {0}) → (IsOk told ↔ IsOk built)
+    → told ≡ Ok x → OnOk built P → P
 built_where_told told built P x same is p = subst (λ (r : Result (Unit {0}) NoMemory). OnOk r P) is (told_of_built told built P P same p (λ q. q))

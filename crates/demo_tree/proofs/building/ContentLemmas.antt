@@ -1,5 +1,6 @@
 -- What stands in the tree of a demo, and in that of the next number.
-use Rattle.std.proofs.Common.{◌≡◌, ◌≢◌, ℕ, zero, suc, ◌+◌, ◌-◌, ◌%◌, ◌<◌, ◌≤◌, Bool, true, false, cond, eqb, List, [], ◌∷◌, ◌++◌, map, refl, sym, ap, ◌∙◌, ◌⊎◌, inl, inr, arith}
+use Rattle.std.proofs.Common.{◌≡◌, ◌≢◌, ℕ, zero, suc, ◌+◌, ◌-◌, ◌%◌, ◌<◌, ◌≤◌, Bool, true, false, cond}
+use Rattle.std.proofs.Common.{eqb, List, [], ◌∷◌, ◌++◌, map, refl, sym, ap, ◌∙◌, ◌⊎◌, inl, inr, arith}
 use Rattle.std.specs.Prelude.{◌||◌, Option, Some, None, find, codes}
 use Rattle.std.specs.Option.{option_or}
 use Rattle.std.specs.List.{list_any, range_with_len}
@@ -9,7 +10,8 @@ use Rattle.std.proofs.lemmas.List.Folds.{find-append, list_any-append}
 use Rattle.std.proofs.lemmas.List.FromFn.{map-range_with_len_more}
 use Rattle.sd_edge.specs.Tree.{Name, NameList, Content, directory, file}
 use Rattle.sd_edge.specs.Outcomes.{same_place}
-use Rattle.demo_tree.specs.Demo.{DemoFile, demo_place, demo_folder, demo_file, demo_files, demo_folders, folder_content, file_or_folder, demo_content, demo_bytes, demo_mode, digits_of}
+use Rattle.demo_tree.specs.Demo.{DemoFile, demo_place, demo_folder, demo_file, demo_files, demo_folders}
+use Rattle.demo_tree.specs.Demo.{folder_content, file_or_folder, demo_content, demo_bytes, demo_mode, digits_of}
 use Rattle.demo_tree.proofs.building.NameLemmas.{folders_differ, files_differ}
 
 -- ---- places
@@ -26,13 +28,16 @@ other_place p q ne = by (same_place p q) refl
 
 -- ---- of the numbers in a range
 
-pub no_file_in : (q : NameList) (a n : ℕ) → ((k : ℕ) → a ≤ k → k < a + n → q ≢ (demo_file k).place) → find (λ found. same_place q found.place) (map demo_file (range_with_len a n)) ≡ None
+pub no_file_in : (q : NameList) (a n : ℕ) → ((k : ℕ) → a ≤ k → k < a + n → q ≢ (demo_file k).place)
+    → find (λ found. same_place q found.place) (map demo_file (range_with_len a n)) ≡ None
 no_file_in q a zero none = refl
 no_file_in q a (suc n) none =
-    ap (λ b. cond b (Some (demo_file a)) (find (λ found. same_place q found.place) (map demo_file (range_with_len (a + 1) n)))) (other_place q (demo_file a).place (none a (omega arith) (omega arith)))
+    ap (λ b. cond b (Some (demo_file a)) (find (λ found. same_place q found.place) (map demo_file (range_with_len (a + 1) n))))
+    (other_place q (demo_file a).place (none a (omega arith) (omega arith)))
     ∙ no_file_in q (a + 1) n (λ k low lower. none k (omega arith) (omega arith))
 
-pub no_folder_in : (q : NameList) (a n : ℕ) → ((k : ℕ) → a ≤ k → k < a + n → q ≢ demo_folder k) → list_any (same_place q) (map demo_folder (range_with_len a n)) ≡ false
+pub no_folder_in : (q : NameList) (a n : ℕ) → ((k : ℕ) → a ≤ k → k < a + n → q ≢ demo_folder k)
+    → list_any (same_place q) (map demo_folder (range_with_len a n)) ≡ false
 no_folder_in q a zero none = refl
 no_folder_in q a (suc n) none =
     ap (λ b. b || list_any (same_place q) (map demo_folder (range_with_len (a + 1) n))) (other_place q (demo_folder a) (none a (omega arith) (omega arith)))
@@ -77,7 +82,8 @@ module _ (n : ℕ) where
       files : find (λ found. same_place q found.place) (demo_files (n + 1)) ≡ find (λ found. same_place q found.place) (demo_files n)
       files =
           files_more n q
-          ∙ ap (λ b. option_or (find (λ found. same_place q found.place) (demo_files n)) (cond b (Some (demo_file n)) None)) (other_place q (demo_file n).place no_file)
+          ∙ ap (λ b. option_or (find (λ found. same_place q found.place) (demo_files n)) (cond b (Some (demo_file n)) None))
+          (other_place q (demo_file n).place no_file)
           ∙ none_more (find (λ found. same_place q found.place) (demo_files n))
 
       folders : list_any (same_place q) (map demo_folder (range_with_len 0 (n + 1))) ≡ list_any (same_place q) (map demo_folder (range_with_len 0 n))
@@ -89,10 +95,10 @@ module _ (n : ℕ) where
   -- the next number has the next file
   pub next_file : demo_content n (demo_file n).place ≡ None → demo_content (n + 1) (demo_file n).place ≡ Some (file (demo_bytes n) demo_mode)
   next_file free = ap (λ found. file_or_folder found (folder_content (n + 1) q)) (
-    files_more n q
-    ∙ ap (λ b. option_or (find (λ found. same_place q found.place) (demo_files n)) (cond b (Some (demo_file n)) None)) (one_place q)
-    ∙ ap (λ found. option_or found (Some (demo_file n))) (no_found (find (λ found. same_place q found.place) (demo_files n)) (folder_content n q) free)
-  )
+      files_more n q
+      ∙ ap (λ b. option_or (find (λ found. same_place q found.place) (demo_files n)) (cond b (Some (demo_file n)) None)) (one_place q)
+      ∙ ap (λ found. option_or found (Some (demo_file n))) (no_found (find (λ found. same_place q found.place) (demo_files n)) (folder_content n q) free)
+      )
     where
       q : NameList
       q = (demo_file n).place

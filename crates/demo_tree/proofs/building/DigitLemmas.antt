@@ -1,5 +1,6 @@
 -- Decimal digits: how they are written, and that they tell a number.
-use Rattle.std.proofs.Common.{◌≡◌, ◌≢◌, ℕ, zero, suc, ◌+◌, ◌-◌, ◌*◌, ◌/◌, ◌%◌, ◌^◌, ◌<◌, ◌≤◌, ◌⊎◌, false, List, [], ◌∷◌, ◌++◌, length, refl, sym, ap, ◌∙◌, inl, inr, append_assoc, append-nil, length-append, arith}
+use Rattle.std.proofs.Common.{◌≡◌, ◌≢◌, ℕ, zero, suc, ◌+◌, ◌-◌, ◌*◌, ◌/◌, ◌%◌, ◌^◌, ◌<◌, ◌≤◌, ◌⊎◌, false}
+use Rattle.std.proofs.Common.{List, [], ◌∷◌, ◌++◌, length, refl, sym, ap, ◌∙◌, inl, inr, append_assoc, append-nil, length-append, arith}
 use Rattle.std.specs.Prelude.{replicate}
 use Rattle.std.proofs.Math.Nat.{div-one, div-div-eq-div-mul, pow-suc, pow-succ', sub-zero, zero-div, zero-mod}
 use Rattle.std.proofs.lemmas.Fmt.{decimal_by_steps}
@@ -24,7 +25,8 @@ zeros (suc k) = λ i. (48 + none i) ∷ zeros k i
 
 -- filled up with zeros
 pub digits_filled : (n k : ℕ) → 0 < k → n < 10 ^ k → n < 2 ^ 64 → replicate (k - length (decimal n)) 48 ++ decimal n ≡ digits_of n k
-digits_filled n k some small fits = decimal_by_steps (λ m ds. (j : ℕ) → 0 < j → m < 10 ^ j → replicate (j - length ds) 48 ++ ds ≡ digits_of m j) one more n fits k some small
+digits_filled n k some small fits = decimal_by_steps (λ m ds. (j : ℕ) → 0 < j → m < 10 ^ j
+    → replicate (j - length ds) 48 ++ ds ≡ digits_of m j) one more n fits k some small
   where
     one : (m : ℕ) → m < 10 → (j : ℕ) → 0 < j → m < 10 ^ j → replicate (j - length ((48 + m) ∷ [])) 48 ++ (48 + m) ∷ [] ≡ digits_of m j
     one m low zero some small = absurd (omega arith)

@@ -1,5 +1,6 @@
 -- The names of a demo's folders and files: where their paths lead, and that no two files have one.
-use Rattle.std.proofs.Common.{◌≡◌, ◌≢◌, ℕ, zero, suc, ◌+◌, ◌%◌, ◌^◌, ◌<◌, Bool, true, false, List, [], ◌∷◌, ◌++◌, cond, eqb, take, drop, refl, sym, ap, ◌∙◌, arith}
+use Rattle.std.proofs.Common.{◌≡◌, ◌≢◌, ℕ, zero, suc, ◌+◌, ◌%◌, ◌^◌, ◌<◌, Bool, true, false}
+use Rattle.std.proofs.Common.{List, [], ◌∷◌, ◌++◌, cond, eqb, take, drop, refl, sym, ap, ◌∙◌, arith}
 use Rattle.std.specs.Prelude.{All, codes}
 use Rattle.std.specs.List.{AllByRecursion, slice_split}
 use Rattle.std.proofs.lemmas.Bool.{ne_eqb}
@@ -29,15 +30,31 @@ no_slash_folder i = All-from_recursion IsNoSlash (codes "d" ++ digits_of (i % 16
 no_slash_file : (i : ℕ) → All IsNoSlash (demo_name i)
 no_slash_file i = All-from_recursion IsNoSlash (demo_name i) (
   refl,
-  (no_slash_digit i 7,
-  (no_slash_digit i 6,
-  (no_slash_digit i 5,
-  (no_slash_digit i 4,
-  (no_slash_digit i 3,
-  (no_slash_digit i 2,
-  (no_slash_digit i 1,
-  (no_slash_digit i 0,
-  no_slash_ending (eqb (i % 3) 2))))))))),
+  (
+    no_slash_digit i 7,
+    (
+      no_slash_digit i 6,
+      (
+        no_slash_digit i 5,
+        (
+          no_slash_digit i 4,
+          (
+            no_slash_digit i 3,
+            (
+              no_slash_digit i 2,
+              (
+                no_slash_digit i 1,
+                (
+                  no_slash_digit i 0,
+                  no_slash_ending (eqb (i % 3) 2),
+                ),
+              ),
+            ),
+          ),
+        ),
+      ),
+    ),
+  ),
 )
 
 -- ---- the parts of their paths
@@ -53,7 +70,8 @@ folder_parts i = ap (λ pieces. kept ([] ∷ codes "demo" ∷ pieces)) (slice_sp
 pub file_parts : (i : ℕ) → parts_of (path_text (demo_file i).place) ≡ (demo_file i).place
 unfolding parts_of
 file_parts i =
-    ap (λ pieces. kept ([] ∷ codes "demo" ∷ pieces)) (slice_split_at (λ b. eqb b 47) (codes "d" ++ digits_of (i % 16) 2) 47 (demo_name i) (no_slash_folder i) refl)
+    ap (λ pieces. kept ([] ∷ codes "demo" ∷ pieces)) (slice_split_at (λ b. eqb b 47) (codes "d" ++ digits_of (i % 16) 2) 47 (demo_name i)
+    (no_slash_folder i) refl)
     ∙ ap (λ pieces. kept ([] ∷ codes "demo" ∷ (codes "d" ++ digits_of (i % 16) 2) ∷ pieces)) (slice_split_none (λ b. eqb b 47) (demo_name i) (no_slash_file i))
 
 -- ---- no two are one

@@ -1,5 +1,6 @@
 -- Few entries lie below the root of a demo.
-use Rattle.std.proofs.Common.{◌≡◌, ◌≢◌, ℕ, zero, suc, ◌+◌, ◌<◌, ◌≤◌, ◌^◌, Bool, true, false, cond, List, [], ◌∷◌, ◌++◌, map, length, ◌⊎◌, inl, inr, refl, sym, ap, ◌∙◌, subst, Ordering, Less, length-append, arith}
+use Rattle.std.proofs.Common.{◌≡◌, ◌≢◌, ℕ, zero, suc, ◌+◌, ◌<◌, ◌≤◌, ◌^◌, Bool, true, false, cond, List, []}
+use Rattle.std.proofs.Common.{◌∷◌, ◌++◌, map, length, ◌⊎◌, inl, inr, refl, sym, ap, ◌∙◌, subst, Ordering, Less, length-append, arith}
 use Rattle.std.specs.Prelude.{◌||◌, ◌&&◌, T, Option, Some, None, IsSome, is_some, Contains, codes}
 use Rattle.std.specs.declared.cmp.Ordering.TheVariants.{Equal, Greater}
 use Rattle.std.specs.List.{AllByRecursion, list_any, range_with_len, filter}
@@ -39,7 +40,8 @@ both_from : (a b : Bool) → T (a && b) → T a × T b
 both_from true b h = (tt, h)
 both_from false b h = absurd h
 
-all_after : (place : NameList) (es : List (NameList × Node)) → T (below_all name_list_cmp place es) → AllByRecursion (λ q. name_list_cmp place q ≡ Less) (map (λ e. e.0) es)
+all_after : (place : NameList) (es : List (NameList × Node)) → T (below_all name_list_cmp place es)
+    → AllByRecursion (λ q. name_list_cmp place q ≡ Less) (map (λ e. e.0) es)
 all_after place [] h = tt
 all_after place (e ∷ es) h =
     let (here, rest) = both_from (is_lt (name_list_cmp place e.0)) (below_all name_list_cmp place es) h in
@@ -68,7 +70,8 @@ pub in_from_any : (q : NameList) (ks : List NameList) → list_any (eq_by_cmp na
 in_from_any q [] e = cc
 in_from_any q (k ∷ ks) e = by (eq_by_cmp name_list_cmp q k) refl (in_from_any q ks) e
   where
-    by : (b : Bool) → eq_by_cmp name_list_cmp q k ≡ b → (list_any (eq_by_cmp name_list_cmp q) ks ≡ true → In q ks) → (b || list_any (eq_by_cmp name_list_cmp q) ks) ≡ true → In q (k ∷ ks)
+    by : (b : Bool) → eq_by_cmp name_list_cmp q k ≡ b → (list_any (eq_by_cmp name_list_cmp q) ks ≡ true → In q ks)
+        → (b || list_any (eq_by_cmp name_list_cmp q) ks) ≡ true → In q (k ∷ ks)
     by true here later e = inl (sym (slice_cmp-IsAntisymmetric (slice_cmp-IsAntisymmetric nat_cmp-IsAntisymmetric) q k (equal_from (name_list_cmp q k) here)))
     by false away later e = inr (later e)
 
@@ -84,7 +87,10 @@ in_filtered p (k ∷ ks) q i = by (p k) refl (in_filtered p ks q) i
 in_filter : (p : NameList → Bool) (ks : List NameList) (q : NameList) → In q ks → p q ≡ true → In q (filter p ks)
 in_filter p [] q i passes = absurd i
 in_filter p (k ∷ ks) q (inl e) passes = subst (λ b. In q (cond b (k ∷ filter p ks) (filter p ks))) (sym (ap p e ∙ passes)) (inl e)
-in_filter p (k ∷ ks) q (inr i) passes = elim (p k) as (λ b. In q (cond b (k ∷ filter p ks) (filter p ks))) [ true ↦ inr (in_filter p ks q i passes) | false ↦ in_filter p ks q i passes ]
+in_filter p (k ∷ ks) q (inr i) passes = elim (p k) as (λ b. In q (cond b (k ∷ filter p ks) (filter p ks))) [
+  | true ↦ inr (in_filter p ks q i passes)
+  | false ↦ in_filter p ks q i passes
+]
 
 -- ---- below `/demo`
 
@@ -128,11 +134,12 @@ below_are_all tree = record {
   in_order = below_in_order tree;
   these = λ q. (
     (λ has.
-    let (there, passes) = in_filtered is_below (places_of tree) q (in_from_contains (filter is_below (places_of tree)) q has) in
-    let (names, is, some) = below_means q passes in
-    (names, is, some, stands_in tree q there)),
+        let (there, passes) = in_filtered is_below (places_of tree) q (in_from_contains (filter is_below (places_of tree)) q has) in
+        let (names, is, some) = below_means q passes in
+        (names, is, some, stands_in tree q there)),
     (λ (names, is, some, stands).
-    contains_from_in (filter is_below (places_of tree)) q (in_filter is_below (places_of tree) q (in_standing tree q stands) (ap is_below is ∙ below_passes names some))),
+        contains_from_in (filter is_below (places_of tree)) q (in_filter is_below (places_of tree) q (in_standing tree q stands) (ap is_below is
+        ∙ below_passes names some))),
   );
 }
 
@@ -169,7 +176,8 @@ in_places n q content (inr (k, low, e, is)) =
 few_below_demo : (n : ℕ) (tree : Tree) → IsDemo n tree → length (below_demo tree) ≤ n + n + 2
 unfolding below_demo
 few_below_demo n tree demo =
-    let shorter = length-le_from_is_member (eq_by_cmp_equiv place_total) (below_demo tree) (demo_places n) (IsDistinct-from_sorted name_list_cmp (below_demo tree) (below_in_order tree))
+    let shorter = length-le_from_is_member (eq_by_cmp_equiv place_total) (below_demo tree) (demo_places n)
+    (IsDistinct-from_sorted name_list_cmp (below_demo tree) (below_in_order tree))
     (λ q member.
     let (there, passes) = in_filtered is_below (places_of tree) q (in_from_any q (filter is_below (places_of tree)) member) in
     let (content, is) = content_there (node_at tree q) (stands_in tree q there) in

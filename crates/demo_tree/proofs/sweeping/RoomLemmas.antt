@@ -39,7 +39,8 @@ pub demo_has_room : (n : ℕ) (tree : Tree) (root : List ℕ) (globs : List (Lis
 unfolding beside
 demo_has_room n tree root globs demo = λ place (top, leads, chosen).
     let (byte, bytes, mode, is) = chosen.is_file in
-    let (k, e) = file_is_one n place (byte ∷ bytes) mode (stands_so n place (file (byte ∷ bytes) mode) (sym (demo.holds place) ∙ file_there (node_at tree place) (byte ∷ bytes) mode is)) in
+    let (k, e) = file_is_one n place (byte ∷ bytes) mode (stands_so n place (file (byte ∷ bytes) mode) (sym (demo.holds place)
+    ∙ file_there (node_at tree place) (byte ∷ bytes) mode is)) in
     let free : Free tree (demo_folder k) (beside k) = record {
       reserved = (0, omega arith, refl);
       free = no_node (node_at tree (beside k)) (demo.holds (beside k) ∙ beside_free n k);

@@ -1,5 +1,6 @@
 -- Where something stands in the tree of a demo.
-use Rattle.std.proofs.Common.{◌≡◌, ◌≢◌, ℕ, zero, suc, ◌+◌, ◌<◌, ◌≤◌, Bool, true, false, cond, List, [], ◌∷◌, ◌++◌, map, ◌⊎◌, inl, inr, refl, sym, ap, ◌∙◌, arith}
+use Rattle.std.proofs.Common.{◌≡◌, ◌≢◌, ℕ, zero, suc, ◌+◌, ◌<◌, ◌≤◌, Bool, true, false, cond}
+use Rattle.std.proofs.Common.{List, [], ◌∷◌, ◌++◌, map, ◌⊎◌, inl, inr, refl, sym, ap, ◌∙◌, arith}
 use Rattle.std.specs.Prelude.{◌||◌, Option, Some, None, IsSome, find}
 use Rattle.std.specs.List.{list_any, range_with_len}
 use Rattle.std.specs.Cmp.Lexicographic.{pointwise_decides, bytes_decides}
@@ -9,7 +10,8 @@ use Rattle.sd_edge.specs.Outcomes.{same_place, content_of, content_at}
 use Rattle.sd_edge.specs.Paths.{reached}
 use Rattle.sd_edge.specs.Files.{path_text}
 use Rattle.sd_edge.proofs.PathTextLemmas.{text_no_link}
-use Rattle.demo_tree.specs.Demo.{DemoFile, demo_place, demo_folder, demo_file, demo_files, folder_content, file_or_folder, demo_content, demo_bytes, demo_mode, IsDemo}
+use Rattle.demo_tree.specs.Demo.{DemoFile, demo_place, demo_folder, demo_file, demo_files}
+use Rattle.demo_tree.specs.Demo.{folder_content, file_or_folder, demo_content, demo_bytes, demo_mode, IsDemo}
 use Rattle.demo_tree.proofs.building.ContentLemmas.{demo_there}
 
 same_from : (p q : NameList) → same_place p q ≡ true → p ≡ q
@@ -21,11 +23,13 @@ same_from p q e = (pointwise_decides bytes_decides p q).0 e
 abbrev IsFileIn : NameList → ℕ → DemoFile → Type 0
 IsFileIn q high f = (k : ℕ) × (k < high) × (q ≡ (demo_file k).place) × (f ≡ demo_file k)
 
-found_file : (q : NameList) (a n : ℕ) (f : DemoFile) → find (λ found. same_place q found.place) (map demo_file (range_with_len a n)) ≡ Some f → IsFileIn q (a + n) f
+found_file : (q : NameList) (a n : ℕ) (f : DemoFile) → find (λ found. same_place q found.place) (map demo_file (range_with_len a n)) ≡ Some f
+    → IsFileIn q (a + n) f
 found_file q a zero f e = cc
 found_file q a (suc n) f e = by (same_place q (demo_file a).place) refl (found_file q (a + 1) n f) e
   where
-    by : (b : Bool) → same_place q (demo_file a).place ≡ b → (find (λ found. same_place q found.place) (map demo_file (range_with_len (a + 1) n)) ≡ Some f → IsFileIn q (a + 1 + n) f)
+    by : (b : Bool) → same_place q (demo_file a).place ≡ b
+        → (find (λ found. same_place q found.place) (map demo_file (range_with_len (a + 1) n)) ≡ Some f → IsFileIn q (a + 1 + n) f)
         → cond b (Some (demo_file a)) (find (λ found. same_place q found.place) (map demo_file (range_with_len (a + 1) n))) ≡ Some f → IsFileIn q (a + suc n) f
     by true here later e = (a, omega arith, same_from q (demo_file a).place here, sym (same_Some (demo_file a) f e))
     by false away later e = let (k, low, is, one) = later e in (k, omega arith, is, one)
@@ -37,7 +41,8 @@ found_folder : (q : NameList) (a n : ℕ) → list_any (same_place q) (map demo_
 found_folder q a zero e = cc
 found_folder q a (suc n) e = by (same_place q (demo_folder a)) refl (found_folder q (a + 1) n) e
   where
-    by : (b : Bool) → same_place q (demo_folder a) ≡ b → (list_any (same_place q) (map demo_folder (range_with_len (a + 1) n)) ≡ true → IsFolderIn q (a + 1 + n))
+    by : (b : Bool) → same_place q (demo_folder a) ≡ b
+        → (list_any (same_place q) (map demo_folder (range_with_len (a + 1) n)) ≡ true → IsFolderIn q (a + 1 + n))
         → (b || list_any (same_place q) (map demo_folder (range_with_len (a + 1) n))) ≡ true → IsFolderIn q (a + suc n)
     by true here later e = (a, omega arith, same_from q (demo_folder a) here)
     by false away later e = let (k, low, is) = later e in (k, omega arith, is)
@@ -53,14 +58,16 @@ StandsSo n q content = ((content ≡ directory) × IsFolder n q) ⊎ ((k : ℕ) 
 pub stands_so : (n : ℕ) (q : NameList) (content : Content) → demo_content n q ≡ Some content → StandsSo n q content
 stands_so n q content e = by (find (λ found. same_place q found.place) (demo_files n)) refl e
   where
-    folder : (top demo any : Bool) → same_place q [] ≡ top → same_place q demo_place ≡ demo → list_any (same_place q) (map demo_folder (range_with_len 0 n)) ≡ any
+    folder : (top demo any : Bool) → same_place q [] ≡ top → same_place q demo_place ≡ demo
+        → list_any (same_place q) (map demo_folder (range_with_len 0 n)) ≡ any
         → cond (top || (demo || any)) (Some directory) None ≡ Some content → StandsSo n q content
     folder true demo any t d f e = inl (sym (same_Some directory content e), inl (same_from q [] t))
     folder false true any t d f e = inl (sym (same_Some directory content e), inr (inl (same_from q demo_place d)))
     folder false false true t d f e = let (k, low, is) = found_folder q 0 n f in inl (sym (same_Some directory content e), inr (inr (k, omega arith, is)))
     folder false false false t d f e = cc
 
-    by : (o : Option DemoFile) → find (λ found. same_place q found.place) (demo_files n) ≡ o → file_or_folder o (folder_content n q) ≡ Some content → StandsSo n q content
+    by : (o : Option DemoFile) → find (λ found. same_place q found.place) (demo_files n) ≡ o → file_or_folder o (folder_content n q) ≡ Some content
+        → StandsSo n q content
     by (Some f) is e =
         let (k, low, place, one) = found_file q 0 n f is in
         inr (k, omega arith, place, sym (same_Some (file f.bytes demo_mode) content e) ∙ ap (λ (g : DemoFile). file g.bytes demo_mode) one)

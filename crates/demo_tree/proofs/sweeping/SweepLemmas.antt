@@ -1,25 +1,25 @@
 -- How a sweep of a demo ends, by how the sweep of any tree does.
-use Rattle.std.proofs.Common.{◌≡◌, ℕ, zero, suc, ◌<◌, ◌≤◌, ◌^◌, Bool, true, false, List, [], ◌∷◌, ◌++◌, map, ◌⊎◌, inl, inr, refl, sym, ap, ◌∙◌, subst, arith}
+use Rattle.std.proofs.Common.{◌≡◌, ℕ, suc, ◌≤◌, ◌^◌, Bool, true, false, List, [], ◌∷◌, ◌++◌, map, ◌⊎◌, inl, inr, refl, sym, ap, ◌∙◌, subst, arith}
 use Rattle.std.specs.Prelude.{Option, Some, None, IsSome, is_some, IsTrue, Contains, All, Result, Ok, Err, IfOk, IfErr, chars}
 use Rattle.std.specs.Option.{option_map_or}
 use Rattle.std.proofs.lemmas.Option.{same_Some}
 use Rattle.std.proofs.lemmas.List.Elements.{All-nil, All-cons}
-use Rattle.sd_edge.specs.Tree.{NameList, Content, link, file, Tree, node_at, file_at}
+use Rattle.sd_edge.specs.Tree.{NameList, node_at, file_at}
 use Rattle.sd_edge.specs.Paths.{reached, parent_of, way_of_node}
 use Rattle.sd_edge.specs.Files.{path_text}
 use Rattle.sd_edge.specs.Outcomes.{same_place}
 use Rattle.sd_edge.specs.Disk.{DiskState}
 use Rattle.sd_edge.proofs.WayLemmas.{file_has_no_way}
-use Rattle.sd_edge.proofs.PathTextLemmas.{text_no_link}
 use Rattle.sd_change.specs.Change.{Change}
 use Rattle.sd_course.specs.Course.{course, DiskFailed}
 use Rattle.file_rewrite.specs.declared.fault.JobFault.{JobFault}
 use Rattle.file_rewrite.specs.declared.fault.JobFault.TheVariants as job
 use Rattle.glob_match.specs.Reading.{pieces_of}
 use Rattle.chosen_files.specs.Globs.{IsValid, IsFirstInvalid}
-use Rattle.chosen_files.specs.Chosen.{IsChosen, Chosen, ListsChosen}
+use Rattle.chosen_files.specs.Chosen.{Chosen, path_from}
+use Rattle.chosen_files.proofs.RootLemmas.{chosen_names, file_leads}
 use Rattle.chosen_files.proofs.ContentLemmas.{file_stands}
-use Rattle.chosen_files.proofs.PlaceLemmas.{In, in_from_contains, contains_from_in, in_left, in_right}
+use Rattle.chosen_files.proofs.PlaceLemmas.{In, in_from_contains, in_left, in_right}
 use Rattle.tree_rewrite.specs.Rewritten.{LeavesEach}
 use Rattle.tree_rewrite.specs.Jobs.{Job, failed_of, is_in_folder, WantMemory}
 use Rattle.tree_rewrite.specs.Turns.{path_of, fault_of}
@@ -30,7 +30,7 @@ use Rattle.tree_rewrite.specs.declared.sweep_fault.SweepFault.TheVariants as swe
 use Rattle.tree_rewrite.proofs.WayLemmas.{KeepsWays, still_leads}
 use Rattle.demo_tree.specs.Demo.{demo_place, IsDemo}
 use Rattle.demo_tree.specs.Sweep.{CountsDemo, IsForMemory, DemoFails}
-use Rattle.demo_tree.proofs.sweeping.StandingLemmas.{demo_leads, node_there, file_there}
+use Rattle.demo_tree.proofs.sweeping.StandingLemmas.{demo_leads}
 use Rattle.demo_tree.proofs.sweeping.BelowLemmas.{demo_is_small}
 use Rattle.demo_tree.proofs.sweeping.RoomLemmas.{demo_has_room}
 
@@ -113,15 +113,9 @@ module _ (change : Change) (n : ℕ) (globs : List (List ℕ)) (old new : DiskSt
       | inr (inr (place, one, free)) ↦ (let none = ap is_some free.free in let there = file_stands (node_at old.tree q) f is in cc)
     ]
 
-    led_there : (q : NameList) (bytes : List ℕ) (mode : ℕ) → file_at old.tree q ≡ Some (bytes, mode) → reached old.tree (path_text q) true ≡ Some q
-    led_there q bytes mode is =
-        let (node, stands, content) = node_there (node_at old.tree q) (file bytes mode) (file_there (node_at old.tree q) bytes mode is) in
-        text_no_link old.tree q true node demo.is_tree stands (λ target e. cc (sym content ∙ e))
-
-    same_lead : (q : NameList) (bytes : List ℕ) (mode : ℕ) → file_at old.tree q ≡ Some (bytes, mode) → reached new.tree (path_text q) true ≡ reached old.tree (path_text q) true
-    same_lead q bytes mode is =
-        let led = led_there q bytes mode is in
-        still_leads keeps_ways (path_text q) true q led (still_stands q (bytes, mode) is) ∙ sym led
+    same_lead : (path : List ℕ) (q : NameList) (f : List ℕ × ℕ) → file_at old.tree q ≡ Some f → reached old.tree path true ≡ Some q
+        → reached new.tree path true ≡ reached old.tree path true
+    same_lead path q f is led = still_leads keeps_ways path true q led (still_stands q f is) ∙ sym led
 
     module _ (jobs : List Job) (fails : FailsTree change (path_text demo_place) globs jobs old new) where
       -- the path of a job leads where it led
@@ -129,11 +123,14 @@ module _ (change : Change) (n : ℕ) (globs : List (List ℕ)) (old new : DiskSt
       job_leads failed i =
           let turns = fails.files.turns in
           let among : In failed.0 (map path_of turns) = in_failed (map path_of turns) (map fault_of turns) failed (subst (λ (js : List Job). In failed js) fails.files.jobs_are i) in
-          let named : In failed.0 (map path_text fails.chosen.places) = subst (λ (paths : List (List ℕ)). In failed.0 paths) (fails.files.paths_are ∙ fails.chosen.paths_are) among in
-          let (q, there, is) = in_mapped path_text fails.chosen.places failed.0 named in
-          let chosen = (fails.chosen.chosen.these q).0 (contains_from_in fails.chosen.places q there) in
-          let (byte, bytes, mode, held) = chosen.is_file in
-          subst (λ (path : List ℕ). reached new.tree path true ≡ reached old.tree path true) is (same_lead q (byte ∷ bytes) mode held)
+          let root = path_text demo_place in
+          let named : In failed.0 (map (path_from root) fails.chosen.names) =
+          subst (λ (paths : List (List ℕ)). In failed.0 paths) (fails.files.paths_are ∙ fails.chosen.paths_are) among in
+          let (below, there, is) = in_mapped (path_from root) fails.chosen.names failed.0 named in
+          let (some, (byte, bytes, mode, held)) = chosen_names old.tree demo.is_tree root globs fails.paths fails.chosen below there in
+          let led = file_leads old.tree demo.is_tree root fails.chosen.top below fails.chosen.leads some (byte, bytes, mode, held) in
+          subst (λ (path : List ℕ). reached new.tree path true ≡ reached old.tree path true) is
+          (same_lead (path_from root below) (fails.chosen.top ++ below) (byte ∷ bytes, mode) held led)
 
       -- so they wanted memory by the tree before as by the tree after
       pub wanted_memory : WantMemory new.tree jobs → WantMemory old.tree jobs
@@ -154,13 +151,16 @@ module _ (change : Change) (n : ℕ) (globs : List (List ℕ)) (old new : DiskSt
           by (inl memory) = inl memory
           by (inr (no_name, (place, other, leads, has, near))) =
               let there = job_leads (other, job.NoMemory) (inside (other, job.NoMemory) (in_left earlier ((path, fault) ∷ later) (other, job.NoMemory) (in_from_contains earlier (other, job.NoMemory) has))) in
-              inr (no_name, (
-                place,
-                other,
-                sym here ∙ leads,
-                has,
-                subst (λ (r : Option NameList). IsTrue (option_map_or (λ p. same_place (parent_of p) (parent_of place)) r false)) there near,
-              ))
+              inr (
+                no_name,
+                (
+                  place,
+                  other,
+                  sym here ∙ leads,
+                  has,
+                  subst (λ (r : Option NameList). IsTrue (option_map_or (λ p. same_place (parent_of p) (parent_of place)) r false)) there near,
+                ),
+              )
 
     -- ---- why a demo is refused
 

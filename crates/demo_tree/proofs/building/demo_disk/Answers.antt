@@ -14,7 +14,8 @@ loop-i-init c =
     let old = c.new-disk.result in
     let new = c.add_dir.new.self in
     let built : Builds old (codes "/demo") directory new =
-        built_where_told c.memory_alone.result c.add_dir.result (Builds old (codes "/demo") directory new) c.in_ok-memory_alone.field-0 c.memory_alone.ensures c.in_ok-memory_alone.was c.add_dir.ensures.added in
+    built_where_told c.memory_alone.result c.add_dir.result (Builds old (codes "/demo") directory new)
+    c.in_ok-memory_alone.field-0 c.memory_alone.ensures c.in_ok-memory_alone.was c.add_dir.ensures.added in
     record {
       demo =
           demo_first (mem_state old).tree (mem_state new).tree c.new-disk.ensures.tree (tree_stands new)

@@ -9,7 +9,8 @@ pub invariant_of-self-in-None : goal.invariant_of-self-in-None
 invariant_of-self-in-None c =
     let old = c.args.self.now in
     let ends : Ends (mem_state old.disk) c.args.list.number (mem_state c.next_entry.new.self) =
-        subst (λ (given : Option RawEntry). IfNone given (Ends (mem_state old.disk) c.args.list.number (mem_state c.next_entry.new.self))) c.in-None.is c.in_ok-next_entry.ensures.ended in
+    subst (λ (given : Option RawEntry). IfNone given (Ends (mem_state old.disk) c.args.list.number (mem_state c.next_entry.new.self)))
+    c.in-None.is c.in_ok-next_entry.ensures.ended in
     record {
       none_failing = c.in_ok-next_entry.ensures.counts.failing ∙ old.none_failing;
       not_stopped = c.in_ok-next_entry.ensures.counts.stop ∙ old.not_stopped;
