@@ -121,7 +121,10 @@ fn matcher_for(
 {
     match counted {
         Counted::OverAll => matcher_of(alloc, &builder_of(is_literal, letters), find),
-        Counted::InEachLine => matcher_of(alloc, &line_builder_of(is_literal, letters), find),
+        Counted::InEachLine => {
+            let matcher = matcher_of(alloc, &line_builder_of(is_literal, letters), find)?;
+            Ok(matcher)
+        }
     }
 }
 
