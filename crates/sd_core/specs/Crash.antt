@@ -1,6 +1,6 @@
 -- What a crash leaves of a command on a tree where at its start a crash leaves each place as it stands.
 use Rattle.std.specs.Prelude.{◌≡◌, Option}
-use Rattle.sd_edge.specs.Tree.{NameList, Content, Tree}
+use Rattle.sd_edge.specs.Tree.{NameList, Content}
 use Rattle.sd_edge.specs.Outcomes.{Leaves, content_at}
 use Rattle.sd_edge.specs.Disk.{DiskState, outcomes_now}
 

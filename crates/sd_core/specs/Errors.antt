@@ -1,5 +1,4 @@
 -- The faults of what a command does, as its own errors.
-use Rattle.std.specs.Prelude.{Result, Ok, Err}
 use Rattle.sd_edge.specs.declared.fault.DiskFault.TheVariants as disk
 use Rattle.sd_replace.specs.declared.error.ReplacerFault.{ReplacerFault}
 use Rattle.sd_replace.specs.declared.error.ReplacerFault.TheVariants as replacer

@@ -1,4 +1,5 @@
 pub mod Asked
+pub mod CarryingOut
 pub mod Crash
 pub mod DemoCommand
 pub mod Errors

@@ -1,5 +1,5 @@
 -- What a command works on.
-use Rattle.std.specs.Prelude.{ℕ, Bool, true, false, List, [], ◌∷◌, Option, Some, None}
+use Rattle.std.specs.Prelude.{ℕ, Bool, true, false, List, [], ◌∷◌, Option, Some, None, ⊤}
 use Rattle.sd_words.specs.declared.options.Options.{Options}
 
 pub data Mode : Type 0 where
@@ -36,3 +36,12 @@ mode_by None None previews words = words_mode previews words
 
 abbrev pub mode_of : Options → Mode
 mode_of options = mode_by options.root options.demo options.preview options.words
+
+-- a tree is to be planned alone
+abbrev pub IsPlan : Mode → Type 0
+IsPlan (plan root) = ⊤
+IsPlan (tree root) = ⊥
+IsPlan (demo n) = ⊥
+IsPlan stream = ⊥
+IsPlan files = ⊥
+IsPlan preview = ⊥

@@ -2,13 +2,16 @@
 use Rattle.std.specs.Prelude.{◌≡◌, ◌⊎◌, ℕ, IsTrue, List}
 use Rattle.sd_edge.specs.Disk.{DiskState, SameTree, SameLists}
 use Rattle.sd_edge.specs.Streams.{SinkState}
+use Rattle.sd_edge.specs.declared.fault.DiskFault.TheVariants as disk
 use Rattle.sd_change.specs.Change.{Change}
 use Rattle.sd_course.specs.Course.{Course, DiskFailed, SinkFailed}
 use Rattle.file_rewrite.specs.Paths.{IsNoPath}
 use Rattle.tree_rewrite.specs.declared.fault.FilesFault.TheVariants as files
+use Rattle.named_files.specs.Clear.{AreFilesClear, IsFirstUnshown, IsPreviewClear}
 use Rattle.named_files.specs.Named.{DoesFiles, NamedFail}
 use Rattle.named_files.specs.Preview.{DoesPreview, PreviewFails}
 use Rattle.named_files.specs.declared.fault.PreviewFault.TheVariants as preview
+use Rattle.sd_core.specs.TreeCommand.{IsDoneOrForMemory}
 use Rattle.sd_core.specs.declared.error.Error.{Error}
 use Rattle.sd_core.specs.declared.error.Error.TheVariants as error
 use Rattle.sd_core.specs.declared.ended.Why.{Why}
@@ -41,6 +44,7 @@ FilesEnd change paths d why.NotYet = ⊥
 pub record FilesCommand (change : Change) (paths : List (List ℕ)) (d : Course DiskState) (ended : Why) : Type 0 where
   pub ends : FilesEnd change paths d ended
   pub lists : SameLists d.old d.new
+  pub complete : AreFilesClear paths d → IsDoneOrForMemory d.new.tree ended
 
 -- ---- preview
 
@@ -65,8 +69,16 @@ PreviewEnds change paths d out why.Usage = ⊥
 PreviewEnds change paths d out why.Print = ⊥
 PreviewEnds change paths d out why.NotYet = ⊥
 
+-- the word that names no file is told, unless there was no memory, or something failed before
+abbrev pub IsToldNoPath : Course DiskState → Course SinkState → List ℕ → Why → Type 0
+IsToldNoPath d out path ended =
+    (ended ≡ why.Fault (error.InvalidPath path)) ⊎ (ended ≡ why.Fault error.NoMemory)
+    ⊎ ((ended ≡ why.Fault (error.File disk.Failed)) × (DiskFailed d ⊎ SinkFailed out))
+
 -- What a preview promises at each of its ends.
 pub record PreviewCommand (change : Change) (paths : List (List ℕ)) (d : Course DiskState) (out : Course SinkState) (ended : Why) : Type 0 where
   pub ends : PreviewEnds change paths d out ended
   pub same : SameTree d.old d.new
   pub lists : SameLists d.old d.new
+  pub no_path : IsTrue d.tells → (path : List ℕ) → IsFirstUnshown paths d.old.tree path → IsNoPath path → IsToldNoPath d out path ended
+  pub complete : IsPreviewClear paths d out → (ended ≡ why.Done) ⊎ (ended ≡ why.Fault error.NoMemory)

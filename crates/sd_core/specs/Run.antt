@@ -3,6 +3,8 @@ use Rattle.std.specs.Prelude.{◌≡◌, ◌⊎◌, ℕ, List, Some, Result, Ok,
 use Rattle.sd_change.specs.Change.{Change}
 use Rattle.sd_words.specs.Order.{order_of}
 use Rattle.sd_words.specs.declared.options.Options.{Options}
+use Rattle.sd_words.specs.declared.fault.OptionsFault.{OptionsFault}
+use Rattle.sd_words.specs.declared.fault.OptionsFault.TheVariants as words_fault
 use Rattle.sd_replace.specs.Replacement.{Replacement, Changes}
 use Rattle.sd_core.specs.Asked.{IsReplacerOf, RefusesReplacer}
 use Rattle.sd_core.specs.Mode as mode
@@ -21,6 +23,11 @@ status_of why.Usage = 2
 status_of (why.Fault failed) = 1
 status_of why.Print = 1
 status_of why.NotYet = 1
+
+-- why a run ends whose words ask for nothing
+abbrev pub of_words : OptionsFault → Why
+of_words (words_fault.Usage text) = why.Usage
+of_words words_fault.NoMemory = why.Fault error.NoMemory
 
 -- ---- before a command begins
 

@@ -1,6 +1,6 @@
 //! The program, from its words to its status.
 
-ghost use Rattle.std.specs.Prelude.{◌≡◌, ◌≢◌, ◌≤◌, ℕ, List, IsTrue, None, Some};
+ghost use Rattle.std.specs.Prelude.{◌≡◌, ◌≢◌, ◌≤◌, ℕ, List, true, false, IsTrue, None, Some};
 ghost use Rattle.sd_course.specs.Course.{course};
 ghost use Rattle.sd_words.specs.Order.{order_of};
 ghost use Rattle.sd_words.specs.declared.options.Options.{Options};
@@ -8,7 +8,8 @@ ghost use Rattle.sd_replace.specs.Replacement.{Replacement, Changes};
 ghost use Rattle.sd_replace.specs.Replacer.{replacement_of};
 ghost use Rattle.sd_core.specs.Asked.{IsReplacerOf, RefusesReplacer};
 ghost use Rattle.sd_core.specs.Mode as mode;
-ghost use Rattle.sd_core.specs.Mode.{mode_of};
+ghost use Rattle.sd_core.specs.Mode.{IsPlan, mode_of};
+ghost use Rattle.sd_core.specs.CarryingOut.{CarriesOut};
 ghost use Rattle.sd_core.specs.Run as form;
 ghost use Rattle.sd_core.specs.Run.{Asks, Begins, CallsNoDisk, IsOrMemory, IsRefusedFirst, ReadsNoInput, WritesNoOutput};
 ghost use Rattle.sd_core.specs.TreeCommand.{DoesTreeCommand, TreeCommand};
@@ -74,18 +75,25 @@ pub fn run<D: Disk, S: Source, O: Sink, E: Sink>(
     ensures out_kept { (order : Options) → order_of words.now ≡ Some order → WritesNoOutput (mode_of order) result.why → out.new ≡ out.old }
     ensures err_kept { result.why ≡ Why.Done → err.new ≡ err.old }
 {
-    let why = match Options::read(alloc, words) {
-        Ok(options) => carry_out(alloc, &options, disk, input, out),
-        Err(OptionsFault::NoMemory) => Why::Fault(Error::NoMemory),
-        Err(fault) => {
-            print_error(err, &fault);
-            return Ended {
-                status: Why::Usage.status(),
-                why: Why::Usage,
-            };
+    match Options::read(alloc, words) {
+        Err(fault) => refuse(err, &fault),
+        Ok(options) => {
+            let why = carry_out(alloc, &options, disk, input, out);
+            end_with(err, why)
         }
+    }
+}
+
+/// Prints why the words ask for nothing.
+fn refuse<E: Sink>(err: &mut E, fault: &OptionsFault) -> Ended
+    ensures why { result.why ≡ form.of_words fault.now }
+    ensures status { result.status ≡ form.status_of result.why }
+{
+    print_error(err, fault);
+    let why = match fault {
+        OptionsFault::Usage(_) => Why::Usage,
+        OptionsFault::NoMemory => Why::Fault(Error::NoMemory),
     };
-    print_why(err, &why);
     Ended {
         status: why.status(),
         why,
@@ -93,6 +101,19 @@ pub fn run<D: Disk, S: Source, O: Sink, E: Sink>(
 }
 
 /// Prints what went wrong, where something did.
+fn end_with<E: Sink>(err: &mut E, why: Why) -> Ended
+    ensures why { result.why ≡ why }
+    ensures status { result.status ≡ form.status_of why }
+    ensures err_kept { why ≡ Why.Done → err.new ≡ err.old }
+{
+    print_why(err, &why);
+    Ended {
+        status: why.status(),
+        why,
+    }
+}
+
+/// Prints the text of an end that isn't the wanted one.
 fn print_why<E: Sink>(err: &mut E, why: &Why)
     ensures { why.now ≡ Why.Done → err.new ≡ err.old }
 {
@@ -114,40 +135,31 @@ fn carry_out<D: Disk, S: Source, O: Sink>(
     out: &mut O,
 ) -> Why
     requires few { (n : ℕ) → options.now.demo ≡ Some n → n ≤ 100000 }
-    ensures ordered { result ≢ Why.Usage }
-    ensures not_yet { (root : List ℕ) → mode_of options.now ≡ mode.plan root → result ≡ Why.NotYet }
-    ensures replacer { result ≢ Why.NotYet → (error : Error) → RefusesReplacer options.now error → IsRefusedFirst options.now result }
-    ensures headline { IsTrue D.tells → (root : List ℕ) → mode_of options.now ≡ mode.tree root → result ≡ Why.Done
-        → (replacement : Replacement) × IsReplacerOf options.now replacement
-        × DoesTreeCommand (Changes replacement) root options.now.words (D.state disk.old) (D.state disk.new) (course O.tells (O.state out.old) (O.state out.new)) }
-    ensures tree { (root : List ℕ) → mode_of options.now ≡ mode.tree root
-        → Begins options.now ((disk.new ≡ disk.old) × (input.new ≡ input.old) × (out.new ≡ out.old)) result
-        (λ change. TreeCommand change root options.now.words (course D.tells (D.state disk.old) (D.state disk.new)) (course O.tells (O.state out.old) (O.state out.new)) result) }
-    ensures demo { (n : ℕ) → mode_of options.now ≡ mode.demo n
-        → Begins options.now ((disk.new ≡ disk.old) × (input.new ≡ input.old) × (out.new ≡ out.old)) result
-        (λ change. DemoCommand change n options.now.words (course O.tells (O.state out.old) (O.state out.new)) result) }
-    ensures standard_input { mode_of options.now ≡ mode.stream
-        → Begins options.now ((disk.new ≡ disk.old) × (input.new ≡ input.old) × (out.new ≡ out.old)) result
-        (λ change. InputCommand change (course S.tells (S.state input.old) (S.state input.new)) (course O.tells (O.state out.old) (O.state out.new)) result) }
-    ensures files { mode_of options.now ≡ mode.files
-        → Begins options.now ((disk.new ≡ disk.old) × (input.new ≡ input.old) × (out.new ≡ out.old)) result
-        (λ change. FilesCommand change options.now.words (course D.tells (D.state disk.old) (D.state disk.new)) result) }
-    ensures preview { mode_of options.now ≡ mode.preview
-        → Begins options.now ((disk.new ≡ disk.old) × (input.new ≡ input.old) × (out.new ≡ out.old)) result
-        (λ change. PreviewCommand change options.now.words (course D.tells (D.state disk.old) (D.state disk.new)) (course O.tells (O.state out.old) (O.state out.new)) result) }
-    ensures disk_kept { CallsNoDisk (mode_of options.now) result → disk.new ≡ disk.old }
-    ensures input_kept { ReadsNoInput (mode_of options.now) → input.new ≡ input.old }
-    ensures out_kept { WritesNoOutput (mode_of options.now) result → out.new ≡ out.old }
+    ensures { CarriesOut options.now (disk.new ≡ disk.old) (input.new ≡ input.old) (out.new ≡ out.old) (course D.tells (D.state disk.old) (D.state disk.new))
+        (course S.tells (S.state input.old) (S.state input.new)) (course O.tells (O.state out.old) (O.state out.new)) result }
 {
-    if options.preview && options.root.is_some() {
+    if is_plan(options) {
         return Why::NotYet;
     }
     match replacer_of(alloc, options) {
         Err(fault) => Why::Fault(Error::from(fault)),
         Ok(replacer) => {
             an_asked_replacement_is_readable();
-            begin(alloc, options, &replacer, disk, input, out)
+            let why = begin(alloc, options, &replacer, disk, input, out);
+            drop(replacer);
+            why
         }
+    }
+}
+
+/// Whether a plan of a tree is asked for, which isn't built yet.
+fn is_plan(options: &Options) -> bool
+    ensures plan { result ≡ true → IsPlan (mode_of options.now) }
+    ensures no_plan { result ≡ false → IsPlan (mode_of options.now) → ⊥ }
+{
+    match &options.root {
+        Some(_) => options.preview,
+        None => false,
     }
 }
 
@@ -160,7 +172,7 @@ fn begin<D: Disk, S: Source, O: Sink>(
     input: &mut S,
     out: &mut O,
 ) -> Why
-    requires no_plan { (root : List ℕ) → mode_of options.now ≡ mode.plan root → ⊥ }
+    requires no_plan { IsPlan (mode_of options.now) → ⊥ }
     requires few { (n : ℕ) → options.now.demo ≡ Some n → n ≤ 100000 }
     ensures headline { IsTrue D.tells → (root : List ℕ) → mode_of options.now ≡ mode.tree root → result ≡ Why.Done
         → DoesTreeCommand (Changes (replacement_of replacer.now)) root options.now.words (D.state disk.old) (D.state disk.new) (course O.tells (O.state out.old) (O.state out.new)) }

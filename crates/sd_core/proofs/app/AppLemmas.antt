@@ -1,7 +1,8 @@
 -- How the answers on streams and named files become those of their commands.
-use Rattle.std.proofs.Common.{◌≡◌, ◌∙◌, ◌+◌, ◌^◌, ◌⊎◌, ℕ, zero, suc, List, [], ◌∷◌, ◌++◌, take, Some, ap, sym, inl, inr, arith}
+use Rattle.std.proofs.Common.{◌≡◌, ◌∙◌, ◌+◌, ◌^◌, ℕ, zero, suc, List, [], ◌∷◌, ◌++◌, take, Some, ap, sym, inl, inr, arith}
 use Rattle.std.specs.Prelude.{slice_get}
 use Rattle.std.proofs.lemmas.Option.{same_Some}
+use Rattle.sd_edge.specs.Tree.{Tree}
 use Rattle.sd_edge.specs.Disk.{DiskState}
 use Rattle.sd_edge.specs.Streams.{SourceState, SinkState}
 use Rattle.sd_change.specs.Change.{Change}
@@ -9,15 +10,18 @@ use Rattle.sd_course.specs.Course.{Course}
 use Rattle.stream_rewrite.specs.Stream.{StreamFails, IsTooLongFor}
 use Rattle.stream_rewrite.specs.declared.fault.StreamFault.{StreamFault}
 use Rattle.stream_rewrite.specs.declared.fault.StreamFault.TheVariants as stream
+use Rattle.tree_rewrite.specs.Ends.{IsForMemory as FilesIsForMemory}
 use Rattle.tree_rewrite.specs.declared.fault.FilesFault.{FilesFault}
 use Rattle.tree_rewrite.specs.declared.fault.FilesFault.TheVariants as files
 use Rattle.named_files.specs.Named.{NamedFail}
-use Rattle.named_files.specs.Preview.{PreviewFails}
+use Rattle.named_files.specs.Preview.{PreviewFails, IsShownWhy}
 use Rattle.named_files.specs.declared.fault.PreviewFault.{PreviewFault}
 use Rattle.named_files.specs.declared.fault.PreviewFault.TheVariants as preview
 use Rattle.sd_core.specs.Errors.{of_stream, of_files, of_preview}
 use Rattle.sd_core.specs.InputCommand.{InputFails, IsTooLong}
-use Rattle.sd_core.specs.NamedCommands.{FilesFail, ShowingFails}
+use Rattle.sd_core.specs.NamedCommands.{FilesFail, ShowingFails, IsToldNoPath}
+use Rattle.sd_core.specs.TreeCommand.{IsForMemory}
+use Rattle.sd_core.specs.declared.error.Error.TheVariants as error
 use Rattle.sd_core.specs.declared.ended.Why.TheVariants as why
 
 pub input_fails : (change : Change) (input : Course SourceState) (out : Course SinkState) (fault : StreamFault)
@@ -56,3 +60,18 @@ pub copied_next : (words : List (List ℕ)) (i : ℕ) (old new : List (List ℕ)
 copied_next words i old new word at is pushed =
     let one : i + 1 ≡ suc i = omega arith in
     pushed ∙ ap (λ ts. ts ++ word ∷ []) is ∙ sym (take_one words i word at) ∙ ap (λ k. take k words) (sym one)
+
+-- ---- for want of memory alone
+
+pub files_for_memory : (tree : Tree) (fault : FilesFault) → FilesIsForMemory tree fault → IsForMemory tree (of_files fault)
+files_for_memory tree (files.Failed jobs) h = h
+files_for_memory tree files.NoMemory h = h
+
+pub preview_for_memory : (fault : PreviewFault) → fault ≡ preview.NoMemory → why.Fault (of_preview fault) ≡ why.Fault error.NoMemory
+preview_for_memory fault e = ap (λ f. why.Fault (of_preview f)) e
+
+pub told_no_path : (d : Course DiskState) (out : Course SinkState) (path : List ℕ) (fault : PreviewFault) → IsShownWhy d out path fault
+    → IsToldNoPath d out path (why.Fault (of_preview fault))
+told_no_path d out path fault (inl e) = inl (ap (λ f. why.Fault (of_preview f)) e)
+told_no_path d out path fault (inr (inl e)) = inr (inl (ap (λ f. why.Fault (of_preview f)) e))
+told_no_path d out path fault (inr (inr (e, failed))) = inr (inr (ap (λ f. why.Fault (of_preview f)) e, failed))

@@ -1,6 +1,6 @@
 -- How a sweep's answer becomes that of a command on a tree.
 use Rattle.std.proofs.Common.{◌≡◌, ℕ, ap, subst, sym, ◌⊎◌, inl, inr, ◌^◌, List}
-use Rattle.std.specs.Prelude.{IsTrue, Result, Ok, Err, ⊤}
+use Rattle.std.specs.Prelude.{IsTrue, Result, Ok, Err}
 use Rattle.sd_edge.specs.Tree.{Tree}
 use Rattle.sd_edge.specs.Outcomes.{content_at}
 use Rattle.sd_edge.specs.Disk.{DiskState}
@@ -20,7 +20,6 @@ use Rattle.sd_core.specs.Errors.{of_sweep}
 use Rattle.sd_core.specs.Run.{IsOrMemory}
 use Rattle.sd_core.specs.TreeCommand.{TreeCommand, TreeFails, IsForMemory, CrashesLeave}
 use Rattle.sd_core.specs.declared.error.Error.{Error}
-use Rattle.sd_core.specs.declared.error.Error.TheVariants as error
 use Rattle.sd_core.specs.declared.ended.Why.{Why}
 use Rattle.sd_core.specs.declared.ended.Why.TheVariants as why
 

@@ -1,5 +1,6 @@
 -- Why no replacer is made, as a run tells it.
-use Rattle.std.proofs.Common.{◌≡◌, ap, subst, refl, ◌⊎◌, inl, inr, absurd, ⊤}
+use Rattle.std.proofs.Common.{subst, sym, refl, inl, inr}
+use Rattle.std.specs.Prelude.{⊤}
 use Rattle.sd_words.specs.declared.options.Options.{Options}
 use Rattle.sd_replace.specs.Making.{IsReplacerRefused, AnAskedReplacementIsReadable}
 use Rattle.sd_replace.specs.Replacement.{Replacement}
@@ -28,9 +29,9 @@ pub not_refused : AnAskedReplacementIsReadable → (options : Options) (replacem
     → IsReplacerOf options replacement → RefusesReplacer options failed → ⊥
 unfolding IsWantOfMemory
 not_refused readable options replacement (error.InvalidReplaceCapture told) asked h =
-    subst IsWantOfMemory (← readable (asked_of options) replacement (fault.InvalidReplaceCapture told) asked h) tt
+    subst IsWantOfMemory (sym (readable (asked_of options) replacement (fault.InvalidReplaceCapture told) asked h)) tt
 not_refused readable options replacement (error.Regex refused) asked h =
-    subst IsWantOfMemory (← readable (asked_of options) replacement (fault.Regex refused) asked h) tt
+    subst IsWantOfMemory (sym (readable (asked_of options) replacement (fault.Regex refused) asked h)) tt
 not_refused readable options replacement (error.File fault) asked h = h
 not_refused readable options replacement (error.InvalidPath path) asked h = h
 not_refused readable options replacement (error.FailedProcessing jobs) asked h = h
