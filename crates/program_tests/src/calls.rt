@@ -125,27 +125,47 @@ fn why(alloc: Global, words: &[&str]) -> Result<Why, Fail> {
     Ok(run(alloc, &list, &mut disk, &mut input, &mut out, &mut err).why)
 }
 
+/// Whether a replacement text is told to be ambiguous at this name, with so many digits.
+fn is_ambiguous(why: &Why, text: &str, name: (usize, usize), digits: usize) -> bool {
+    match why {
+        Why::Fault(Error::InvalidReplaceCapture(capture)) => {
+            capture.original.as_str() == text
+                && (capture.start, capture.end) == name
+                && capture.digits == digits
+        }
+        _ => false,
+    }
+}
+
+/// Whether one job is told to have failed, with this path and fault.
+fn is_job(why: &Why, path: &str, fault: JobFault) -> bool {
+    match why {
+        Why::Fault(Error::FailedProcessing(jobs)) if jobs.len() == 1 => {
+            let (told, why) = jobs.get(0);
+            told == path && *why == fault
+        }
+        _ => false,
+    }
+}
+
+/// Whether a path is told to name no file.
+fn is_no_path(why: &Why, path: &str) -> bool {
+    match why {
+        Why::Fault(Error::InvalidPath(told)) => told.as_str() == path,
+        _ => false,
+    }
+}
+
 #[test]
 fn errors_carry_what_they_tell_of(rt: HostRuntime) -> Result<(), Fail> {
-    match why(rt.alloc(), &["a", "$1a"])? {
-        Why::Fault(Error::InvalidReplaceCapture(capture)) => {
-            assert_eq!(rt; capture.original.as_str(), "$1a");
-            assert_eq!(rt; (capture.start, capture.end, capture.digits), (1, 3, 1));
-        }
-        _ => assert!(rt; false, "another error"),
-    }
-    match why(rt.alloc(), &["one", "1", "/t/b.md", "/t/none"])? {
-        Why::Fault(Error::FailedProcessing(jobs)) => {
-            assert_eq!(rt; jobs.len(), 1);
-            let (path, fault) = jobs.get(0);
-            assert_eq!(rt; path, "/t/none");
-            assert_eq!(rt; *fault, JobFault::File(DiskFault::Absent));
-        }
-        _ => assert!(rt; false, "another error"),
-    }
-    match why(rt.alloc(), &["-p", "one", "1", ""])? {
-        Why::Fault(Error::InvalidPath(path)) => assert_eq!(rt; path.as_str(), ""),
-        _ => assert!(rt; false, "another error"),
-    }
+    let alloc = rt.alloc();
+    let ambiguous = why(alloc, &["a", "$1a"])?;
+    assert!(rt; is_ambiguous(&ambiguous, "$1a", (1, 3), 1));
+    let missing = why(alloc, &["one", "1", "/t/b.md", "/t/none"])?;
+    assert!(rt; is_job(&missing, "/t/none", JobFault::File(DiskFault::Absent)));
+    let unnamed = why(alloc, &["one", "1", "/t/b.md", "//"])?;
+    assert!(rt; is_job(&unnamed, "//", JobFault::InvalidPath));
+    let no_path = why(alloc, &["-p", "one", "1", "/"])?;
+    assert!(rt; is_no_path(&no_path, "/"));
     Ok(())
 }

@@ -18,30 +18,35 @@ fn failed_jobs(why: &Why) -> usize {
     }
 }
 
+/// Whether each of the two files is old or new, at least one of them is new, and no temporary file stands.
+fn are_old_or_new(alloc: Global, disk: &MemDisk) -> Result<bool, Fail> {
+    let a_is_new = holds(alloc, disk, "/t/a.txt", b"1 two 1")?;
+    let b_is_new = holds(alloc, disk, "/t/b.md", b"1")?;
+    let a_is_whole = a_is_new || holds(alloc, disk, "/t/a.txt", b"one two one")?;
+    let b_is_whole = b_is_new || holds(alloc, disk, "/t/b.md", b"one")?;
+    let is_clear = disk.mode_at("/t/.sd-0000.tmp").is_none();
+    Ok(a_is_whole && b_is_whole && is_clear && (a_is_new || b_is_new))
+}
+
+/// One named file fails with a counted call, and the other is rewritten.
+fn check_failing_call(rt: &(impl Abort + AllocGlobal), call: u64) -> Result<(), Fail> {
+    let mut disk = two_files(rt.alloc())?;
+    disk.fail_at(call)?;
+    let run = run_words(rt.alloc(), &mut disk, &FILES, 1000)?;
+    assert_eq!(rt; run.ended.status, 1, "call {call}");
+    assert_eq!(rt; failed_jobs(&run.ended.why), 1, "call {call}");
+    assert!(rt; are_old_or_new(rt.alloc(), &disk)?, "call {call}");
+    Ok(())
+}
+
 #[test]
 fn each_failing_call_fails_one_named_file(rt: HostRuntime) -> Result<(), Fail> {
-    let alloc = rt.alloc();
-    let mut whole = two_files(alloc)?;
-    let _run = run_words(alloc, &mut whole, &FILES, 1000)?;
+    let mut whole = two_files(rt.alloc())?;
+    let _run = run_words(rt.alloc(), &mut whole, &FILES, 1000)?;
+    // each file is resolved, read, created, written, synced and renamed, and its folder synced
     assert!(rt; whole.calls() > 12);
     for call in 1..=whole.calls() {
-        let mut disk = two_files(alloc)?;
-        disk.fail_at(call)?;
-        let run = run_words(alloc, &mut disk, &FILES, 1000)?;
-        assert_eq!(rt; run.ended.status, 1, "call {call}");
-        assert_eq!(rt; failed_jobs(&run.ended.why), 1, "call {call}");
-        let a_is_new = holds(alloc, &disk, "/t/a.txt", b"1 two 1")?;
-        let b_is_new = holds(alloc, &disk, "/t/b.md", b"1")?;
-        assert!(rt; a_is_new || b_is_new, "call {call}");
-        assert!(rt;
-            a_is_new || holds(alloc, &disk, "/t/a.txt", b"one two one")?,
-            "call {call}"
-        );
-        assert!(rt;
-            b_is_new || holds(alloc, &disk, "/t/b.md", b"one")?,
-            "call {call}"
-        );
-        assert_eq!(rt; disk.mode_at("/t/.sd-0000.tmp"), None, "call {call}");
+        check_failing_call(&rt, call)?;
     }
     Ok(())
 }

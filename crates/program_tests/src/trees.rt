@@ -32,26 +32,31 @@ fn is_one_fault(why: &Why) -> bool {
     }
 }
 
+/// A tree command with a failing call tells of it and leaves its file old or new.
+fn check_failing_call(rt: &(impl Abort + AllocGlobal), call: u64) -> Result<(), Fail> {
+    let alloc = rt.alloc();
+    let mut disk = two_files(alloc)?;
+    disk.fail_at(call)?;
+    let run = run_words(alloc, &mut disk, &TREE_COMMAND, 1000)?;
+    assert_eq!(rt; disk.faults(), 1, "call {call}");
+    assert_eq!(rt; run.ended.status, 1, "call {call}");
+    assert!(rt; is_one_fault(&run.ended.why), "call {call}");
+    assert_eq!(rt; run.out.bytes().len(), 0, "call {call}");
+    let old = holds(alloc, &disk, "/t/a.txt", b"one two one")?;
+    let new = holds(alloc, &disk, "/t/a.txt", b"1 two 1")?;
+    assert!(rt; old || new, "call {call}");
+    assert_eq!(rt; disk.mode_at("/t/a.txt"), Some(0o640), "call {call}");
+    check_files(rt, &disk, &[("/t/b.md", b"one")])
+}
+
 #[test]
 fn each_failing_call_leaves_files_old_or_new(rt: HostRuntime) -> Result<(), Fail> {
-    let alloc = rt.alloc();
-    let mut whole = two_files(alloc)?;
-    let _run = run_words(alloc, &mut whole, &TREE_COMMAND, 1000)?;
+    let mut whole = two_files(rt.alloc())?;
+    let _run = run_words(rt.alloc(), &mut whole, &TREE_COMMAND, 1000)?;
     // the root is listed, and the file read, created, written, synced and renamed, and its folder synced
     assert!(rt; whole.calls() > 6);
     for call in 1..=whole.calls() {
-        let mut disk = two_files(alloc)?;
-        disk.fail_at(call)?;
-        let run = run_words(alloc, &mut disk, &TREE_COMMAND, 1000)?;
-        assert_eq!(rt; disk.faults(), 1, "call {call}");
-        assert_eq!(rt; run.ended.status, 1, "call {call}");
-        assert!(rt; is_one_fault(&run.ended.why), "call {call}");
-        assert_eq!(rt; run.out.bytes().len(), 0, "call {call}");
-        let old = holds(alloc, &disk, "/t/a.txt", b"one two one")?;
-        let new = holds(alloc, &disk, "/t/a.txt", b"1 two 1")?;
-        assert!(rt; old || new, "call {call}");
-        assert_eq!(rt; disk.mode_at("/t/a.txt"), Some(0o640), "call {call}");
-        check_files(&rt, &disk, &[("/t/b.md", b"one")])?;
+        check_failing_call(&rt, call)?;
     }
     Ok(())
 }
