@@ -105,3 +105,55 @@ fn one_fault_fails_one_file(rt: HostRuntime) -> Result<(), Fail> {
     );
     Ok(())
 }
+
+/// What is told where each of the three files fails before anything is written.
+const ALL_FAILED: &str =
+    "failed processing files:\n\tFailedJobs(\n\t/t/a/x: input or output failed\n\t/t/a/y: input or output failed\n\t/t/b/z: input or output failed\n)";
+
+#[test]
+fn a_disk_that_stops_fails_all_files_that_are_left(rt: HostRuntime) -> Result<(), Fail> {
+    let alloc = rt.alloc();
+    let mut all_failed = 0_u64;
+    for call in 1..=calls_of_all(alloc)? {
+        let mut disk = three_files(alloc)?;
+        disk.stop_at(call);
+        let text = told(alloc, &mut disk)?;
+        if text.as_str() == ALL_FAILED {
+            assert!(rt; others_hold(alloc, &disk, "", OLD)?, "call {call}");
+            all_failed = all_failed.saturating_add(1);
+        }
+        assert!(rt; text.as_str().contains("failed"), "call {call}: {text}");
+    }
+    assert!(rt; all_failed > 0);
+    Ok(())
+}
+
+/// Whether each file is old or new, with its mode.
+fn are_old_or_new(alloc: Global, disk: &MemDisk) -> Result<bool, Fail> {
+    for path in PATHS {
+        let old = holds(alloc, disk, path, OLD)?;
+        let new = holds(alloc, disk, path, NEW)?;
+        if !(old || new) || disk.mode_at(path) != Some(0o640) {
+            return Ok(false);
+        }
+    }
+    Ok(true)
+}
+
+#[test]
+fn a_crash_leaves_each_file_old_or_new(rt: HostRuntime) -> Result<(), Fail> {
+    let alloc = rt.alloc();
+    for call in 1..=calls_of_all(alloc)? {
+        let mut disk = three_files(alloc)?;
+        disk.stop_at(call);
+        let _told = told(alloc, &mut disk)?;
+        for choice in 0..16 {
+            let image = disk.crash(alloc, choice)?;
+            assert!(rt;
+                are_old_or_new(alloc, &image)?,
+                "call {call}, choice {choice}"
+            );
+        }
+    }
+    Ok(())
+}
