@@ -1,2 +1,3 @@
 -- What the preview uses.
 pub mod PreviewLemmas
+pub mod WhyLemmas

@@ -1,4 +1,5 @@
 pub mod OneFile
+pub mod Clear
 pub mod Named
 pub mod Preview
 pub mod Examples

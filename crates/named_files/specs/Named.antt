@@ -1,12 +1,12 @@
 -- How the rewriting of named files ends.
-use Rattle.std.specs.Prelude.{◌≡◌, ◌≢◌, ℕ, IsTrue, List, [], ◌∷◌, map, All, sum_by, Err, IsOk}
+use Rattle.std.specs.Prelude.{◌≡◌, ◌≢◌, ℕ, IsTrue, List, [], ◌∷◌, map, All, Err, IsOk}
 use Rattle.std.specs.List.{AllZip}
 use Rattle.sd_edge.specs.Disk.{DiskState}
 use Rattle.sd_change.specs.Change.{Change}
-use Rattle.sd_course.specs.Course.{Course, HasRisenBy}
+use Rattle.sd_course.specs.Course.{Course}
 use Rattle.file_rewrite.specs.Paths.{IsNoPath}
 use Rattle.file_rewrite.specs.declared.fault.JobFault.TheVariants as job
-use Rattle.tree_rewrite.specs.Jobs.{Job, failed_of, end_of, faults_needed, HasJobCause}
+use Rattle.tree_rewrite.specs.Jobs.{Job, failed_of, end_of, HaveCauses}
 use Rattle.tree_rewrite.specs.declared.fault.FilesFault.{FilesFault}
 use Rattle.tree_rewrite.specs.declared.fault.FilesFault.TheVariants as fault
 use Rattle.named_files.specs.OneFile.{OneEnd, ReplacesOne}
@@ -39,8 +39,7 @@ pub record FailsNamed (change : Change) (paths : List (List ℕ)) (d : Course Di
   pub told : AllZip TellsNoPath paths results
   pub jobs_are : jobs ≡ failed_of paths (map end_of results)
   pub some : jobs ≢ []
-  pub counted : HasRisenBy (sum_by (faults_needed d.tells d.old.tree) jobs) d.old.faults d.new.faults
-  pub causes : All (HasJobCause d) jobs
+  pub causes : HaveCauses d jobs
 
 -- What a refused rewriting of named files leaves, and why it is refused.
 abbrev pub NamedFail : Change → List (List ℕ) → Course DiskState → FilesFault → Type 0

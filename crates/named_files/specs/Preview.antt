@@ -123,9 +123,10 @@ pub record StopsWithin (change : Change) (paths : List (List ℕ)) (d : Course D
   pub is_last : IsTrue d.tells → IsLastText change (are_many paths) d.old.tree path last
   pub written : WritesTextsPrefix (texts ++ last ∷ []) out
 
--- it ended at a word that leads to no regular file
+-- it ended at a word that names a file, and leads to no regular one
 pub record StopsAtNoFile (change : Change) (paths : List (List ℕ)) (d : Course DiskState) (out : Course SinkState) : Type 0 where
   pub path : List ℕ
+  pub names : IsNoPath path → ⊥
   pub no_file : file_of d.old.tree path ≡ None
   pub stops : StopsBefore change paths d out path
 
@@ -141,6 +142,11 @@ abbrev pub PreviewFails : Change → List (List ℕ) → Course DiskState → Co
 PreviewFails change paths d out (preview.File fault) = PreviewFaults change paths d out fault
 PreviewFails change paths d out (preview.InvalidPath path) = IsNoPath path × StopsBefore change paths d out path
 PreviewFails change paths d out preview.NoMemory = StopsWithin change paths d out
+
+-- the word is told that it names no file, unless the disk or the sink failed, or there was no memory
+abbrev pub IsShownWhy : Course DiskState → Course SinkState → List ℕ → PreviewFault → Type 0
+IsShownWhy d out path fault =
+    (fault ≡ preview.InvalidPath path) ⊎ (fault ≡ preview.NoMemory) ⊎ ((fault ≡ preview.File disk.Failed) × (DiskFailed d ⊎ SinkFailed out))
 
 -- ---- faults
 

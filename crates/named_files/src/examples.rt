@@ -4,11 +4,16 @@ ghost use Rattle.std.specs.Prelude.{◌≡◌, ◌∷◌, [], codes, true, false
 ghost use Rattle.sd_edge.specs.Tree.{Tree};
 ghost use Rattle.sd_edge.specs.Files.{file_of};
 ghost use Rattle.sd_edge.specs.Disk.{DiskState};
+ghost use Rattle.sd_edge.specs.Streams.{SinkState};
+ghost use Rattle.sd_edge.specs.declared.fault.DiskFault.TheVariants as disk;
+ghost use Rattle.sd_course.specs.Course.{Course};
 ghost use Rattle.file_rewrite.specs.declared.fault.JobFault.TheVariants as job;
 ghost use Rattle.file_rewrite.specs.declared.rewrite.Rewrite.{Rewrite};
 ghost use Rattle.file_rewrite.specs.Examples.{OneToDigit};
 ghost use Rattle.named_files.specs.Named.{ReplacesInTurn, TellsNoPath};
-ghost use Rattle.named_files.specs.Preview.{header_of, text_with, HasText, are_many};
+ghost use Rattle.named_files.specs.Clear.{LeadsToFile, IsFirstUnshown};
+ghost use Rattle.named_files.specs.Preview.{header_of, text_with, HasText, are_many, IsShownWhy};
+ghost use Rattle.named_files.specs.declared.fault.PreviewFault.TheVariants as preview;
 ghost use Rattle.named_files.specs.Examples.{a_path, b_path};
 
 /// What is shown of files, which chains there are, and what is told of a path that names no file.
@@ -21,8 +26,11 @@ pub fn named_files_are_shown_as_in_the_examples()
     ensures two_words { are_many (a_path ∷ b_path ∷ []) ≡ true }
     ensures text { (tree : Tree) → file_of tree a_path ≡ Some (codes "one", 416) → HasText OneToDigit true tree a_path (codes "----- FILE /t/a.txt -----\n1\n") }
     ensures none_of_two { (tree : Tree) → file_of tree a_path ≡ Some (codes "two", 416) → HasText OneToDigit false tree a_path [] }
-    ensures no_files { (disk : DiskState) → ReplacesInTurn OneToDigit [] [] disk disk }
+    ensures no_files { (d : DiskState) → ReplacesInTurn OneToDigit [] [] d d }
     ensures one_end_each { (old new : DiskState) → ReplacesInTurn OneToDigit (a_path ∷ []) [] old new → ⊥ }
     ensures told { TellsNoPath [] (Err job.InvalidPath) }
+    ensures first_unshown { (tree : Tree) → LeadsToFile tree a_path → IsFirstUnshown (a_path ∷ [] ∷ b_path ∷ []) tree [] }
+    ensures told_in_a_preview { (d : Course DiskState) (out : Course SinkState) → IsShownWhy d out [] (preview.InvalidPath []) }
+    ensures not_told_as_missing { (d : Course DiskState) (out : Course SinkState) → IsShownWhy d out [] (preview.File disk.Absent) → ⊥ }
     ensures not_done { (rewrite : Rewrite) → TellsNoPath [] (Ok rewrite) → ⊥ }
 {}

@@ -6,7 +6,6 @@
 
 mod examples;
 mod fault;
-mod path;
 mod preview;
 mod rewriting;
 

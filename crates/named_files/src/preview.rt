@@ -1,12 +1,14 @@
 //! What named files would become, shown.
 
-ghost use Rattle.std.specs.Prelude.{◌≡◌, ◌≤◌, ◌++◌, IsTrue, IsOk, IfOk, IfErr, OnOk, codes};
+ghost use Rattle.std.specs.Prelude.{◌≡◌, ◌≤◌, ◌++◌, ℕ, List, IsTrue, IfOk, IfErr, OnOk, MatchResult, codes};
 ghost use Rattle.sd_edge.specs.Disk.{SameTree, SameLists};
 ghost use Rattle.sd_course.specs.Course.{course};
-ghost use Rattle.named_files.specs.Preview.{are_many, have_headers, header_where, HasText, IsUnread, Shows, ShowsNot, DoesPreview, PreviewFails};
+ghost use Rattle.file_rewrite.specs.Paths.{IsNoPath};
+ghost use Rattle.named_files.specs.Clear.{IsFirstUnshown, IsPreviewClear};
+ghost use Rattle.named_files.specs.Preview.{are_many, have_headers, header_where, HasText, IsUnread, Shows, ShowsNot, DoesPreview, PreviewFails, IsShownWhy};
 
 use crate::PreviewFault;
-use crate::path::is_no_path;
+use file_rewrite::is_no_path;
 use sd_base::{NoMemory, Text};
 use sd_change::Replaces;
 use sd_edge::{Disk, Sink};
@@ -19,7 +21,7 @@ use stream_rewrite::write_all;
 ///
 /// Refuses `File` with a counted fault of the disk or the sink, or where no regular file stands at a path; `InvalidPath` where
 /// a path names no file; and for want of memory. The first fault ends it. The texts of the files before it were written, and
-/// after a fault of the sink a prefix of one more.
+/// after a fault of the sink a prefix of one more. Where nothing stands in the way, it refuses for want of memory alone.
 pub fn preview_named<D: Disk, O: Sink, R: Replaces>(
     alloc: Global,
     disk: &mut D,
@@ -35,6 +37,11 @@ pub fn preview_named<D: Disk, O: Sink, R: Replaces>(
     ensures lists { SameLists (D.state disk.old) (D.state disk.new) }
     ensures disk_never_falls { (D.state disk.old).faults ≤ (D.state disk.new).faults }
     ensures sink_never_falls { (O.state out.old).faults ≤ (O.state out.new).faults }
+    ensures no_path { IsTrue D.tells → (path : List ℕ) → IsFirstUnshown paths.items (D.state disk.old).tree path → IsNoPath path
+        → MatchResult result (λ _. ⊥) (IsShownWhy
+        (course D.tells (D.state disk.old) (D.state disk.new)) (course O.tells (O.state out.old) (O.state out.new)) path) }
+    ensures complete { IsPreviewClear paths.items (course D.tells (D.state disk.old) (D.state disk.new)) (course O.tells (O.state out.old) (O.state out.new))
+        → IfErr result (λ fault. fault ≡ PreviewFault.NoMemory) }
 {
     let headers = headers_for(&paths);
     for path in paths {

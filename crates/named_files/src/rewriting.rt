@@ -4,6 +4,8 @@ ghost use Rattle.std.specs.Prelude.{◌≡◌, ◌≢◌, ◌≤◌, ◌<◌, �
 ghost use Rattle.sd_edge.specs.Disk.{SameLists};
 ghost use Rattle.sd_course.specs.Course.{course};
 ghost use Rattle.tree_rewrite.specs.Jobs.{failed_of, end_of};
+ghost use Rattle.tree_rewrite.specs.Ends.{IsForMemory};
+ghost use Rattle.named_files.specs.Clear.{AreFilesClear};
 ghost use Rattle.named_files.specs.Named.{DoesFiles, NamedFail};
 
 use file_rewrite::{JobFault, Rewrite, replace_file};
@@ -16,7 +18,8 @@ use tree_rewrite::{FailedJobs, FilesFault};
 /// Rewrites the file that each path names, in their order, each as the one before left the disk; two paths may name one
 /// file. One that fails is a job, and the others go on. The fault tells the jobs, which are exactly the failed ones.
 ///
-/// Refuses for want of memory alone before anything is written, with the disk as it was.
+/// Refuses for want of memory alone before anything is written, with the disk as it was. Where nothing stands in the way, each
+/// job is one for want of memory, or finds each reserved name taken after such a job in its folder.
 pub fn rewrite_named<D: Disk, R: Replaces>(
     alloc: Global,
     disk: &mut D,
@@ -28,6 +31,7 @@ pub fn rewrite_named<D: Disk, R: Replaces>(
     ensures no_memory { result ≡ Err FilesFault.NoMemory → disk.new ≡ disk.old }
     ensures lists { SameLists (D.state disk.old) (D.state disk.new) }
     ensures never_falls { (D.state disk.old).faults ≤ (D.state disk.new).faults }
+    ensures complete { AreFilesClear paths.items (course D.tells (D.state disk.old) (D.state disk.new)) → IfErr result (IsForMemory (D.state disk.new).tree) }
 {
     let mut jobs = with_room(alloc, paths.len())?;
     for path in paths {

@@ -1,3 +1,3 @@
 -- What the proof about the program from its words to its status uses.
-pub mod OrderLemmas
-pub mod RunLemmas
+pub mod ModeLemmas
+pub mod AskLemmas

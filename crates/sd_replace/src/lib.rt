@@ -15,8 +15,6 @@ mod quota;
 mod replacer;
 mod searching;
 mod template;
-#[cfg(test)]
-mod tests;
 mod text_examples;
 mod unescaping;
 

@@ -1,12 +1,14 @@
 //! Making replacers of texts and flags.
 
-ghost use Rattle.std.specs.Prelude.{◌≡◌, ◌∷◌, [], IfErr, IfOk, OnOk, unwrap_or};
+ghost use Rattle.std.specs.Prelude.{◌≡◌, ◌∷◌, [], Some, IfErr, IfOk, OnOk, unwrap_or};
 ghost use Rattle.std.specs.Option.{option_copied};
 ghost use Rattle.hir_tree.specs.Tree.{tree_of};
 ghost use Rattle.grep_regex.specs.Building.{IsAscii, IsBuilt, MatchesAreClear};
+ghost use Rattle.grep_matcher.specs.NoMatch.{IsInNoMatch};
+ghost use Rattle.grep_regex.specs.Matching.{end_at};
 ghost use Rattle.grep_regex.specs.Options.{terminator};
 ghost use Rattle.sd_replace.specs.Making.{AnAskedReplacementIsReadable, IsAskedFor, IsReplacerRefused, OneReplacement, asked};
-ghost use Rattle.sd_replace.specs.Making.{IsFindRefused, IsTextRefused, IsUnambiguous, substitute_for};
+ghost use Rattle.sd_replace.specs.Making.{IsFindRefused, IsTextRefused, IsUnambiguous, options_for, substitute_for};
 ghost use Rattle.sd_replace.specs.Replacer.{replacement_of};
 ghost use Rattle.sd_replace.specs.Unescaped.{unescaped};
 ghost use Rattle.sd_replace.specs.declared.replacer.Counted.TheVariants.{OverAll, InEachLine};
@@ -46,16 +48,15 @@ impl Replacer {
         ensures refused { IfErr result (IsReplacerRefused
             (asked find.now replace_with.now is_literal (option_copied flags.entry) replacements OverAll)) }
     {
-        let substitute = substitute_of(alloc, replace_with, is_literal)?;
-        let matcher = matcher_of(alloc, &builder_of(is_literal, letters_of(flags)), find)?;
-        let replacer = Replacer::of_parts(
+        Replacer::made(
             alloc,
-            matcher,
-            substitute,
+            find,
+            replace_with,
+            is_literal,
+            letters_of(flags),
             replacements,
             Counted::OverAll,
-        )?;
-        Ok(replacer)
+        )
     }
 
     /// The same in line mode: at most so many matches are replaced in each line, and no match holds a line feed. It is refused as
@@ -73,16 +74,54 @@ impl Replacer {
         ensures refused { IfErr result (IsReplacerRefused
             (asked find.now replace_with.now is_literal (option_copied flags.entry) replacements InEachLine)) }
     {
-        let substitute = substitute_of(alloc, replace_with, is_literal)?;
-        let matcher = matcher_of(alloc, &line_builder_of(is_literal, letters_of(flags)), find)?;
-        let replacer = Replacer::of_parts(
+        Replacer::made(
             alloc,
-            matcher,
-            substitute,
+            find,
+            replace_with,
+            is_literal,
+            letters_of(flags),
             replacements,
             Counted::InEachLine,
-        )?;
+        )
+    }
+
+    /// A replacer whose matches are counted over the whole, or in each line.
+    fn made(
+        alloc: Global,
+        find: &str,
+        replace_with: &str,
+        is_literal: bool,
+        letters: &str,
+        replacements: u64,
+        counted: Counted,
+    ) -> Result<Replacer, ReplacerFault>
+        ensures made { IfOk result (λ replacer. IsAskedFor
+            (asked find.now replace_with.now is_literal (Some letters.now) replacements counted) (replacement_of replacer)) }
+        ensures refused { IfErr result (IsReplacerRefused (asked find.now replace_with.now is_literal (Some letters.now) replacements counted)) }
+    {
+        let substitute = substitute_of(alloc, replace_with, is_literal)?;
+        let matcher = matcher_for(alloc, counted, is_literal, letters, find)?;
+        let replacer = Replacer::of_parts(alloc, matcher, substitute, replacements, counted)?;
         Ok(replacer)
+    }
+}
+
+/// The matcher of a text to find, where matches are counted so. It is refused where none is built. Want of memory may come at any
+/// time.
+fn matcher_for(
+    alloc: Global,
+    counted: Counted,
+    is_literal: bool,
+    letters: &str,
+    find: &str,
+) -> Result<RegexMatcher, ReplacerFault>
+    ensures built { IfOk result (λ matcher. IsBuilt (options_for counted is_literal letters.now) (find.now ∷ []) (tree_of matcher.searcher)) }
+    ensures clear { counted ≡ InEachLine → IfOk result (λ matcher. IsInNoMatch (end_at (tree_of matcher.searcher)) 10) }
+    ensures refused { IfErr result (IsFindRefused (options_for counted is_literal letters.now) find.now) }
+{
+    match counted {
+        Counted::OverAll => matcher_of(alloc, &builder_of(is_literal, letters), find),
+        Counted::InEachLine => matcher_of(alloc, &line_builder_of(is_literal, letters), find),
     }
 }
 

@@ -1,6 +1,6 @@
 //! What the words of a command line ask for.
 
-ghost use Rattle.std.specs.Prelude.{◌≡◌, IfOk, MatchResult, Some, map};
+ghost use Rattle.std.specs.Prelude.{◌≡◌, ◌≤◌, ℕ, IfOk, MatchResult, Some, map};
 ghost use Rattle.sd_words.specs.Order as form;
 ghost use Rattle.sd_words.specs.OrderRead.{Refuses, or_usage};
 ghost use Rattle.sd_words.specs.MatchedRead.{text_of, texts_lent, texts_read};
@@ -43,7 +43,8 @@ impl Options {
     /// the command doesn't take them, where a number isn't digits alone or is too great, or where a demo stands with a root
     /// or with preview. A demand for help is such a refusal. Want of memory may come at any words.
     pub fn read(alloc: Global, words: &Words) -> Result<Options, OptionsFault>
-        ensures { MatchResult result (λ options. form.order_of words.now ≡ Some options) (Refuses (form.order_of words.now)) }
+        ensures read { MatchResult result (λ options. form.order_of words.now ≡ Some options) (Refuses (form.order_of words.now)) }
+        ensures demo { IfOk result (λ options. (n : ℕ) → options.demo ≡ Some n → n ≤ form.demo_max) }
     {
         let texts = lent(alloc, words)?;
         let command = command(alloc)?;
@@ -55,7 +56,8 @@ impl Options {
 
     /// The options of matched texts.
     fn of(alloc: Global, texts: &Matched<'_, '_>) -> Result<Options, OptionsFault>
-        ensures { MatchResult result (λ options. form.order_by (texts_read texts.now) ≡ Some options) (Refuses (form.order_by (texts_read texts.now))) }
+        ensures read { MatchResult result (λ options. form.order_by (texts_read texts.now) ≡ Some options) (Refuses (form.order_by (texts_read texts.now))) }
+        ensures demo { IfOk result (λ options. (n : ℕ) → options.demo ≡ Some n → n ≤ form.demo_max) }
     {
         if !stand_together(texts) {
             return Err(OptionsFault::Usage(None));
@@ -110,7 +112,8 @@ const DEMO_MAX: u64 = 100_000;
 
 /// The number of a demo, where it is given.
 fn demo(text: Option<&str>) -> Result<Option<u64>, OptionsFault>
-    ensures { result ≡ or_usage (form.demo_of (text_of text.entry)) }
+    ensures read { result ≡ or_usage (form.demo_of (text_of text.entry)) }
+    ensures few { IfOk result (λ demo. (n : ℕ) → demo ≡ Some n → n ≤ form.demo_max) }
 {
     match text {
         Some(text) => match number(text) {

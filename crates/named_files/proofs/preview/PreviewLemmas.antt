@@ -1,6 +1,6 @@
 -- What was shown so far, and how a preview ends.
 use Rattle.std.proofs.Common.{◌≡◌, ℕ, ◌+◌, ◌<◌, ◌≤◌, Bool, List, [], ◌∷◌, ◌++◌, take, drop, length, get_or, refl, sym, ◌∙◌, ap, subst, inl, inr, arith, append_assoc}
-use Rattle.std.specs.Prelude.{IsTrue, All, Result, Ok, Err, IsErrAnd, IfErr}
+use Rattle.std.specs.Prelude.{IsTrue, All, Result, Ok, Err, IsErrAnd, IfOk, IfErr}
 use Rattle.std.specs.List.{concat, AllZip}
 use Rattle.std.proofs.Math.Seq.{take-append-add}
 use Rattle.std.proofs.lemmas.List.{append-nil, length-append, take-append-drop, drop_more}
@@ -23,6 +23,11 @@ use Rattle.named_files.specs.declared.fault.PreviewFault.TheVariants as preview
 pub told_on : {T E : Type 0} (P : E → Type 0) (r : Result T E) (e : E) → IsErrAnd r (λ x. x ≡ e) → P e → IfErr r P
 told_on P (Ok x) e is p = tt
 told_on P (Err x) e is p = subst P (sym is) p
+
+-- where a fault is told on, nothing is claimed of a value
+pub no_value : {T E : Type 0} (P : T → Type 0) (r : Result T E) (e : E) → IsErrAnd r (λ x. x ≡ e) → IfOk r P
+no_value P (Ok x) e is = absurd is
+no_value P (Err x) e is = tt
 
 -- one text more
 concat_more : (texts : List (List ℕ)) (text : List ℕ) → concat (texts ++ text ∷ []) ≡ concat texts ++ text
@@ -106,10 +111,10 @@ module _ (change : Change) (many tells sinks : Bool) (s0 s1 s2 : DiskState) (o0 
     stops_with_nothing : o2 ≡ o1 → StopsWithin change paths (course tells s0 s2) (course sinks o0 o2)
     stops_with_nothing same = stops_within [] (λ told. inl refl) (λ told. nothing_more same)
 
-    module _ (low : s0.faults ≤ s1.faults) (sink_low : o0.faults ≤ o1.faults) where
+    module _ (low : s0.faults ≤ s1.faults) (sink_low : o0.faults ≤ o1.faults) (names : IsNoPath path → ⊥) where
       unread_fails : (fault : PreviewFault) → o2 ≡ o1 → IsUnread (course tells s1 s2) path fault → PreviewFails change paths (course tells s0 s2) (course sinks o0 o2) fault
       unread_fails (preview.File disk.Absent) same cause = (
-        (λ told. record { path = path; no_file = ap (λ (tree : Tree). file_of tree path) (sym so.same.tree) ∙ cause.0 told; stops = stops_before same }),
+        (λ told. record { path = path; names = names; no_file = ap (λ (tree : Tree). file_of tree path) (sym so.same.tree) ∙ cause.0 told; stops = stops_before same }),
         (λ untold. (risen_since s0.faults s1.faults s2.faults low (cause.1 untold), stops_with_nothing same)),
       )
       unread_fails (preview.File disk.Taken) same cause = cause

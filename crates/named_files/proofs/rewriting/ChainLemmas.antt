@@ -1,22 +1,23 @@
 -- Files that are rewritten in turn: one more at the end, and what is answered.
 use Rattle.std.proofs.Common.{◌≡◌, ◌≢◌, ℕ, ◌≤◌, Bool, true, List, [], ◌∷◌, ◌++◌, map, refl, sym, ◌∙◌, ap, subst}
-use Rattle.std.specs.Prelude.{IsTrue, All, sum_by, Option, Some, None, Result, Ok, Err, IsOk, IfOk, IfErr, OnOk}
+use Rattle.std.specs.Prelude.{IsTrue, All, Option, Some, None, Result, Ok, Err, IsOk, IfOk, IfErr, OnOk}
 use Rattle.std.specs.List.{AllZip}
 use Rattle.std.proofs.lemmas.List.Elements.{All-nil, All-cons}
 use Rattle.sd_edge.specs.Disk.{DiskState}
 use Rattle.sd_edge.specs.Crashes.{LeavesSince, IsDurable}
 use Rattle.sd_change.specs.Change.{Change}
-use Rattle.sd_course.specs.Course.{course, HasRisenBy}
+use Rattle.sd_course.specs.Course.{course}
 use Rattle.file_rewrite.specs.Paths.{IsNoPath}
 use Rattle.file_rewrite.specs.OneFile.{RewritesFile, LeavesFile, HasFileCause, IsNewAt, IsChangedAt, IsFreeBy}
 use Rattle.file_rewrite.specs.declared.fault.JobFault.{JobFault}
 use Rattle.file_rewrite.specs.declared.fault.JobFault.TheVariants as job
-use Rattle.tree_rewrite.specs.Jobs.{Job, failed_of, end_of, faults_needed, HasJobCause}
+use Rattle.tree_rewrite.specs.Jobs.{Job, failed_of, end_of, HaveCauses}
 use Rattle.tree_rewrite.specs.declared.jobs.FailedJobs.{FailedJobs}
 use Rattle.tree_rewrite.specs.declared.fault.FilesFault.{FilesFault}
 use Rattle.tree_rewrite.specs.declared.fault.FilesFault.TheVariants as fault
 use Rattle.named_files.specs.OneFile.{OneEnd, ReplacesOne}
 use Rattle.named_files.proofs.rewriting.CauseLemmas.{HaveCausesSoFar}
+use Rattle.named_files.proofs.rewriting.CrowdLemmas.{AreCrowded, crowded_out}
 use Rattle.named_files.specs.Named.{ReplacesInTurn, TellsNoPath, DoesFiles, FailsNamed, NamedFail}
 
 -- ---- one more
@@ -81,6 +82,11 @@ pub record IsNamedSoFar (change : Change) (tells : Bool) (s0 s : DiskState) (don
 pub none_named : (change : Change) (tells : Bool) (s : DiskState) (jobs : List Job) → jobs ≡ [] → IsNamedSoFar change tells s s [] jobs
 none_named change tells s jobs none = record { results = []; in_turn = λ told. refl; told = tt; jobs_are = none }
 
+-- one more job, by the path that the call was given
+pub added_as : (more jobs : List Job) (path named : List ℕ) (result : OneEnd) → path ≡ named → more ≡ jobs ++ failed_of (named ∷ []) (end_of result ∷ [])
+    → more ≡ jobs ++ failed_of (path ∷ []) (end_of result ∷ [])
+added_as more jobs path named result same added = subst (λ (p : List ℕ). more ≡ jobs ++ failed_of (p ∷ []) (end_of result ∷ [])) (sym same) added
+
 -- on a disk that tells its tree the cause is the told one
 told_cause : (tells : Bool) (path : List ℕ) (old new : DiskState) (result : OneEnd) → tells ≡ true → IfErr result (HasFileCause (course tells old new) path) → IfErr result (HasFileCause (course true old new) path)
 told_cause tells path old new result told cause = subst (λ (b : Bool). IfErr result (HasFileCause (course b old new) path)) told cause
@@ -124,18 +130,17 @@ module _ (change : Change) (tells : Bool) (s0 s : DiskState) (done paths : List 
       (record { results = so.results; in_turn = so.in_turn; told = so.told; all = all_done done so.results so.told (sym so.jobs_are ∙ none) })
   done_all (Err failed) none = tt
 
-  fails_so : HaveCausesSoFar tells s0 s jobs → (told : List Job) → told ≡ jobs → told ≢ [] → FailsNamed change done (course tells s0 s) told
-  fails_so have told same some = record {
+  fails_so : HaveCausesSoFar tells s0 s jobs → (IsTrue tells → AreCrowded s0 s jobs) → (told : List Job) → told ≡ jobs → told ≢ [] → FailsNamed change done (course tells s0 s) told
+  fails_so have crowded told same some = record {
     results = so.results;
     in_turn = so.in_turn;
     told = so.told;
     jobs_are = same ∙ so.jobs_are;
     some = some;
-    counted = subst (λ (list : List Job). HasRisenBy (sum_by (faults_needed tells s0.tree) list) s0.faults s.faults) (sym same) have.counted;
-    causes = subst (All (HasJobCause (course tells s0 s))) (sym same) have.causes;
+    causes = subst (HaveCauses (course tells s0 s)) (sym same) (record { counted = have.counted; causes = have.causes; crowded = λ is_told. crowded_out tells s0 s jobs (crowded is_told) });
   }
 
-  pub fails_all : HaveCausesSoFar tells s0 s jobs → (result : Result (Unit {0}) FilesFault) → IfErr result (TellsJobs jobs) → IfErr result (NamedFail change paths (course tells s0 s))
-  fails_all have (Ok u) is = tt
-  fails_all have (Err failed) (told, e, same, some) =
-      subst (NamedFail change paths (course tells s0 s)) (sym e) (subst (λ (list : List (List ℕ)). FailsNamed change list (course tells s0 s) told) whole (fails_so have told same some))
+  pub fails_all : HaveCausesSoFar tells s0 s jobs → (IsTrue tells → AreCrowded s0 s jobs) → (result : Result (Unit {0}) FilesFault) → IfErr result (TellsJobs jobs) → IfErr result (NamedFail change paths (course tells s0 s))
+  fails_all have crowded (Ok u) is = tt
+  fails_all have crowded (Err failed) (told, e, same, some) =
+      subst (NamedFail change paths (course tells s0 s)) (sym e) (subst (λ (list : List (List ℕ)). FailsNamed change list (course tells s0 s) told) whole (fails_so have crowded told same some))

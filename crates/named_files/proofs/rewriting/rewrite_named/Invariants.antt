@@ -1,7 +1,8 @@
 use Rattle.std.proofs.Common.{◌≤◌, length}
-use Rattle.std.specs.Prelude.{vec_len, vec_capacity}
+use Rattle.std.specs.Prelude.{IsTrue, vec_len, vec_capacity}
 use Rattle.sd_edge.specs.Disk.{SameLists}
 use Rattle.named_files.proofs.rewriting.CauseLemmas.{HaveCausesSoFar}
+use Rattle.named_files.proofs.rewriting.CrowdLemmas.{AreCrowded}
 use Rattle.named_files.proofs.rewriting.ChainLemmas.{IsNamedSoFar}
 use Rattle.named_files.proofs.rewriting.rewrite_named.Given as goal
 
@@ -14,4 +15,5 @@ invariant-loop-path g l = record {
   room : length l.fn.paths.items ≤ vec_capacity l.jobs;
   named : IsNamedSoFar (g.R.Replaces.change l.replacer) g.D.Disk.tells (g.D.Disk.state l.fn.disk) (g.D.Disk.state l.disk) l.yielded l.jobs.items;
   causes : HaveCausesSoFar g.D.Disk.tells (g.D.Disk.state l.fn.disk) (g.D.Disk.state l.disk) l.jobs.items;
+  crowded : IsTrue g.D.Disk.tells → AreCrowded (g.D.Disk.state l.fn.disk) (g.D.Disk.state l.disk) l.jobs.items;
 }

@@ -7,17 +7,17 @@ use Rattle.sd_words.specs.OrderRead.{Refuses}
 use Rattle.sd_words.proofs.options.OrderLemmas.{no_order, order_of_matches, refusal_of}
 use Rattle.sd_words.proofs.options.Options.read.Goals as goal
 
-pub returns-in-Ok : goal.returns-in-Ok
-returns-in-Ok c =
+pub returns-in-Ok-clause-read : goal.returns-in-Ok-clause-read
+returns-in-Ok-clause-read c =
     let given : map (λ s. s.now) c.as_slice.result.now ≡ c.args.words.now = ap (map (λ s. s.now)) c.as_slice.ensures.value ∙ c.in_ok-texts.ensures in
     let parse = c.in-Ok in
     let same : order_by (texts_read c.read_matched.result) ≡ order_of c.args.words.now =
     order_of_matches (app_of c.in_ok-command.command) _ c.args.words.now (rows_of (found_of parse.matches)) (texts_read c.read_matched.result) c.in_ok-command.ensures given
     parse.ensures.kinds (λ simple. (parse.ensures.matches simple).0) c.read_matched.ensures in
-    subst (λ o. MatchResult c.of.result (λ options. o ≡ Some options) (Refuses o)) same c.of.ensures
+    subst (λ o. MatchResult c.of.result (λ options. o ≡ Some options) (Refuses o)) same c.of.ensures.read
 
-pub returns : goal.returns
-returns c =
+pub returns-clause-read : goal.returns-clause-read
+returns-clause-read c =
     let given : map (λ s. s.now) c.as_slice.result.now ≡ c.args.words.now = ap (map (λ s. s.now)) c.as_slice.ensures.value ∙ c.in_ok-texts.ensures in
     let parse = c.in-Err in
     refusal_of (order_of c.args.words.now) parse.error c.refusal.result c.refusal.ensures

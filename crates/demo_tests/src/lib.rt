@@ -1,0 +1,5 @@
+//! Tests of the demo, by public calls alone.
+#![tactic(auto)]
+
+#[cfg(test)]
+mod built;

@@ -1,0 +1,2 @@
+-- What the preview and the rewriting use.
+pub mod CutLemmas

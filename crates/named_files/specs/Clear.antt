@@ -1,0 +1,39 @@
+-- What stands in the way of named files, or doesn't.
+use Rattle.std.specs.Prelude.{◌≡◌, ℕ, IsTrue, List, ◌∷◌, ◌++◌, All, IsSome}
+use Rattle.sd_edge.specs.Tree.{NameList, Tree}
+use Rattle.sd_edge.specs.Files.{file_of}
+use Rattle.sd_edge.specs.Disk.{DiskState}
+use Rattle.sd_edge.specs.Streams.{SinkState}
+use Rattle.sd_course.specs.Course.{Course, DiskFailed, SinkFailed}
+use Rattle.file_rewrite.specs.Paths.{IsNoPath}
+use Rattle.file_rewrite.specs.OneFile.{IsFreeBy}
+
+-- the path leads to a regular file
+abbrev pub LeadsToFile : Tree → List ℕ → Type 0
+LeadsToFile tree path = IsSome (file_of tree path)
+
+-- the folder of the file that a path leads to has a reserved name that is free
+abbrev pub HasRoomBy : Tree → List ℕ → Type 0
+HasRoomBy tree path = (temporary : NameList) × IsFreeBy tree path temporary
+
+-- nothing stands in the way of rewriting named files
+pub record AreFilesClear (paths : List (List ℕ)) (d : Course DiskState) : Type 0 where
+  pub paths_name : All (λ path. IsNoPath path → ⊥) paths
+  pub files : IsTrue d.tells → All (LeadsToFile d.old.tree) paths
+  pub room : IsTrue d.tells → All (HasRoomBy d.old.tree) paths
+  pub no_fault : DiskFailed d → ⊥
+
+-- Each word before this one can be shown: it names a file, and leads to a regular one.
+pub record IsFirstUnshown (paths : List (List ℕ)) (tree : Tree) (path : List ℕ) : Type 0 where
+  pub before : List (List ℕ)
+  pub after : List (List ℕ)
+  pub paths_are : paths ≡ before ++ path ∷ after
+  pub before_shown : All (LeadsToFile tree) before
+  pub before_name : All (λ other. IsNoPath other → ⊥) before
+
+-- nothing stands in the way of a preview
+pub record IsPreviewClear (paths : List (List ℕ)) (d : Course DiskState) (out : Course SinkState) : Type 0 where
+  pub paths_name : All (λ path. IsNoPath path → ⊥) paths
+  pub files : IsTrue d.tells → All (LeadsToFile d.old.tree) paths
+  pub no_disk_fault : DiskFailed d → ⊥
+  pub no_sink_fault : SinkFailed out → ⊥
