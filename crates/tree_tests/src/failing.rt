@@ -157,3 +157,36 @@ fn a_crash_leaves_each_file_old_or_new(rt: HostRuntime) -> Result<(), Fail> {
     }
     Ok(())
 }
+
+/// Roots that lead to `/t`, and the path of the last file below each.
+const ROOTS: [(&str, &str); 4] = [
+    ("/t/", "/t/b/z"),
+    ("t", "t/b/z"),
+    ("/t/a/..", "/t/a/../b/z"),
+    ("/l", "/l/b/z"),
+];
+
+/// Three files in two folders, and a link to the folder of both.
+fn linked(alloc: Global) -> Result<MemDisk, Fail> {
+    let mut disk = three_files(alloc)?;
+    disk.add_link("/l", "t")?;
+    Ok(disk)
+}
+
+#[test]
+fn a_failed_file_is_told_by_the_root_as_it_was_given(rt: HostRuntime) -> Result<(), Fail> {
+    let alloc = rt.alloc();
+    for (root, path) in ROOTS {
+        let mut disk = linked(alloc)?;
+        let text = swept(alloc, &mut disk, root, &["**"], &one_to_digit(alloc))?;
+        assert_eq!(rt; text.as_str(), "chosen 3, changed 3, replaced 6", "{root}");
+        // the last call puts the last file's new name on the medium
+        let last = disk.calls();
+        let mut disk = linked(alloc)?;
+        disk.fail_at(last)?;
+        let text = swept(alloc, &mut disk, root, &["**"], &one_to_digit(alloc))?;
+        let wanted = one_job(alloc, path, UNMOVED)?;
+        assert_eq!(rt; text.as_str(), wanted.as_str(), "{root}");
+    }
+    Ok(())
+}
