@@ -53,3 +53,23 @@ fn a_link_to_an_ancestor_is_not_followed(rt: HostRuntime) -> Result<(), Fail> {
     disk.add_file("/r/a/f", b"1", 0o600)?;
     check(&rt, &mut disk, "/r", &["**"], &["/r/a/f"])
 }
+
+/// Roots that lead to `/t`, and the paths that they give.
+const OTHER_ROOTS: [Case; 6] = [
+    ("/t/", &["/t/.hidden", "/t/a.b"]),
+    ("t", &["t/.hidden", "t/a.b"]),
+    ("//t//", &["//t//.hidden", "//t//a.b"]),
+    ("/t/a/..", &["/t/a/../.hidden", "/t/a/../a.b"]),
+    ("/to_folder", &["/to_folder/.hidden", "/to_folder/a.b"]),
+    ("/t/a/up", &["/t/a/up/.hidden", "/t/a/up/a.b"]),
+];
+
+#[test]
+fn paths_begin_with_the_root_as_it_was_given(rt: HostRuntime) -> Result<(), Fail> {
+    let mut disk = with_links(rt.alloc())?;
+    disk.add_link("/to_folder", "t")?;
+    for (root, lines) in OTHER_ROOTS {
+        check(&rt, &mut disk, root, &["*"], lines)?;
+    }
+    Ok(())
+}

@@ -105,3 +105,88 @@ fn one_fault_fails_one_file(rt: HostRuntime) -> Result<(), Fail> {
     );
     Ok(())
 }
+
+/// What is told where each of the three files fails before anything is written.
+const ALL_FAILED: &str =
+    "failed processing files:\n\tFailedJobs(\n\t/t/a/x: input or output failed\n\t/t/a/y: input or output failed\n\t/t/b/z: input or output failed\n)";
+
+#[test]
+fn a_disk_that_stops_fails_all_files_that_are_left(rt: HostRuntime) -> Result<(), Fail> {
+    let alloc = rt.alloc();
+    let mut all_failed = 0_u64;
+    for call in 1..=calls_of_all(alloc)? {
+        let mut disk = three_files(alloc)?;
+        disk.stop_at(call);
+        let text = told(alloc, &mut disk)?;
+        if text.as_str() == ALL_FAILED {
+            assert!(rt; others_hold(alloc, &disk, "", OLD)?, "call {call}");
+            all_failed = all_failed.saturating_add(1);
+        }
+        assert!(rt; text.as_str().contains("failed"), "call {call}: {text}");
+    }
+    assert!(rt; all_failed > 0);
+    Ok(())
+}
+
+/// Whether each file is old or new, with its mode.
+fn are_old_or_new(alloc: Global, disk: &MemDisk) -> Result<bool, Fail> {
+    for path in PATHS {
+        let old = holds(alloc, disk, path, OLD)?;
+        let new = holds(alloc, disk, path, NEW)?;
+        if !(old || new) || disk.mode_at(path) != Some(0o640) {
+            return Ok(false);
+        }
+    }
+    Ok(true)
+}
+
+#[test]
+fn a_crash_leaves_each_file_old_or_new(rt: HostRuntime) -> Result<(), Fail> {
+    let alloc = rt.alloc();
+    for call in 1..=calls_of_all(alloc)? {
+        let mut disk = three_files(alloc)?;
+        disk.stop_at(call);
+        let _told = told(alloc, &mut disk)?;
+        for choice in 0..16 {
+            let image = disk.crash(alloc, choice)?;
+            assert!(rt;
+                are_old_or_new(alloc, &image)?,
+                "call {call}, choice {choice}"
+            );
+        }
+    }
+    Ok(())
+}
+
+/// Roots that lead to `/t`, and the path of the last file below each.
+const ROOTS: [(&str, &str); 4] = [
+    ("/t/", "/t/b/z"),
+    ("t", "t/b/z"),
+    ("/t/a/..", "/t/a/../b/z"),
+    ("/l", "/l/b/z"),
+];
+
+/// Three files in two folders, and a link to the folder of both.
+fn linked(alloc: Global) -> Result<MemDisk, Fail> {
+    let mut disk = three_files(alloc)?;
+    disk.add_link("/l", "t")?;
+    Ok(disk)
+}
+
+#[test]
+fn a_failed_file_is_told_by_the_root_as_it_was_given(rt: HostRuntime) -> Result<(), Fail> {
+    let alloc = rt.alloc();
+    for (root, path) in ROOTS {
+        let mut disk = linked(alloc)?;
+        let text = swept(alloc, &mut disk, root, &["**"], &one_to_digit(alloc))?;
+        assert_eq!(rt; text.as_str(), "chosen 3, changed 3, replaced 6", "{root}");
+        // the last call puts the last file's new name on the medium
+        let last = disk.calls();
+        let mut disk = linked(alloc)?;
+        disk.fail_at(last)?;
+        let text = swept(alloc, &mut disk, root, &["**"], &one_to_digit(alloc))?;
+        let wanted = one_job(alloc, path, UNMOVED)?;
+        assert_eq!(rt; text.as_str(), wanted.as_str(), "{root}");
+    }
+    Ok(())
+}
