@@ -1,10 +1,10 @@
 -- How a sweep of a demo ends, by how the sweep of any tree does.
-use Rattle.std.proofs.Common.{◌≡◌, ℕ, zero, suc, ◌<◌, ◌≤◌, ◌^◌, Bool, true, false, List, [], ◌∷◌, ◌++◌, map, ◌⊎◌, inl, inr, refl, sym, ap, ◌∙◌, subst, arith}
+use Rattle.std.proofs.Common.{◌≡◌, ℕ, suc, ◌≤◌, ◌^◌, Bool, true, false, List, [], ◌∷◌, ◌++◌, map, ◌⊎◌, inl, inr, refl, sym, ap, ◌∙◌, subst, arith}
 use Rattle.std.specs.Prelude.{Option, Some, None, IsSome, is_some, IsTrue, Contains, All, Result, Ok, Err, IfOk, IfErr, chars}
 use Rattle.std.specs.Option.{option_map_or}
 use Rattle.std.proofs.lemmas.Option.{same_Some}
 use Rattle.std.proofs.lemmas.List.Elements.{All-nil, All-cons}
-use Rattle.sd_edge.specs.Tree.{NameList, Content, link, file, Tree, node_at, file_at}
+use Rattle.sd_edge.specs.Tree.{NameList, file, node_at, file_at}
 use Rattle.sd_edge.specs.Paths.{reached, parent_of, way_of_node}
 use Rattle.sd_edge.specs.Files.{path_text}
 use Rattle.sd_edge.specs.Outcomes.{same_place}
@@ -17,7 +17,7 @@ use Rattle.file_rewrite.specs.declared.fault.JobFault.{JobFault}
 use Rattle.file_rewrite.specs.declared.fault.JobFault.TheVariants as job
 use Rattle.glob_match.specs.Reading.{pieces_of}
 use Rattle.chosen_files.specs.Globs.{IsValid, IsFirstInvalid}
-use Rattle.chosen_files.specs.Chosen.{IsChosen, Chosen, ListsChosen}
+use Rattle.chosen_files.specs.Chosen.{Chosen}
 use Rattle.chosen_files.proofs.ContentLemmas.{file_stands}
 use Rattle.chosen_files.proofs.PlaceLemmas.{In, in_from_contains, contains_from_in, in_left, in_right}
 use Rattle.tree_rewrite.specs.Rewritten.{LeavesEach}
