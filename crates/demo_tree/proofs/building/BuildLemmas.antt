@@ -1,9 +1,9 @@
 -- A demo's tree while it is built.
-use Rattle.std.proofs.Common.{◌≡◌, ◌≢◌, ℕ, ◌+◌, ◌<◌, ◌≤◌, true, false, cond, List, [], ◌∷◌, ◌⊎◌, inl, inr, refl, sym, ap, ◌∙◌, subst, arith}
-use Rattle.std.specs.Prelude.{Option, Some, None, Result, Ok, Err, IsOk, OnOk, ◌↔◌, IsSome, is_some, IsTrue, codes, ◌||◌}
+use Rattle.std.proofs.Common.{◌≡◌, ◌≢◌, ℕ, ◌+◌, ◌<◌, ◌≤◌, true, false, cond, List, [], ◌⊎◌, inl, inr, refl, sym, ap, ◌∙◌, subst, arith}
+use Rattle.std.specs.Prelude.{Option, Some, None, Result, Ok, Err, IsOk, OnOk, ◌↔◌, is_some, codes, ◌||◌}
 use Rattle.std.specs.List.{list_any}
 use Rattle.std.proofs.lemmas.Option.{same_Some}
-use Rattle.sd_edge.specs.Tree.{NameList, Content, directory, link, file, other, Node, Tree, IsTree, node_at, is_directory_at, is_directory_node}
+use Rattle.sd_edge.specs.Tree.{NameList, Content, directory, file, Node, Tree, IsTree, node_at, is_directory_at, is_directory_node}
 use Rattle.sd_edge.specs.Disk.{OpenList}
 use Rattle.sd_edge.specs.Outcomes.{content_of, content_at}
 use Rattle.sd_edge.specs.Paths.{parts_of, parent_of, is_up}

@@ -1,6 +1,6 @@
 -- What stands in the tree of a demo, and in that of the next number.
 use Rattle.std.proofs.Common.{◌≡◌, ◌≢◌, ℕ, zero, suc, ◌+◌, ◌-◌, ◌%◌, ◌<◌, ◌≤◌, Bool, true, false, cond}
-use Rattle.std.proofs.Common.{eqb, List, [], ◌∷◌, ◌++◌, map, refl, sym, ap, ◌∙◌, ◌⊎◌, inl, inr, arith}
+use Rattle.std.proofs.Common.{eqb, [], ◌∷◌, ◌++◌, map, refl, sym, ap, ◌∙◌, ◌⊎◌, inl, inr, arith}
 use Rattle.std.specs.Prelude.{◌||◌, Option, Some, None, find, codes}
 use Rattle.std.specs.Option.{option_or}
 use Rattle.std.specs.List.{list_any, range_with_len}
@@ -8,9 +8,9 @@ use Rattle.std.specs.Cmp.Lexicographic.{pointwise_decides, bytes_decides}
 use Rattle.std.proofs.lemmas.Bool.{eqb-true, eqb-false}
 use Rattle.std.proofs.lemmas.List.Folds.{find-append, list_any-append}
 use Rattle.std.proofs.lemmas.List.FromFn.{map-range_with_len_more}
-use Rattle.sd_edge.specs.Tree.{Name, NameList, Content, directory, file}
+use Rattle.sd_edge.specs.Tree.{NameList, Content, directory, file}
 use Rattle.sd_edge.specs.Outcomes.{same_place}
-use Rattle.demo_tree.specs.Demo.{DemoFile, demo_place, demo_folder, demo_file, demo_files, demo_folders}
+use Rattle.demo_tree.specs.Demo.{DemoFile, demo_place, demo_folder, demo_file, demo_files}
 use Rattle.demo_tree.specs.Demo.{folder_content, file_or_folder, demo_content, demo_bytes, demo_mode, digits_of}
 use Rattle.demo_tree.proofs.building.NameLemmas.{folders_differ, files_differ}
 

@@ -1,12 +1,11 @@
 -- Decimal digits: how they are written, and that they tell a number.
-use Rattle.std.proofs.Common.{◌≡◌, ◌≢◌, ℕ, zero, suc, ◌+◌, ◌-◌, ◌*◌, ◌/◌, ◌%◌, ◌^◌, ◌<◌, ◌≤◌, ◌⊎◌, false}
-use Rattle.std.proofs.Common.{List, [], ◌∷◌, ◌++◌, length, refl, sym, ap, ◌∙◌, inl, inr, append_assoc, append-nil, length-append, arith}
+use Rattle.std.proofs.Common.{◌≡◌, ℕ, zero, suc, ◌+◌, ◌-◌, ◌*◌, ◌/◌, ◌%◌, ◌^◌, ◌<◌, ◌≤◌, false}
+use Rattle.std.proofs.Common.{List, [], ◌∷◌, ◌++◌, length, refl, sym, ap, ◌∙◌, append_assoc, append-nil, length-append, arith}
 use Rattle.std.specs.Prelude.{replicate}
-use Rattle.std.proofs.Math.Nat.{div-one, div-div-eq-div-mul, pow-suc, pow-succ', sub-zero, zero-div, zero-mod}
+use Rattle.std.proofs.Math.Nat.{div-one, div-div-eq-div-mul, pow-succ', sub-zero, zero-div}
 use Rattle.std.proofs.lemmas.Fmt.{decimal_by_steps}
-use Rattle.std.proofs.lemmas.List.{replicate_more}
 use Rattle.std.specs.Fmt.{decimal, styled_decimal, padded_integral, char_count, format_spec}
-use Rattle.demo_tree.specs.Demo.{digit_at, digits_of}
+use Rattle.demo_tree.specs.Demo.{digits_of}
 
 -- the last digit apart
 pub digits_push : (n k : ℕ) → digits_of n (suc k) ≡ digits_of (n / 10) k ++ (48 + n % 10) ∷ []

@@ -1,7 +1,7 @@
 -- Few entries lie below the root of a demo.
 use Rattle.std.proofs.Common.{◌≡◌, ◌≢◌, ℕ, zero, suc, ◌+◌, ◌<◌, ◌≤◌, ◌^◌, Bool, true, false, cond, List, []}
-use Rattle.std.proofs.Common.{◌∷◌, ◌++◌, map, length, ◌⊎◌, inl, inr, refl, sym, ap, ◌∙◌, subst, Ordering, Less, length-append, arith}
-use Rattle.std.specs.Prelude.{◌||◌, ◌&&◌, T, Option, Some, None, IsSome, is_some, Contains, codes}
+use Rattle.std.proofs.Common.{◌∷◌, ◌++◌, map, length, inl, inr, refl, sym, ap, ◌∙◌, subst, Ordering, Less, length-append, arith}
+use Rattle.std.specs.Prelude.{◌||◌, ◌&&◌, T, IsSome, codes}
 use Rattle.std.specs.declared.cmp.Ordering.TheVariants.{Equal, Greater}
 use Rattle.std.specs.List.{AllByRecursion, list_any, range_with_len, filter}
 use Rattle.std.specs.List.Sorted.{IsStrictlySortedBy}

@@ -1,14 +1,14 @@
 -- Each folder of a demo has room for a temporary file.
-use Rattle.std.proofs.Common.{◌≡◌, ℕ, ◌<◌, false, cond, List, [], ◌∷◌, ◌++◌, map, inl, inr, refl, sym, ap, ◌∙◌, subst, arith}
+use Rattle.std.proofs.Common.{◌≡◌, ℕ, false, cond, List, [], ◌∷◌, ◌++◌, map, inl, inr, refl, sym, ap, ◌∙◌, subst, arith}
 use Rattle.std.specs.Prelude.{Some, None, find}
 use Rattle.std.specs.List.{list_any, range_with_len}
-use Rattle.sd_edge.specs.Tree.{NameList, Content, directory, file, Tree, node_at}
+use Rattle.sd_edge.specs.Tree.{NameList, directory, file, Tree, node_at}
 use Rattle.sd_edge.specs.Outcomes.{same_place}
 use Rattle.sd_edge.specs.Paths.{parent_of}
 use Rattle.file_exchange.specs.Reserved.{reserved_name, Free}
 use Rattle.tree_rewrite.specs.Files.{HasRoom}
 use Rattle.tree_rewrite.specs.Sweep.{IsChosenBelow}
-use Rattle.demo_tree.specs.Demo.{demo_folder, demo_file, demo_files, file_or_folder, demo_content, demo_bytes, demo_mode, IsDemo}
+use Rattle.demo_tree.specs.Demo.{demo_folder, demo_file, demo_files, file_or_folder, demo_content, IsDemo}
 use Rattle.demo_tree.proofs.building.ContentLemmas.{no_file_in, no_folder_in}
 use Rattle.demo_tree.proofs.building.BuildLemmas.{no_node}
 use Rattle.demo_tree.proofs.sweeping.StandingLemmas.{StandsSo, stands_so, file_there}

@@ -1,12 +1,12 @@
 -- Where something stands in the tree of a demo.
-use Rattle.std.proofs.Common.{◌≡◌, ◌≢◌, ℕ, zero, suc, ◌+◌, ◌<◌, ◌≤◌, Bool, true, false, cond}
-use Rattle.std.proofs.Common.{List, [], ◌∷◌, ◌++◌, map, ◌⊎◌, inl, inr, refl, sym, ap, ◌∙◌, arith}
+use Rattle.std.proofs.Common.{◌≡◌, ℕ, zero, suc, ◌+◌, ◌<◌, Bool, true, false, cond}
+use Rattle.std.proofs.Common.{List, [], map, ◌⊎◌, inl, inr, refl, sym, ap, ◌∙◌, arith}
 use Rattle.std.specs.Prelude.{◌||◌, Option, Some, None, IsSome, find}
 use Rattle.std.specs.List.{list_any, range_with_len}
 use Rattle.std.specs.Cmp.Lexicographic.{pointwise_decides, bytes_decides}
 use Rattle.std.proofs.lemmas.Option.{same_Some}
-use Rattle.sd_edge.specs.Tree.{NameList, Content, directory, link, file, other, Node, Tree, file_node, file_content, node_at, file_at}
-use Rattle.sd_edge.specs.Outcomes.{same_place, content_of, content_at}
+use Rattle.sd_edge.specs.Tree.{NameList, Content, directory, link, file, other, Node, Tree, file_node, file_content, node_at}
+use Rattle.sd_edge.specs.Outcomes.{same_place, content_of}
 use Rattle.sd_edge.specs.Paths.{reached}
 use Rattle.sd_edge.specs.Files.{path_text}
 use Rattle.sd_edge.proofs.PathTextLemmas.{text_no_link}

@@ -1,4 +1,4 @@
-use Rattle.std.proofs.Common.{◌≡◌, ◌+◌, List, ℕ, ap, subst, ◌∙◌, arith}
+use Rattle.std.proofs.Common.{◌≡◌, ◌+◌, List, ℕ, ap, subst, ◌∙◌}
 use Rattle.sd_edge.specs.Tree.{file}
 use Rattle.sd_edge.specs.Paths.{parts_of}
 use Rattle.sd_edge.specs.MemDisk.{mem_state, Builds}
