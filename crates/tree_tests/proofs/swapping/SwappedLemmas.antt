@@ -25,7 +25,8 @@ swapped-found (f ∷ fs) other [] tail some more starts is = absurd (omega (arit
 swapped-found (f ∷ fs) other (byte ∷ bytes) tail some more starts is =
     let one : length (f ∷ fs) - 1 ≡ length fs = omega arith in
     let behind : drop (length (f ∷ fs) - 1) bytes ≡ tail = ap (λ n. drop n bytes) one ∙ sym is in
-    cond-true _ _ _ starts ∙ ap (λ new_bytes. other ++ new_bytes) (swapped-left (f ∷ fs) other (length (f ∷ fs) - 1) bytes ∙ ap (λ left. swapped (f ∷ fs) other 0 left) behind)
+    let onward = swapped-left (f ∷ fs) other (length (f ∷ fs) - 1) bytes ∙ ap (λ left. swapped (f ∷ fs) other 0 left) behind in
+    cond-true _ _ _ starts ∙ ap (λ new_bytes. other ++ new_bytes) onward
 
 pub spans-found : (find rest tail : List ℕ) → 0 < length find → 0 < length rest → starts_with ◌==◌ rest find ≡ true
     → tail ≡ drop (length find) rest → spans find 0 rest ≡ spans find 0 tail + 1
@@ -34,7 +35,8 @@ spans-found (f ∷ fs) [] tail some more starts is = absurd (omega (arith, more)
 spans-found (f ∷ fs) (byte ∷ bytes) tail some more starts is =
     let one : length (f ∷ fs) - 1 ≡ length fs = omega arith in
     let behind : drop (length (f ∷ fs) - 1) bytes ≡ tail = ap (λ n. drop n bytes) one ∙ sym is in
-    cond-true _ _ _ starts ∙ ap (λ n. n + 1) (spans-left (f ∷ fs) (length (f ∷ fs) - 1) bytes ∙ ap (λ left. spans (f ∷ fs) 0 left) behind)
+    let onward = spans-left (f ∷ fs) (length (f ∷ fs) - 1) bytes ∙ ap (λ left. spans (f ∷ fs) 0 left) behind in
+    cond-true _ _ _ starts ∙ ap (λ n. n + 1) onward
 
 -- the new bytes so far, with one more text
 pub one_more : (old new other behind rest whole : List ℕ) → new ≡ old ++ other → rest ≡ other ++ behind → old ++ rest ≡ whole → new ++ behind ≡ whole
