@@ -101,8 +101,7 @@ impl Replacer {
     {
         let substitute = substitute_of(alloc, replace_with, is_literal)?;
         let matcher = matcher_for(alloc, counted, is_literal, letters, find)?;
-        let replacer = Replacer::of_parts(alloc, matcher, substitute, replacements, counted)?;
-        Ok(replacer)
+        Replacer::of_parts(alloc, matcher, substitute, replacements, counted)
     }
 }
 

@@ -1,6 +1,6 @@
 //! Replacers.
 
-ghost use Rattle.std.specs.Prelude.{◌≡◌, IfOk};
+ghost use Rattle.std.specs.Prelude.{◌≡◌, IfErr, IfOk};
 ghost use Rattle.std.proofs.Props.{props};
 ghost use Rattle.grep_matcher.specs.NoMatch.{IsInNoMatch};
 ghost use Rattle.grep_regex.specs.Matching.{end_at};
@@ -8,6 +8,7 @@ ghost use Rattle.hir_tree.specs.Tree.{tree_of};
 ghost use Rattle.sd_replace.specs.Templates.{ArePiecesOf};
 ghost use Rattle.sd_replace.specs.declared.replacer.Counted.TheVariants.{InEachLine};
 
+use crate::error::ReplacerFault;
 use crate::template::Template;
 use grep_regex::RegexMatcher;
 use sd_base::{NoMemory, Text};
@@ -58,21 +59,28 @@ impl Replacer {
         substitute: Substitute,
         limit: u64,
         counted: Counted,
-    ) -> Result<Replacer, NoMemory>
+    ) -> Result<Replacer, ReplacerFault>
         requires clear { counted ≡ InEachLine → IsInNoMatch (end_at (tree_of matcher.searcher)) 10 }
         ensures pattern { IfOk result (λ replacer. tree_of replacer.matcher.searcher ≡ tree_of matcher.searcher) }
         ensures substitute { IfOk result (λ replacer. replacer.substitute ≡ substitute) }
         ensures limit { IfOk result (λ replacer. replacer.limit ≡ limit) }
         ensures counted { IfOk result (λ replacer. replacer.counted ≡ counted) }
+        ensures refused { IfErr result (λ fault. fault ≡ ReplacerFault.NoMemory) }
     {
-        let template = Template::new(alloc, &matcher, &substitute)?;
-        Ok(Replacer {
-            alloc,
-            matcher,
-            substitute,
-            template,
-            limit,
-            counted,
-        })
+        match Template::new(alloc, &matcher, &substitute) {
+            Ok(template) => Ok(Replacer {
+                alloc,
+                matcher,
+                substitute,
+                template,
+                limit,
+                counted,
+            }),
+            Err(NoMemory) => {
+                drop(matcher);
+                drop(substitute);
+                Err(ReplacerFault::NoMemory)
+            }
+        }
     }
 }
