@@ -77,6 +77,7 @@ impl Replacer {
                 counted,
             }),
             Err(NoMemory) => {
+                // A value that is let go by a call isn't taken apart here, which would be dear to check.
                 drop(matcher);
                 drop(substitute);
                 Err(ReplacerFault::NoMemory)
