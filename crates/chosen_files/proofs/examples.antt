@@ -1,2 +1,5 @@
 -- What the proofs of the examples use.
+pub mod GlobLemmas
+pub mod StandsLemmas
+pub mod CountLemmas
 pub mod TreeLemmas

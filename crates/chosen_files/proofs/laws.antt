@@ -8,3 +8,4 @@ pub mod ListedLemmas
 pub mod PickLemmas
 pub mod PlaceLemmas
 pub mod ReachedLemmas
+pub mod RootLemmas

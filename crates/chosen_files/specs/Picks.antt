@@ -62,21 +62,21 @@ pub record ListsAllIn (tree : Tree) (top : NameList) (items : List Item) : Type 
 
 -- ---- chosen files
 
--- The entry is that of a regular file below the root, with at least one byte, and what its path has after the root's fits a glob.
-pub record IsPicked (tree : Tree) (root : List ℕ) (globs : List (List ℕ)) (entry : DirEntry) : Type 0 where
-  pub below_root : 0 < entry.depth
+-- The entry is that of a regular file below the top, with at least one byte, and what its path has after the top's fits a glob.
+pub record IsPicked (tree : Tree) (top : List ℕ) (globs : List (List ℕ)) (entry : DirEntry) : Type 0 where
+  pub below_top : 0 < entry.depth
   pub is_file : entry.kind ≡ kind.File
   pub node : Node
   pub leads : node_to tree entry.path entry.followed ≡ Some node
   pub nonempty : 0 < len_of node.content
   pub names : List ℕ
-  pub path_is : entry.path ≡ path_below root names
+  pub path_is : entry.path ≡ path_below top names
   pub fits : FitsAny globs names
 
--- the paths of the entries that are picked, in turn; an error isn't one
-abbrev pub Picks : Tree → List ℕ → List (List ℕ) → List Item → List (List ℕ) → Type 0
-Picks tree root globs [] paths = paths ≡ []
-Picks tree root globs (Err error ∷ items) paths = Picks tree root globs items paths
-Picks tree root globs (Ok entry ∷ items) paths =
-    (IsPicked tree root globs entry × ((more : List (List ℕ)) × (paths ≡ entry.path ∷ more) × Picks tree root globs items more))
-    ⊎ (¬ IsPicked tree root globs entry × Picks tree root globs items paths)
+-- Of the entries that are picked, in turn, the paths: a root, and what the entry's path has after the top's. An error isn't picked.
+abbrev pub Picks : Tree → List ℕ → List ℕ → List (List ℕ) → List Item → List (List ℕ) → Type 0
+Picks tree root top globs [] paths = paths ≡ []
+Picks tree root top globs (Err error ∷ items) paths = Picks tree root top globs items paths
+Picks tree root top globs (Ok entry ∷ items) paths =
+    ((picked : IsPicked tree top globs entry) × (more : List (List ℕ)) × (paths ≡ path_below root picked.names ∷ more) × Picks tree root top globs items more)
+    ⊎ (¬ IsPicked tree top globs entry × Picks tree root top globs items paths)

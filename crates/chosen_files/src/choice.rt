@@ -10,7 +10,7 @@ ghost use Rattle.walkdir.specs.Collect.{entry_item};
 ghost use Rattle.chosen_files.specs.declared.fault.ChoiceFault.TheVariants as choice_fault;
 ghost use Rattle.chosen_files.specs.Below.{HasFewerBelow};
 ghost use Rattle.chosen_files.specs.Choice.{KeepsLists, ChoiceFails, fault_of, AsksFail, ListsBelowTop, LeadsTo};
-ghost use Rattle.chosen_files.specs.Chosen.{ListsChosen};
+ghost use Rattle.chosen_files.specs.Chosen.{IsPathBelow, ListsChosen};
 ghost use Rattle.chosen_files.specs.Globs.{FitsAny};
 ghost use Rattle.chosen_files.specs.Picks.{IsPicked, Picks};
 
@@ -28,7 +28,7 @@ const MOST_LISTS: usize = 10;
 pub struct Choice {
     /// The path of the node that the root leads to, without links, `.` and `..`.
     pub top: Text,
-    /// Their paths: that of the top, `/` unless it ends with it, and their names from there, joined by `/`.
+    /// Their paths: the root as it was given, `/` unless it ends with it, and their names from there, joined by `/`.
     pub paths: Vec<Text>,
 }
 
@@ -48,6 +48,7 @@ pub fn choose_capped<D: Disk>(
     requires { 0 < cap }
     ensures chosen { IsTrue D.tells → IfOk result (λ choice. ListsChosen (D.state disk.old).tree root.now globs.now choice.paths.items) }
     ensures top { IsTrue D.tells → IfOk result (λ choice. Resolves (D.state disk.old) root.now choice.top) }
+    ensures below_root { IfOk result (λ choice. All (IsPathBelow root.now) choice.paths.items) }
     ensures few { IsTrue D.tells → OnOk result (HasFewerBelow cap (D.state disk.old).tree root.now) }
     ensures refused { IfErr result (ChoiceFails root.now cap (course D.tells (D.state disk.old) (D.state disk.new))) }
     ensures complete { IsTrue D.tells → IsSome (reached (D.state disk.old).tree root.now true)
@@ -59,7 +60,7 @@ pub fn choose_capped<D: Disk>(
 {
     let top = resolve_root(alloc, disk, root)?;
     let entries = list_below(alloc, disk, top.as_str(), cap)?;
-    let paths = pick(alloc, disk, top.as_str(), globs, entries)?;
+    let paths = pick(alloc, disk, root, top.as_str(), globs, entries)?;
     Ok(Choice { top, paths })
 }
 
@@ -104,17 +105,19 @@ fn list_below<D: Disk>(
     Ok(walk.into_iter(disk).collect_capped(cap)?)
 }
 
-/// The paths of the entries that are picked, in turn.
+/// Of the entries that are picked, in turn, the paths: the root, and what the entry's path has after the top's.
 fn pick<D: Disk>(
     alloc: Global,
     disk: &mut D,
+    root: &str,
     top: &str,
     globs: &[Glob],
     entries: Vec<DirEntry>,
 ) -> Result<Vec<Text>, ChoiceFault>
     requires { IsTrue D.tells → All (LeadsTo (D.state disk.old).tree) entries.items }
     ensures picked { IsTrue D.tells → IfOk result (λ paths.
-        Picks (D.state disk.old).tree top.now globs.now (map entry_item entries.items) paths.items) }
+        Picks (D.state disk.old).tree root.now top.now globs.now (map entry_item entries.items) paths.items) }
+    ensures below_root { IfOk result (λ paths. All (IsPathBelow root.now) paths.items) }
     ensures refused { IfErr result (AsksFail (course D.tells (D.state disk.old) (D.state disk.new))) }
     ensures tree { SameTree (D.state disk.old) (D.state disk.new) }
     ensures lists { SameLists (D.state disk.old) (D.state disk.new) }
@@ -122,23 +125,28 @@ fn pick<D: Disk>(
 {
     let mut paths = Vec::new(alloc);
     for entry in entries {
-        if is_picked(alloc, disk, top, &entry, globs)? {
-            paths.push(entry.into_path())?;
+        let Some(names) = names_below(top, entry.path()) else {
+            continue;
+        };
+        if is_picked(alloc, disk, names, &entry, globs)? {
+            paths.push(join(alloc, root, names)?)?;
         }
     }
     Ok(paths)
 }
 
-/// Whether an entry is picked: it is that of a regular file below the top, its names from there fit a glob, and it has a byte.
+/// Whether an entry is picked whose path has these names after the top's: it is that of a regular file below the top, the names
+/// fit a glob, and it has a byte.
 fn is_picked<D: Disk>(
     alloc: Global,
     disk: &mut D,
-    top: &str,
+    names: &str,
     entry: &DirEntry,
     globs: &[Glob],
 ) -> Result<bool, ChoiceFault>
     requires { IsTrue D.tells → LeadsTo (D.state disk.old).tree entry.now }
-    ensures picked { IsTrue D.tells → IfOk result (λ picked. IsTrue picked ↔ IsPicked (D.state disk.old).tree top.now globs.now entry.now) }
+    ensures picked { IsTrue D.tells → (top : List ℕ) → entry.now.path ≡ path_below top names.now
+        → IfOk result (λ picked. IsTrue picked ↔ IsPicked (D.state disk.old).tree top globs.now entry.now) }
     ensures refused { IfErr result (AsksFail (course D.tells (D.state disk.old) (D.state disk.new))) }
     ensures tree { SameTree (D.state disk.old) (D.state disk.new) }
     ensures lists { SameLists (D.state disk.old) (D.state disk.new) }
@@ -147,9 +155,6 @@ fn is_picked<D: Disk>(
     if entry.depth() == 0 || !entry.file_type().is_file() {
         return Ok(false);
     }
-    let Some(names) = names_below(top, entry.path()) else {
-        return Ok(false);
-    };
     if !fits_any(alloc, globs, names)? {
         return Ok(false);
     }
@@ -167,6 +172,18 @@ fn names_below<'a>(folder: &str, path: &'a str) -> Option<&'a str>
     } else {
         rest.strip_prefix('/')
     }
+}
+
+/// The path of what has these names below a root: the root, `/` unless it ends with it, and the names.
+fn join(alloc: Global, root: &str, names: &str) -> Result<Text, NoMemory>
+    ensures { IfOk result (λ path. path ≡ path_below root.now names.now) }
+{
+    let mut path = String::from_str(alloc, root)?;
+    if !root.ends_with('/') {
+        path.push('/')?;
+    }
+    path.push_str(names)?;
+    Ok(Text::from(path))
 }
 
 /// Whether a path fits one of the globs.

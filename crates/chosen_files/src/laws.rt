@@ -1,6 +1,6 @@
 //! Laws of what a walk lists, and of what is chosen of it.
 
-ghost use Rattle.std.specs.Prelude.{◌≡◌, ℕ, Bool, List, [], None, Some, false};
+ghost use Rattle.std.specs.Prelude.{◌≡◌, ℕ, Bool, List, [], map, None, Some, true, false};
 ghost use Rattle.sd_edge.specs.Tree.{NameList, Tree, IsTree, is_directory_at};
 ghost use Rattle.sd_edge.specs.Paths.{reached};
 ghost use Rattle.sd_edge.specs.Files.{path_text};
@@ -31,14 +31,20 @@ pub fn a_whole_walk_lists_all()
 /// leads to no directory, nor of a walk of a path that leads nowhere.
 pub fn chosen_is_the_listing()
     ensures chosen { (tree : Tree) (how : Options) (root : List ℕ) (top : NameList) (globs : List (List ℕ)) (items : List Item)
-        (paths : List (List ℕ)) → IsTree tree → WalksWhole tree how root top items → Picks tree (path_text top) globs items paths
+        (paths : List (List ℕ)) → IsTree tree → WalksWhole tree how root top items → Picks tree root (path_text top) globs items paths
         → ListsChosen tree root globs paths }
     ensures no_directory { (tree : Tree) (how : Options) (root : List ℕ) (top : NameList) (globs : List (List ℕ)) (items : List Item)
         (paths : List (List ℕ)) → IsTree tree → WalksWhole tree how root top items → is_directory_at tree top ≡ false
-        → Picks tree (path_text top) globs items paths → paths ≡ [] }
+        → Picks tree root (path_text top) globs items paths → paths ≡ [] }
     ensures nowhere { (tree : Tree) (how : Options) (sorts : Bool) (compare : Comparison) (root : List ℕ) (globs : List (List ℕ))
         (items : List Item) (paths : List (List ℕ)) → reached tree root false ≡ None → IsListing tree how sorts compare root items
-        → Picks tree root globs items paths → paths ≡ [] }
+        → Picks tree root root globs items paths → paths ≡ [] }
+{}
+
+/// The path of each chosen file leads to it, links followed.
+pub fn paths_lead_to_chosen_files()
+    ensures { (tree : Tree) (root : List ℕ) (globs paths : List (List ℕ)) → IsTree tree → (listed : ListsChosen tree root globs paths)
+        → map (λ path. reached tree path true) paths ≡ map (λ place. Some place) listed.places }
 {}
 
 /// Not both fewer than so many and so many or more entries lie below a root.

@@ -11,9 +11,14 @@ mod globs;
 mod laws;
 
 pub use choice::{Choice, choose_capped};
-pub use examples::{files_are_picked_as_in_the_examples, walks_are_plain_as_in_the_examples};
+pub use examples::{
+    choices_fail_as_in_the_examples, entries_are_counted_as_in_the_examples,
+    files_are_picked_as_in_the_examples, lists_are_kept_as_in_the_examples,
+    walks_are_plain_as_in_the_examples,
+};
 pub use fault::ChoiceFault;
 pub use globs::{GlobsError, read_globs};
 pub use laws::{
     a_whole_walk_lists_all, chosen_is_the_listing, fewer_are_not_many, one_list_of_chosen_files,
+    paths_lead_to_chosen_files,
 };

@@ -1,14 +1,16 @@
 //! What a crash leaves of a run, and of a disk in memory.
 
-use sd_core::{Ended, run};
-use sd_edge::{Disk, Kind, MemDisk, MemSink, MemSource, RawEntry, Words};
+use sd_base::Words;
+use sd_core::{Ended, Why, run};
+use sd_edge::{Disk, Kind, MemDisk, MemSink, MemSource, RawEntry};
 use std::alloc::Global;
+use std::process::Abort;
 use std::test::Fail;
 
 const TREE_COMMAND: [&str; 6] = ["--root", "/t", "--", "one", "1", "*.txt"];
 
-/// The counted calls of that command on `two_files`.
-const CALLS: u64 = 13;
+/// A command on two named files.
+const FILES: [&str; 5] = ["--", "one", "1", "/t/a.txt", "/t/b.md"];
 
 /// A disk with `/t/a.txt` and `/t/b.md`.
 fn two_files(alloc: Global) -> Result<MemDisk, Fail> {
@@ -19,16 +21,33 @@ fn two_files(alloc: Global) -> Result<MemDisk, Fail> {
     Ok(disk)
 }
 
-/// Runs the words without input, and gives how the run ended.
-fn run_words(alloc: Global, disk: &mut MemDisk, words: &[&str]) -> Result<Ended, Fail> {
+/// Runs the words without input, and gives how the run ended. What is printed has so many bytes of room.
+fn run_in_room(
+    alloc: Global,
+    disk: &mut MemDisk,
+    words: &[&str],
+    room: usize,
+) -> Result<Ended, Fail> {
     let mut list = Words::new(alloc);
     for word in words {
         list.push(word)?;
     }
     let mut input = MemSource::new(alloc, b"", 1)?;
-    let mut out = MemSink::new(alloc, 1000)?;
+    let mut out = MemSink::new(alloc, room)?;
     let mut err = MemSink::new(alloc, 1000)?;
     Ok(run(alloc, &list, disk, &mut input, &mut out, &mut err))
+}
+
+/// Runs the words without input, with room for all that is printed.
+fn run_words(alloc: Global, disk: &mut MemDisk, words: &[&str]) -> Result<Ended, Fail> {
+    run_in_room(alloc, disk, words, 1000)
+}
+
+/// How many counted calls the words make on `two_files`.
+fn calls_of(alloc: Global, words: &[&str]) -> Result<u64, Fail> {
+    let mut disk = two_files(alloc)?;
+    let _ended = run_words(alloc, &mut disk, words)?;
+    Ok(disk.calls())
 }
 
 /// Whether the file at a path holds these bytes.
@@ -68,50 +87,122 @@ fn has_strangers(alloc: Global, disk: &mut MemDisk) -> Result<bool, Fail> {
     Ok(is_strange(&first) || is_strange(&second) || is_strange(&third) || end.is_some())
 }
 
-#[test]
-fn each_stop_and_crash_leaves_the_file_old_or_new(rt: HostRuntime) -> Result<(), Fail> {
+/// Whether a file is wholly old or wholly new, with its mode.
+fn is_old_or_new(
+    alloc: Global,
+    disk: &MemDisk,
+    path: &str,
+    old: &[u8],
+    new: &[u8],
+) -> Result<bool, Fail> {
+    let whole = holds(alloc, disk, path, old)? || holds(alloc, disk, path, new)?;
+    Ok(whole && disk.mode_at(path) == Some(0o640))
+}
+
+/// In each first image of a disk, `a.txt` is old or new, and `b.md` old or of these bytes, and nothing else stands but temporary files.
+fn check_images(
+    rt: &(impl Abort + AllocGlobal),
+    disk: &MemDisk,
+    b_new: &[u8],
+    call: u64,
+) -> Result<(), Fail> {
     let alloc = rt.alloc();
-    for call in 1..=CALLS {
-        let mut disk = two_files(alloc)?;
-        disk.stop_at(call);
-        let _run = run_words(alloc, &mut disk, &TREE_COMMAND)?;
-        for choice in 0..CHOICES {
-            let mut image = disk.crash(alloc, choice)?;
-            let old = holds(alloc, &image, "/t/a.txt", b"one two one")?;
-            let new = holds(alloc, &image, "/t/a.txt", b"1 two 1")?;
-            assert!(rt; old || new, "call {call}, choice {choice}");
-            assert_eq!(rt;
-                image.mode_at("/t/a.txt"),
-                Some(0o640),
-                "call {call}, choice {choice}"
-            );
-            assert!(rt;
-                holds(alloc, &image, "/t/b.md", b"one")?,
-                "call {call}, choice {choice}"
-            );
-            assert!(rt;
-                !has_strangers(alloc, &mut image)?,
-                "call {call}, choice {choice}"
-            );
-        }
+    for choice in 0..CHOICES {
+        let mut image = disk.crash(alloc, choice)?;
+        assert!(rt;
+            is_old_or_new(alloc, &image, "/t/a.txt", b"one two one", b"1 two 1")?,
+            "a.txt at call {call}, choice {choice}"
+        );
+        assert!(rt;
+            is_old_or_new(alloc, &image, "/t/b.md", b"one", b_new)?,
+            "b.md at call {call}, choice {choice}"
+        );
+        assert!(rt;
+            !has_strangers(alloc, &mut image)?,
+            "call {call}, choice {choice}"
+        );
     }
     Ok(())
 }
 
 #[test]
-fn after_a_run_each_crash_leaves_the_new_file_alone(rt: HostRuntime) -> Result<(), Fail> {
+fn each_stop_and_crash_leaves_the_file_old_or_new(rt: HostRuntime) -> Result<(), Fail> {
     let alloc = rt.alloc();
-    let mut disk = two_files(alloc)?;
-    let ended = run_words(alloc, &mut disk, &TREE_COMMAND)?;
-    assert_eq!(rt; ended.status, 0);
+    let calls = calls_of(alloc, &TREE_COMMAND)?;
+    // the root is listed, and the file read, created, written, synced and renamed, and its folder synced
+    assert!(rt; calls > 6);
+    for call in 1..=calls {
+        let mut disk = two_files(alloc)?;
+        disk.stop_at(call);
+        let ended = run_words(alloc, &mut disk, &TREE_COMMAND)?;
+        assert_eq!(rt; ended.status, 1, "call {call}");
+        check_images(&rt, &disk, b"one", call)?;
+    }
+    Ok(())
+}
+
+#[test]
+fn each_stop_and_crash_leaves_named_files_old_or_new(rt: HostRuntime) -> Result<(), Fail> {
+    let alloc = rt.alloc();
+    let calls = calls_of(alloc, &FILES)?;
+    assert!(rt; calls > 12);
+    for call in 1..=calls {
+        let mut disk = two_files(alloc)?;
+        disk.stop_at(call);
+        let ended = run_words(alloc, &mut disk, &FILES)?;
+        assert_eq!(rt; ended.status, 1, "call {call}");
+        check_images(&rt, &disk, b"1", call)?;
+    }
+    Ok(())
+}
+
+/// In each first image of a disk, the file of the tree command is new alone, and the other one old.
+fn check_durable(rt: &(impl Abort + AllocGlobal), disk: &MemDisk) -> Result<(), Fail> {
+    let alloc = rt.alloc();
     for choice in 0..CHOICES {
         let image = disk.crash(alloc, choice)?;
         assert!(rt;
             holds(alloc, &image, "/t/a.txt", b"1 two 1")?,
             "choice {choice}"
         );
+        assert!(rt; holds(alloc, &image, "/t/b.md", b"one")?, "choice {choice}");
         assert_eq!(rt; image.mode_at("/t/a.txt"), Some(0o640), "choice {choice}");
         assert_eq!(rt; image.mode_at("/t/.sd-0000.tmp"), None, "choice {choice}");
+    }
+    Ok(())
+}
+
+#[test]
+fn after_a_run_each_crash_leaves_the_new_file_alone(rt: HostRuntime) -> Result<(), Fail> {
+    let mut disk = two_files(rt.alloc())?;
+    let ended = run_words(rt.alloc(), &mut disk, &TREE_COMMAND)?;
+    assert_eq!(rt; ended.status, 0);
+    check_durable(&rt, &disk)
+}
+
+#[test]
+fn after_a_report_that_cannot_be_written_too(rt: HostRuntime) -> Result<(), Fail> {
+    let mut disk = two_files(rt.alloc())?;
+    let ended = run_in_room(rt.alloc(), &mut disk, &TREE_COMMAND, 3)?;
+    assert!(rt; matches!(ended.why, Why::Print));
+    check_durable(&rt, &disk)
+}
+
+#[test]
+fn a_preview_leaves_the_disk_as_it_was(rt: HostRuntime) -> Result<(), Fail> {
+    let alloc = rt.alloc();
+    let mut disk = two_files(alloc)?;
+    let words = ["-p", "one", "1", "/t/a.txt", "/t/b.md"];
+    let ended = run_words(alloc, &mut disk, &words)?;
+    assert_eq!(rt; ended.status, 0);
+    for choice in 0..CHOICES {
+        let mut image = disk.crash(alloc, choice)?;
+        assert!(rt;
+            holds(alloc, &image, "/t/a.txt", b"one two one")?,
+            "choice {choice}"
+        );
+        assert!(rt; holds(alloc, &image, "/t/b.md", b"one")?, "choice {choice}");
+        assert!(rt; !has_strangers(alloc, &mut image)?, "choice {choice}");
     }
     Ok(())
 }

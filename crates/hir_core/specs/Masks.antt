@@ -1,9 +1,11 @@
 -- Sets of spots as bits of a number, and spots that give nothing at a place.
-use Rattle.std.specs.Prelude.{◌≡◌, ℕ, ◌+◌, ◌*◌, ◌/◌, ◌%◌, ◌^◌, ◌<◌, ◌≤◌, Bool, true, false, ◌&&◌, nat_lt, List, [], ◌∷◌, length, slice_index, slice_index_or, if◌then◌else◌}
+use Rattle.std.specs.Prelude.{◌≡◌, ℕ, ◌+◌, ◌*◌, ◌/◌, ◌%◌, ◌^◌, ◌<◌, ◌≤◌, ◌⊎◌, Bool, true, false, ◌&&◌, nat_lt, List, [], ◌∷◌, Option, Some, IfSome, length, slice_index, slice_index_or, if◌then◌else◌}
 use native.Mathlib.Nat.{ℕ_set}
 use Rattle.std.specs.Int.{bit_at}
 use Rattle.std.specs.List.{list_any, Contains}
+use Rattle.hir_tree.specs.Looks.{holds}
 use Rattle.hir_tree.specs.Runs.{begin, in_set}
+use Rattle.hir_tree.specs.declared.look.Look.{Look}
 use Rattle.hir_core.specs.Program.{Way, way, spot_at, gives_within, gives}
 use Rattle.hir_core.specs.declared.spot.Spot.{Spot}
 use Rattle.hir_core.specs.declared.spot.Spot.TheVariants as spot
@@ -25,9 +27,13 @@ IsPart mask more = (i : ℕ) → HasBit mask i → HasBit more i
 abbrev pub Grows : List ℕ → List ℕ → Type 0
 Grows old new = (b : ℕ) → IsPart (slice_index old b) (slice_index new b)
 
--- the bit that tells that a match may end
+-- the bit that tells that a match may end where a certain look holds, if there is one
 abbrev pub match_bit : ℕ
 match_bit = 63
+
+-- the bit that tells that a match may end also where that look doesn't hold
+abbrev pub sure_bit : ℕ
+sure_bit = 62
 
 -- Where the rows have the mask for the eight bits that a bit is among: row r is of the bits from 8 r on, and has 256 masks.
 abbrev pub row_place : ℕ → ℕ → ℕ
@@ -77,24 +83,43 @@ is_reached reached q = slice_index_or reached q true
 abbrev pub new_ways : List Bool → ℕ → Spot → List ℕ
 new_ways reached q s = if is_reached reached q then [] else ways_on s
 
--- where a spot leads that was reached, that was reached too
-abbrev pub IsClosed : List Spot → List Bool → Type 0
-IsClosed spots reached =
-    (q p : ℕ) → is_reached reached q ≡ true → Contains (ways_on (spot_at spots q)) p → is_reached reached p ≡ true
+-- the spot asks the look, if there is one
+abbrev pub Asks : Option Look → Spot → Type 0
+Asks look (spot.Look l q) = look ≡ Some l
+Asks look _ = ⊥
+
+-- each spot that is marked asks the look
+abbrev pub AllAsk : List Spot → Option Look → List Bool → Type 0
+AllAsk spots look marked = (q : ℕ) → q < length marked → slice_index_or marked q true ≡ true → Asks look (spot_at spots q)
+
+-- the look, if there is one, doesn't hold at the place
+abbrev pub IsShut : List ℕ → ℕ → Option Look → Type 0
+IsShut text at look = IfSome look (λ l. holds l text at ≡ false)
+
+-- where a spot leads that was reached, that was reached too, unless the spot asks the look
+abbrev pub IsClosed : List Spot → Option Look → List Bool → Type 0
+IsClosed spots look reached =
+    (q p : ℕ) → is_reached reached q ≡ true → Contains (ways_on (spot_at spots q)) p → Asks look (spot_at spots q) ⊎ (is_reached reached p ≡ true)
 
 -- From this spot no way gives a run that is at this place.
 abbrev pub IsDead : List ℕ → List Spot → ℕ → ℕ → Type 0
 IsDead text spots at q = (steps : ℕ) (w : Way) → w.run.at ≡ at → gives_within text spots steps q w ≡ []
 
--- The mask doesn't say that a match may end, and each spot with a bit in it gives nothing at this place; bit i is that of
+-- The mask doesn't say that a match may end at this place, and each spot with a bit in it gives nothing there; bit i is that of
 -- the spot `of` has at i.
-pub record AreDead (text : List ℕ) (spots : List Spot) (of : List ℕ) (at mask : ℕ) : Type 0 where
-  pub unmatched : HasBit mask match_bit → ⊥
+pub record AreDead (text : List ℕ) (spots : List Spot) (of : List ℕ) (look : Option Look) (at mask : ℕ) : Type 0 where
+  pub unmatched : HasBit mask sure_bit → ⊥
+  pub asked : HasBit mask match_bit → IsShut text at look
   pub dead : (i : ℕ) → i < length of → HasBit mask i → IsDead text spots at (slice_index of i)
 
 -- where the spots of the mask give nothing, the spot gives nothing
-abbrev pub Covers : List Spot → List ℕ → ℕ → ℕ → Type 0
-Covers spots of mask q = (text : List ℕ) (at : ℕ) → AreDead text spots of at mask → IsDead text spots at q
+abbrev pub Covers : List Spot → List ℕ → Option Look → ℕ → ℕ → Type 0
+Covers spots of look mask q = (text : List ℕ) (at : ℕ) → AreDead text spots of look at mask → IsDead text spots at q
+
+-- the same where this look doesn't hold, whichever look the mask is of
+abbrev pub CoversBeside : List Spot → List ℕ → Option Look → ℕ → ℕ → Type 0
+CoversBeside spots of shut mask q =
+    (text : List ℕ) (at : ℕ) (look : Option Look) → IsShut text at shut → AreDead text spots of look at mask → IsDead text spots at q
 
 -- no run of the program begins at a place from one on to before another
 abbrev pub NoRun : List ℕ → List Spot → ℕ → ℕ → Type 0
@@ -115,10 +140,10 @@ SaysWhatTakes spots of takes =
     (i b : ℕ) → i < length of → b < 256 → takes_byte (spot_at spots (slice_index of i)) b ≡ true → HasBit (slice_index takes b) i
 
 -- Row r has a mask for each choice of the eight bits from 8 r on: it covers what comes after the spot of each bit that is chosen.
-abbrev pub SaysWhatFollows : List Spot → List ℕ → List ℕ → Type 0
-SaysWhatFollows spots of rows =
+abbrev pub SaysWhatFollows : List Spot → List ℕ → Option Look → List ℕ → Type 0
+SaysWhatFollows spots of look rows =
     (i v : ℕ) → i < length of → v < 256 → HasBit v (i % 8)
-    → Covers spots of (slice_index rows (256 * (i / 8) + v)) (next_of (spot_at spots (slice_index of i)))
+    → Covers spots of look (slice_index rows (256 * (i / 8) + v)) (next_of (spot_at spots (slice_index of i)))
 
 -- the bit of each spot is set that may take a character beyond ASCII
 abbrev pub SaysWhichAreWide : List Spot → List ℕ → ℕ → Type 0

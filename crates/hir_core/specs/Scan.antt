@@ -1,15 +1,31 @@
 -- What a filter of a program says.
-use Rattle.std.specs.Prelude.{◌≤◌, List, length}
-use Rattle.hir_core.specs.Masks.{Covers, AreTakers, SaysWhatTakes, SaysWhatFollows, SaysWhichAreWide, match_bit}
+use Rattle.std.specs.Prelude.{◌≡◌, ℕ, ◌<◌, ◌≤◌, false, List, length, Option, IfSome}
+use Rattle.hir_tree.specs.Looks.{holds}
+use Rattle.hir_tree.specs.declared.look.Look.{Look}
+use Rattle.hir_core.specs.Masks.{Covers, AreTakers, SaysWhatTakes, SaysWhatFollows, SaysWhichAreWide, IsDead, IsShut, HasBit, match_bit, sure_bit}
 use Rattle.hir_core.specs.declared.spot.Spot.{Spot}
 use Rattle.hir_core.specs.declared.scan.Scan.{Scan}
 
--- The filter tells where a match of the program may be: bit i is that of the spot `of` has at i. At most 63 spots have a bit,
+-- each run of the program asks the look, if there is one, before its first byte, so none begins where it doesn't hold
+abbrev pub IsAskedFirst : List Spot → Option Look → Type 0
+IsAskedFirst spots look = IfSome look (λ l. (text : List ℕ) (at : ℕ) → holds l text at ≡ false → IsDead text spots at 0)
+
+-- no match ends at the place after the spots that have the mask, where the last look is this one
+abbrev pub NoEnd : List ℕ → ℕ → Option Look → ℕ → Type 0
+NoEnd text at look mask = (HasBit mask sure_bit → ⊥) × (HasBit mask match_bit → IsShut text at look)
+
+-- The filter tells where a match of the program may be: bit i is that of the spot `of` has at i. At most 62 spots have a bit,
 -- each of which takes bytes.
 pub record IsFilterOf (spots : List Spot) (s : Scan) : Type 0 where
-  pub few : length s.of.items ≤ match_bit
+  pub few : length s.of.items ≤ sure_bit
   pub takers : AreTakers spots s.of.items
   pub takes : SaysWhatTakes spots s.of.items s.takes.items
-  pub follows : SaysWhatFollows spots s.of.items s.after.items
+  pub follows : SaysWhatFollows spots s.of.items s.last_look s.after.items
   pub wide : SaysWhichAreWide spots s.of.items s.wide
-  pub start : Covers spots s.of.items s.start 0
+  pub start : Covers spots s.of.items s.last_look s.start 0
+  pub first : IsAskedFirst spots s.first_look
+
+-- no run begins at a place from one on to before another, as the filter says
+abbrev pub NoneBegins : List ℕ → Scan → ℕ → ℕ → Type 0
+NoneBegins text s from until =
+    (spots : List Spot) → IsFilterOf spots s → (q : ℕ) → from ≤ q → q < until → IsDead text spots q 0

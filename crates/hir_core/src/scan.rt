@@ -1,13 +1,15 @@
 //! A filter that finds quickly where a match of a program may be.
 
-ghost use Rattle.std.specs.Prelude.{◌≡◌, ◌<◌, ◌≤◌, ◌^◌, ◌+◌, ℕ, List, length, vec_len, slice_index, IfOk, IfSome, IfNone};
+ghost use Rattle.std.specs.Prelude.{◌≡◌, ◌<◌, ◌≤◌, ◌^◌, ◌+◌, ◌⊎◌, ℕ, false, List, length, vec_len, slice_index, bit_and, IfOk, IfSome, IfNone};
 
+mod asked;
 mod bits;
 mod reach;
 mod takes;
 
 use crate::spot::Spot;
-use bits::{MATCH, joined};
+use crate::{Look, holds};
+use bits::{SURE, joined};
 use sd_base::NoMemory;
 use std::alloc::Global;
 
@@ -18,13 +20,17 @@ pub struct Scan {
     of: Vec<usize>,
     /// For each byte, the spots that take it, or the ASCII character that it is.
     takes: Vec<u64>,
-    /// The spots that may be tried after some took bytes, and MATCH if a match may end there: row r has a mask for each
-    /// choice of the eight bits from 8 r on.
+    /// The spots that may be tried after some took bytes, MATCH if a match may end there where the last look holds, and SURE
+    /// if one may also end where it doesn't: row r has a mask for each choice of the eight bits from 8 r on.
     after: Vec<u64>,
     /// The same for the start of the program.
     start: u64,
     /// The spots that may take a character beyond ASCII.
     wide: u64,
+    /// A look that each run asks before its first byte, if there is one.
+    first_look: Option<Look>,
+    /// A look that may be asked before the end of a match, if there is one.
+    last_look: Option<Look>,
     ghost all_bytes: { vec_len takes ≡ 256 },
     ghost all_rows: { vec_len after ≡ 2048 },
 }
@@ -42,19 +48,22 @@ pub struct Candidate {
 impl Scan {
     ghost use Rattle.hir_core.specs.declared.spot.Spot.{Spot};
     ghost use Rattle.hir_core.specs.Masks.{NoRun};
-    ghost use Rattle.hir_core.specs.Scan.{IsFilterOf};
+    ghost use Rattle.hir_core.specs.Masks.{IsPart};
+    ghost use Rattle.hir_core.specs.Scan.{IsFilterOf, NoEnd, NoneBegins};
 
-    /// The filter of a program; None where more than 63 spots take bytes. Refuses for want of memory alone.
+    /// The filter of a program; None where more than 62 spots take bytes. Refuses for want of memory alone.
     pub fn new(alloc: Global, spots: &[Spot]) -> Result<Option<Scan>, NoMemory>
         ensures { IfOk result (λ scan. IfSome scan (λ s. IsFilterOf spots.now s)) }
     {
         let of = takes::takers(alloc, spots)?;
-        if of.len() > 63 {
+        if of.len() > 62 {
             return Ok(None);
         }
+        let first_look = asked::first_look(alloc, spots, of.as_slice())?;
+        let last_look = asked::last_look(spots);
         let takes = takes::takes(alloc, spots, of.as_slice())?;
-        let after = reach::after(alloc, spots, of.as_slice())?;
-        let start = reach::mask_from(alloc, spots, of.as_slice(), 0)?;
+        let after = reach::after(alloc, spots, of.as_slice(), last_look)?;
+        let start = reach::mask_from(alloc, spots, of.as_slice(), 0, last_look)?;
         let wide = takes::wide(spots, of.as_slice());
         Ok(Some(Scan {
             of,
@@ -62,7 +71,83 @@ impl Scan {
             after,
             start,
             wide,
+            first_look,
+            last_look,
         }))
+    }
+
+    /// Whether a run may begin at a place, as the look says that each asks first.
+    fn may_begin(&self, text: &[u8], place: usize) -> bool
+        requires { place ≤ length text.now }
+        ensures { result ≡ false → NoneBegins text.now self.now place (place + 1) }
+    {
+        match self.first_look {
+            Some(look) => holds(look, text, place),
+            None => true,
+        }
+    }
+
+    /// Whether a match may end at a place, where these spots may be tried.
+    fn may_end(&self, state: u64, text: &[u8], place: usize) -> bool
+        requires { place ≤ length text.now }
+        ensures { result ≡ false → NoEnd text.now place self.now.last_look state }
+    {
+        if state < SURE {
+            return false;
+        }
+        match self.last_look {
+            Some(look) if state & SURE == 0 => holds(look, text, place),
+            _ => true,
+        }
+    }
+
+    /// Whether an empty match may stand at a place.
+    fn may_be_empty(&self, text: &[u8], place: usize) -> bool
+        requires { place ≤ length text.now }
+        ensures { result ≡ false → NoEnd text.now place self.now.last_look self.now.start ⊎ NoneBegins text.now self.now place (place + 1) }
+    {
+        self.may_end(self.start, text, place) && self.may_begin(text, place)
+    }
+
+    /// Whether a run may begin by a byte.
+    fn may_begin_by(&self, byte: u8) -> bool
+        ensures narrow { result ≡ false → (byte < 128) ⊎ (bit_and self.now.start self.now.wide ≡ 0) }
+        ensures none { result ≡ false → bit_and self.now.start (slice_index self.now.takes.items byte) ≡ 0 }
+    {
+        if byte >= 128 && self.start & self.wide != 0 {
+            return true;
+        }
+        self.start & self.takes[byte as usize] != 0
+    }
+
+    /// The first place from one on by whose byte a run may begin, or where an empty match may stand, or the end of the text.
+    fn stride(&self, text: &[u8], at: usize) -> usize
+        requires { at ≤ length text.now }
+        ensures none { NoneBegins text.now self.now at result }
+        ensures after { at ≤ result }
+        ensures within { result ≤ length text.now }
+    {
+        if self.start >= SURE {
+            return at;
+        }
+        let mut place = at;
+        while place < text.len() && !self.may_begin_by(text[place]) {
+            place += 1;
+        }
+        place
+    }
+
+    /// The spots that may be tried at a place: those of the state, and those of the start, if a run may begin there.
+    fn tried(&self, state: u64, text: &[u8], place: usize) -> u64
+        requires { place < length text.now }
+        ensures kept { IsPart state result }
+        ensures begun { IsPart self.now.start result ⊎ NoneBegins text.now self.now place (place + 1) }
+    {
+        let is_more = self.start & !state != 0;
+        if is_more && self.may_begin_by(text[place]) && !self.may_begin(text, place) {
+            return state;
+        }
+        state | self.start
     }
 
     /// The next places of a text, from one on, that may have a match. None where no place from there on has one.
@@ -72,29 +157,30 @@ impl Scan {
         ensures some { IfSome result (λ c. (spots : List Spot) → IsFilterOf spots self.now → NoRun text.now spots at c.from) }
         ensures order { IfSome result (λ c. (at ≤ c.from) × (c.from ≤ c.until) × (c.until ≤ length text.now)) }
     {
-        if self.start >= MATCH {
-            return Some(Candidate {
-                from: at,
-                until: at,
-            });
-        }
-        let mut from = at;
-        let mut place = at;
+        let mut from = self.stride(text, at);
+        let mut place = from;
         let mut state = 0;
         while place < text.len() {
+            let tried = self.tried(state, text, place);
             let byte = text[place];
-            let tried = state | self.start;
             if byte >= 128 && tried & self.wide != 0 {
+                return Some(Candidate { from, until: place });
+            }
+            if self.may_be_empty(text, place) {
                 return Some(Candidate { from, until: place });
             }
             state = joined(self.after.as_slice(), tried & self.takes[byte as usize]);
             place += 1;
-            if state >= MATCH {
+            if self.may_end(state, text, place) {
                 return Some(Candidate { from, until: place });
             }
             if state == 0 {
+                place = self.stride(text, place);
                 from = place;
             }
+        }
+        if self.may_be_empty(text, place) {
+            return Some(Candidate { from, until: place });
         }
         None
     }

@@ -11,6 +11,10 @@ use std::test::Fail;
 /// The signs of the patterns: three leaves, six nodes with one part, and two with two parts.
 const SIGNS: &[u8] = b"0ab?!*~=1.|";
 
+/// The same with looks: a letter and the looks at starts and ends of lines and at edges of words, two nodes with one part, and two
+/// with two parts.
+const LOOKS: &[u8] = b"a<>:?*.|";
+
 /// The words with the numbers below this one, among those over some letters from the shortest on.
 fn words(alloc: Global, letters: &[u8], numbers: usize) -> Result<Vec<Vec<u8>>, NoMemory> {
     let mut words = Vec::new(alloc);
@@ -40,7 +44,7 @@ fn is_pattern(signs: &[u8]) -> bool {
     let mut parts: usize = 0;
     for sign in signs {
         match sign {
-            b'0' | b'a' | b'b' => parts = parts.saturating_add(1),
+            b'0' | b'a' | b'b' | b'<' | b'>' | b':' => parts = parts.saturating_add(1),
             b'.' | b'|' if parts < 2 => return false,
             b'.' | b'|' => parts -= 1,
             _ if parts < 1 => return false,
@@ -55,10 +59,11 @@ fn are_same(one: &Slots, other: &Slots) -> bool {
     one.len() == other.len() && (0..one.len()).all(|group| one.get(group) == other.get(group))
 }
 
-/// Compares the searches from a place of a text. Gives whether there is a match.
+/// Compares the searches in these ways from a place of a text. Gives whether there is a match.
 fn compare_at(
     rt: &impl Abort,
     searcher: &Searcher,
+    ways: &[Way],
     text: &[u8],
     at: usize,
     wanted: &mut Slots,
@@ -67,18 +72,20 @@ fn compare_at(
     let count = group_count(searcher.hir()) as usize + 1;
     assert!(rt; at <= text.len() && wanted.len() == count && slots.len() == count);
     let is_found = search(searcher, Way::ByStack, text, at, wanted)?;
-    let is_same = search(searcher, Way::InOnePass, text, at, slots)? == is_found;
-    assert!(rt; is_same && are_same(slots, wanted));
-    let is_same = search(searcher, Way::WithCountedSteps, text, at, slots)? == is_found;
-    assert!(rt; is_same && are_same(slots, wanted));
+    for way in ways {
+        assert!(rt; wanted.len() == count && slots.len() == count);
+        let is_same = search(searcher, *way, text, at, slots)? == is_found;
+        assert!(rt; is_same && are_same(slots, wanted));
+    }
     Ok(is_found)
 }
 
-/// Compares the searches for a pattern from each place of these texts, or, for a pattern of five nodes, from the first. Gives
-/// how many find a match, and how many do not.
+/// Compares the searches for a pattern in these ways from each place of these texts, or, for a pattern of five nodes, from the first.
+/// Gives how many find a match, and how many do not.
 fn compare(
     rt: &(impl Abort + AllocGlobal),
     signs: &[u8],
+    ways: &[Way],
     texts: &[Vec<u8>],
 ) -> Result<(usize, usize), Fail> {
     let alloc = rt.alloc();
@@ -91,7 +98,7 @@ fn compare(
     for text in texts {
         let last = if signs.len() < 5 { text.len() } else { 0 };
         for at in 0..last + 1 {
-            if compare_at(rt, &searcher, text, at, &mut wanted, &mut slots)? {
+            if compare_at(rt, &searcher, ways, text, at, &mut wanted, &mut slots)? {
                 matching = matching.saturating_add(1);
             } else {
                 others = others.saturating_add(1);
@@ -101,23 +108,59 @@ fn compare(
     Ok((matching, others))
 }
 
-// The words of at most five signs, on the 31 texts of `a` and `b` with at most four bytes, which have 129 places: 1119 of the
-// shorter words are patterns, and 7992 of those of five.
-#[test]
-fn all_small_patterns_match_as_by_the_stack(rt: HostRuntime) -> Result<(), Fail> {
+/// Compares the searches in these ways for all patterns among so many words over some signs, on the 31 texts over two letters with at
+/// most four bytes, which have 129 places. Gives how many comparisons there were.
+fn compare_all(
+    rt: &(impl Abort + AllocGlobal),
+    signs: &[u8],
+    numbers: usize,
+    letters: &[u8],
+    ways: &[Way],
+) -> Result<usize, Fail> {
     let alloc = rt.alloc();
-    let texts = words(alloc, b"ab", 31)?;
+    let texts = words(alloc, letters, 31)?;
     let mut matching: usize = 0;
     let mut others: usize = 0;
-    for number in 0..177_156 {
-        let signs = word(alloc, SIGNS, number)?;
-        if is_pattern(&signs) {
-            let (more, less) = compare(&rt, &signs, &texts)?;
+    for number in 0..numbers {
+        let word = word(alloc, signs, number)?;
+        if is_pattern(&word) {
+            let (more, less) = compare(rt, &word, ways, &texts)?;
             matching = matching.saturating_add(more);
             others = others.saturating_add(less);
         }
     }
-    assert_eq!(rt; matching.saturating_add(others), 1_119 * 129 + 7_992 * 31);
     assert!(rt; matching > 0 && others > 0);
+    Ok(matching.saturating_add(others))
+}
+
+// The words of at most five signs: 1119 of the shorter words are patterns, and 7992 of those of five.
+#[test]
+fn all_small_patterns_match_as_by_the_stack(rt: HostRuntime) -> Result<(), Fail> {
+    let ways = [Way::InOnePass, Way::WithCountedSteps];
+    let comparisons = compare_all(&rt, SIGNS, 177_156, b"ab", &ways)?;
+    assert_eq!(rt; comparisons, 1_119 * 129 + 7_992 * 31);
+    Ok(())
+}
+
+// The words of at most four signs, over blocks of one place, of two, of three and of as many as a search has.
+#[test]
+fn all_small_patterns_match_over_blocks(rt: HostRuntime) -> Result<(), Fail> {
+    let ways = [
+        Way::ByBlocks(1),
+        Way::ByBlocks(2),
+        Way::ByBlocks(3),
+        Way::ByBlocks(256),
+    ];
+    let comparisons = compare_all(&rt, SIGNS, 16_105, b"ab", &ways)?;
+    assert_eq!(rt; comparisons, 1_119 * 129);
+    Ok(())
+}
+
+// The words of at most five signs with looks: 284 of the shorter words are patterns, and 1344 of those of five.
+#[test]
+fn all_small_patterns_with_looks_match_as_by_the_stack(rt: HostRuntime) -> Result<(), Fail> {
+    let ways = [Way::InOnePass, Way::WithCountedSteps, Way::ByBlocks(1)];
+    let comparisons = compare_all(&rt, LOOKS, 37_449, b"a\n", &ways)?;
+    assert_eq!(rt; comparisons, 284 * 129 + 1_344 * 31);
     Ok(())
 }

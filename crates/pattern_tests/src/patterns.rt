@@ -6,10 +6,11 @@ use std::alloc::Global;
 
 /// The pattern of a row of signs, each part before the sign of what is made of it:
 ///
-/// - `0` takes nothing, `-` is a choice without parts, `^` is the start of the text, `[` a byte of `[a-z]`, `{` a character of
-///   `[x-é]`, `}` one of `[x-z]`, and any other sign takes itself;
+/// - `0` takes nothing, `-` is a choice without parts, `[` a byte of `[a-z]`, `{` a character of `[x-é]`, `}` one of `[x-z]`, and
+///   any other sign takes itself;
+/// - `^` is the start of the text, `<` the start of a line, `>` its end, and `:` an edge of an ASCII word;
 /// - `?`, `*` and `+` repeat the last part, `!`, `~` and `#` do so with the fewest times preferred, `=` is two or three times and
-///   `%` 63 times;
+///   `%` 62 times;
 /// - `1` and `2` make the last part a group with this index;
 /// - `.` is one after the other of the last two parts, and `|` one or the other.
 pub fn pattern(alloc: Global, signs: &[u8]) -> Result<Hir, NoMemory> {
@@ -47,6 +48,9 @@ fn leaf(alloc: Global, sign: u8) -> Result<Hir, NoMemory> {
         b'0' => Hir::Empty,
         b'-' => Hir::Alternation(Hirs::new(alloc)),
         b'^' => Hir::Look(Look::Start),
+        b'<' => Hir::Look(Look::StartLF),
+        b'>' => Hir::Look(Look::EndLF),
+        b':' => Hir::Look(Look::WordAscii),
         b'[' => {
             let mut letters = ByteRanges::new(alloc);
             letters.add(b'a', b'z')?;
@@ -71,7 +75,7 @@ fn repeated(alloc: Global, sign: u8, part: Hir) -> Result<Hir, NoMemory> {
         b'?' | b'!' => (0, Some(1)),
         b'+' | b'#' => (1, None),
         b'=' => (2, Some(3)),
-        b'%' => (63, Some(63)),
+        b'%' => (62, Some(62)),
         _ => (0, None),
     };
     let greedy = !matches!(sign, b'!' | b'~' | b'#');

@@ -64,6 +64,8 @@ ab ab. xabyabzab 8 -
 #[derive(Clone, Copy)]
 pub enum Way {
     InOnePass,
+    /// Over blocks of so many places.
+    ByBlocks(usize),
     WithCountedSteps,
     ByStack,
 }
@@ -82,6 +84,7 @@ pub fn search(
 {
     match way {
         Way::InOnePass => searcher.search_at(text, at, slots),
+        Way::ByBlocks(places) => searcher.search_by_blocks(text, at, slots, places),
         Way::WithCountedSteps => {
             searcher.search_at_steps(text, at, slots, &mut Steps::new(Silent))
         }
@@ -152,15 +155,34 @@ fn texts_that_are_no_utf8(rt: HostRuntime) -> Result<(), Fail> {
     check(&rt, "{", b"\xc3\xc3\xa9\xa9", 2, "-")
 }
 
-// `[a-z]{63}` has as many spots as the filter takes, and `[a-z]{63}[a-z]` has one more.
+// `[a-z]{62}` has as many spots as the filter takes, and `[a-z]{62}[a-z]` has one more.
 #[test]
 fn more_spots_than_the_filter_takes(rt: HostRuntime) -> Result<(), Fail> {
     let mut text = Vec::new(rt.alloc());
     text.push(b'-')?;
-    text.resize(65, b'a')?;
-    check(&rt, "[%", &text, 0, "1-64")?;
-    check(&rt, "[%[.", &text, 0, "1-65")?;
+    text.resize(64, b'a')?;
+    check(&rt, "[%", &text, 0, "1-63")?;
+    check(&rt, "[%[.", &text, 0, "1-64")?;
     check(&rt, "[%[.", &text, 2, "-")
+}
+
+// Looks on two words in two lines, `ab` and `b b`, and an empty line between them: what they ask rules out places before the first
+// byte and at the last one.
+#[test]
+fn looks_at_lines_and_words(rt: HostRuntime) -> Result<(), Fail> {
+    let text = b"ab\n\nb b\n".as_slice();
+    check(&rt, "<>.", text, 0, "3-3")?;
+    check(&rt, "<>.", text, 4, "8-8")?;
+    check(&rt, "<[*.>.", text, 0, "0-2")?;
+    check(&rt, "<[*.>.", text, 1, "3-3")?;
+    check(&rt, "<[+.>.", text, 1, "-")?;
+    check(&rt, "b>.", text, 0, "1-2")?;
+    check(&rt, "b>.", text, 2, "6-7")?;
+    check(&rt, "a>.b|", text, 0, "1-2")?;
+    check(&rt, ":b.", text, 0, "4-5")?;
+    check(&rt, "[+:.", text, 1, "1-2")?;
+    check(&rt, ">", text, 5, "7-7")?;
+    check(&rt, ">a?.", text, 8, "8-8")
 }
 
 /// Searches again with slots that another search used.

@@ -4,8 +4,26 @@
 #![tactic(auto)]
 
 #[cfg(test)]
+mod calls;
+#[cfg(test)]
 mod choice;
+#[cfg(test)]
+mod demos;
+#[cfg(test)]
+mod failing;
+#[cfg(test)]
+mod jobs;
 #[cfg(test)]
 mod memory_disks;
 #[cfg(test)]
-mod runs;
+mod named;
+#[cfg(test)]
+mod refusals;
+#[cfg(test)]
+mod running;
+#[cfg(test)]
+mod streams;
+#[cfg(test)]
+mod trees;
+#[cfg(test)]
+mod usage;

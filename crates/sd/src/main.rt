@@ -2,7 +2,8 @@
 #![tactic(auto)]
 
 use sd_core::run;
-use sd_edge::{HostDisk, HostSink, HostSource, NoMemory, Words};
+use sd_base::{NoMemory, Words};
+use sd_edge::{HostDisk, HostSink, HostSource};
 use std::process::ExitCode;
 use std::{env, io};
 

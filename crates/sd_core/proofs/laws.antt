@@ -1,3 +1,2 @@
--- What the laws of what is replaced, and of what a crash leaves, use.
-pub mod CrashImageLemmas
-pub mod OneReplacementLemmas
+-- What the laws use.
+pub mod CrashLemmas

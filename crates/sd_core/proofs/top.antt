@@ -1,3 +1,4 @@
 -- What the proof about the program from its words to its status uses.
-pub mod OrderLemmas
+pub mod AskLemmas
+pub mod CarryLemmas
 pub mod RunLemmas

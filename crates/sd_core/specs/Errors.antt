@@ -1,35 +1,41 @@
--- How the errors of rooms become errors of a command.
-use Rattle.std.specs.Prelude.{◌≡◌, ◌⊎◌, ℕ, List, [], ◌∷◌}
-use Rattle.sd_edge.specs.declared.fault.DiskFault.{DiskFault}
+-- The faults of what a command does, as its own errors.
 use Rattle.sd_edge.specs.declared.fault.DiskFault.TheVariants as disk
+use Rattle.sd_replace.specs.declared.error.ReplacerFault.{ReplacerFault}
+use Rattle.sd_replace.specs.declared.error.ReplacerFault.TheVariants as replacer
+use Rattle.tree_rewrite.specs.declared.fault.FilesFault.{FilesFault}
+use Rattle.tree_rewrite.specs.declared.fault.FilesFault.TheVariants as files
+use Rattle.tree_rewrite.specs.declared.sweep_fault.SweepFault.{SweepFault}
+use Rattle.tree_rewrite.specs.declared.sweep_fault.SweepFault.TheVariants as sweep
+use Rattle.stream_rewrite.specs.declared.fault.StreamFault.{StreamFault}
+use Rattle.stream_rewrite.specs.declared.fault.StreamFault.TheVariants as stream
+use Rattle.named_files.specs.declared.fault.PreviewFault.{PreviewFault}
+use Rattle.named_files.specs.declared.fault.PreviewFault.TheVariants as preview
 use Rattle.sd_core.specs.declared.error.Error.{Error}
 use Rattle.sd_core.specs.declared.error.Error.TheVariants as error
-use Rattle.sd_core.specs.declared.error.JobFault.TheVariants.{TempName}
-use Rattle.chosen_files.specs.declared.globs.GlobsError.{GlobsError}
-use Rattle.chosen_files.specs.declared.globs.GlobsError.TheVariants as globs
-use Rattle.sd_core.specs.declared.listing.ListingError.{ListingError}
-use Rattle.sd_core.specs.declared.listing.ListingError.TheVariants as listing
-use Rattle.sd_core.specs.declared.rewriting.RewritingError.{RewritingError}
-use Rattle.sd_core.specs.declared.rewriting.RewritingError.TheVariants as rewriting
 
--- want of memory is an answer of its own, and every other fault is one of a file
-abbrev pub IsErrorOf : DiskFault → Error → Type 0
-IsErrorOf disk.NoMemory e = e ≡ error.NoMemory
-IsErrorOf disk.Absent e = e ≡ error.File disk.Absent
-IsErrorOf disk.Taken e = e ≡ error.File disk.Taken
-IsErrorOf disk.Failed e = e ≡ error.File disk.Failed
+abbrev pub of_replacer : ReplacerFault → Error
+of_replacer (replacer.InvalidReplaceCapture capture) = error.InvalidReplaceCapture capture
+of_replacer (replacer.Regex refused) = error.Regex refused
+of_replacer replacer.NoMemory = error.NoMemory
 
--- where the globs are not read
-abbrev pub IsErrorOfGlobs : GlobsError → Error → Type 0
-IsErrorOfGlobs (globs.Invalid place) e = e ≡ error.BadGlob place
-IsErrorOfGlobs globs.NoMemory e = e ≡ error.NoMemory
+abbrev pub of_sweep : SweepFault → Error
+of_sweep (sweep.BadGlob place) = error.BadGlob place
+of_sweep sweep.RootMissing = error.RootMissing
+of_sweep (sweep.Walk failed) = error.Walk failed
+of_sweep sweep.TooMany = error.TooMany
+of_sweep (sweep.Failed jobs) = error.FailedProcessing jobs
+of_sweep sweep.NoMemory = error.NoMemory
 
--- where the chosen files are not listed
-abbrev pub IsErrorOfListing : ListingError → Error → Type 0
-IsErrorOfListing listing.RootMissing e = e ≡ error.RootMissing
-IsErrorOfListing (listing.Disk fault) e = IsErrorOf fault e
+abbrev pub of_files : FilesFault → Error
+of_files (files.Failed jobs) = error.FailedProcessing jobs
+of_files files.NoMemory = error.NoMemory
 
--- where the file at a path is not rewritten: without a free name it is the one failed job, or there is no memory to say so
-abbrev pub IsErrorOfFile : List ℕ → RewritingError → Error → Type 0
-IsErrorOfFile path rewriting.NoName e = (e ≡ error.FailedProcessing ((path, TempName) ∷ [])) ⊎ (e ≡ error.NoMemory)
-IsErrorOfFile path (rewriting.Disk fault) e = IsErrorOf fault e
+abbrev pub of_stream : StreamFault → Error
+of_stream stream.Failed = error.File disk.Failed
+of_stream stream.InputTooLong = error.InputTooLong
+of_stream stream.NoMemory = error.NoMemory
+
+abbrev pub of_preview : PreviewFault → Error
+of_preview (preview.File fault) = error.File fault
+of_preview (preview.InvalidPath path) = error.InvalidPath path
+of_preview preview.NoMemory = error.NoMemory

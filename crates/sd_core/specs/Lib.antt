@@ -1,10 +1,11 @@
+pub mod Asked
+pub mod CarryingOut
 pub mod Crash
+pub mod DemoCommand
 pub mod Errors
-pub mod Headline
+pub mod InputCommand
+pub mod Mode
+pub mod NamedCommands
 pub mod Report
-pub mod Rewriting
 pub mod Run
-pub mod Sweep
-pub mod Walk
-pub mod Words
-pub mod WordsRead
+pub mod TreeCommand

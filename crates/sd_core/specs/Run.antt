@@ -1,38 +1,88 @@
--- What a run of the program does.
-use Rattle.std.specs.Prelude.{◌≡◌, ℕ, Bool, IsTrue, List, ◌++◌, Some, true, Contains}
-use Rattle.sd_edge.specs.Tree.{NameList, Tree}
-use Rattle.sd_edge.specs.Paths.{reached, parent_of}
-use Rattle.sd_edge.specs.Streams.{SinkState}
-use Rattle.sd_core.specs.declared.report.Report.{Report}
-use Rattle.sd_core.specs.declared.top.Why.{Why}
-use Rattle.sd_core.specs.declared.top.Why.TheVariants.{Done, Fault, NotYet}
-use Rattle.sd_core.specs.Words.{TreeOrder}
-use Rattle.chosen_files.specs.Chosen.{Chosen}
-use Rattle.file_exchange.specs.Reserved.{Free}
-use Rattle.sd_core.specs.Report.{report_text, AppendsPrefix}
-use Rattle.sd_core.specs.Headline.{RewritesTree}
+-- How a run of the program ends, and what it calls.
+use Rattle.std.specs.Prelude.{◌≡◌, ◌⊎◌, ℕ, List, Some, Result, Ok, Err, ⊤}
+use Rattle.sd_change.specs.Change.{Change}
+use Rattle.sd_words.specs.Order.{order_of}
+use Rattle.sd_words.specs.declared.options.Options.{Options}
+use Rattle.sd_words.specs.declared.fault.OptionsFault.{OptionsFault}
+use Rattle.sd_words.specs.declared.fault.OptionsFault.TheVariants as words_fault
+use Rattle.sd_replace.specs.Replacement.{Replacement, Changes}
+use Rattle.sd_core.specs.Asked.{IsReplacerOf, RefusesReplacer}
+use Rattle.sd_core.specs.Mode as mode
+use Rattle.sd_core.specs.Mode.{Mode, mode_of}
+use Rattle.sd_core.specs.declared.error.Error.{Error}
+use Rattle.sd_core.specs.declared.error.Error.TheVariants as error
+use Rattle.sd_core.specs.declared.ended.Why.{Why}
+use Rattle.sd_core.specs.declared.ended.Why.TheVariants as why
 
--- the status of a process: 0 where all was done, else 1
-abbrev pub IsStatusOf : Why → ℕ → Type 0
-IsStatusOf Done status = status ≡ 0
-IsStatusOf (Fault error) status = status ≡ 1
-IsStatusOf NotYet status = status ≡ 1
+-- ---- statuses
 
--- The headline: each chosen file is rewritten, no other path changed, and a sink that tells its bytes grew by the report of exactly that.
-pub record DoesOrder (old : Tree) (order : TreeOrder) (new : Tree) (tells_bytes : Bool) (out new_out : SinkState) : Type 0 where
-  pub report : Report
-  pub rewrites : RewritesTree old order report new
-  pub printed : IsTrue tells_bytes → new_out.held ≡ out.held ++ report_text report.chosen report.changed report.replaced
+-- the status of a process
+abbrev pub status_of : Why → ℕ
+status_of why.Done = 0
+status_of why.Usage = 2
+status_of (why.Fault failed) = 1
+status_of why.Print = 1
+status_of why.NotYet = 1
 
--- all was done but the printing, which failed after a prefix of the report
-pub record FailsToPrint (old : Tree) (order : TreeOrder) (new : Tree) (tells_bytes : Bool) (out new_out : SinkState) : Type 0 where
-  pub report : Report
-  pub rewrites : RewritesTree old order report new
-  pub appended : IsTrue tells_bytes → AppendsPrefix out.held (report_text report.chosen report.changed report.replaced) new_out.held
+-- why a run ends whose words ask for nothing
+abbrev pub of_words : OptionsFault → Why
+of_words (words_fault.Usage text) = why.Usage
+of_words words_fault.NoMemory = why.Fault error.NoMemory
 
--- each folder of a chosen file has a reserved name that is free
-abbrev pub HasRoom : Tree → TreeOrder → Type 0
-HasRoom tree order =
-    (top : NameList) (places : List NameList) (place : NameList) → reached tree order.root true ≡ Some top
-    → Chosen tree top order.globs places → Contains places place
-    → (temporary : NameList) × Free tree (parent_of place) temporary
+-- ---- before a command begins
+
+-- want of memory comes in place of any refusal
+abbrev pub IsOrMemory : Why → Why → Type 0
+IsOrMemory expected ended = (ended ≡ expected) ⊎ (ended ≡ why.Fault error.NoMemory)
+
+-- the words are a command of this mode
+abbrev pub Asks : List (List ℕ) → Options → Mode → Type 0
+Asks words options m = (order_of words ≡ Some options) × (mode_of options ≡ m)
+
+-- it is refused by its texts or for want of memory, before it begins
+abbrev pub IsRefusedFirst : Options → Why → Type 0
+IsRefusedFirst options ended = (ended ≡ why.Fault error.NoMemory) ⊎ ((failed : Error) × (ended ≡ why.Fault failed) × RefusesReplacer options failed)
+
+-- A command begins: there is its replacement, and this is promised of what that does to bytes. Or it is refused before that, with nothing touched.
+abbrev pub Begins : Options → Type 0 → Why → (Change → Type 0) → Type 0
+Begins options untouched ended promise =
+    (untouched × IsRefusedFirst options ended) ⊎ ((replacement : Replacement) × IsReplacerOf options replacement × promise (Changes replacement))
+
+-- ---- what is called at all
+
+abbrev pub IsFault : Why → Type 0
+IsFault ended = (failed : Error) × (ended ≡ why.Fault failed)
+
+-- the disk isn't called: for a tree command only at an invalid glob
+abbrev pub CallsNoDisk : Mode → Why → Type 0
+CallsNoDisk (mode.tree root) ended = (place : ℕ) × (ended ≡ why.Fault (error.BadGlob place))
+CallsNoDisk (mode.plan root) ended = ⊤
+CallsNoDisk (mode.demo n) ended = ⊤
+CallsNoDisk mode.stream ended = ⊤
+CallsNoDisk mode.files ended = ⊥
+CallsNoDisk mode.preview ended = ⊥
+
+-- the input isn't read
+abbrev pub ReadsNoInput : Mode → Type 0
+ReadsNoInput (mode.tree root) = ⊤
+ReadsNoInput (mode.plan root) = ⊤
+ReadsNoInput (mode.demo n) = ⊤
+ReadsNoInput mode.stream = ⊥
+ReadsNoInput mode.files = ⊤
+ReadsNoInput mode.preview = ⊤
+
+-- the output isn't written to
+abbrev pub WritesNoOutput : Mode → Why → Type 0
+WritesNoOutput (mode.tree root) ended = IsFault ended
+WritesNoOutput (mode.plan root) ended = ⊤
+WritesNoOutput (mode.demo n) ended = IsFault ended
+WritesNoOutput mode.stream ended = ⊥
+WritesNoOutput mode.files ended = ⊤
+WritesNoOutput mode.preview ended = ⊥
+
+-- ---- an answer as an end
+
+-- done, or failed
+abbrev pub end_of : {A : Type 0} → Result A Error → Why
+end_of (Ok done) = why.Done
+end_of (Err failed) = why.Fault failed

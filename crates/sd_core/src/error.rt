@@ -1,30 +1,51 @@
 //! Why a command fails.
 
-ghost use Rattle.std.specs.Prelude.{◌≡◌, ◌<◌, ◌↔◌, [], length, slice_get, Some, IsTrue};
-ghost use Rattle.sd_core.specs.Errors.{IsErrorOf, IsErrorOfGlobs, IsErrorOfListing};
+ghost use Rattle.std.specs.Prelude.{◌≡◌};
+ghost use Rattle.sd_core.specs.Errors.{of_replacer, of_sweep, of_files, of_stream, of_preview};
+ghost use Rattle.sd_core.specs.declared.error.Error.TheVariants as error;
 
-use crate::listing::ListingError;
-use chosen_files::GlobsError;
-use sd_edge::{DiskFault, Text};
+use named_files::PreviewFault;
+use sd_base::{NoMemory, Text};
+use sd_edge::DiskFault;
+use sd_replace::{InvalidReplaceCapture, ReplacerFault};
 use std::fmt;
-use std::marker::Model;
+use stream_rewrite::StreamFault;
 use thiserror::Error;
+use tree_rewrite::{FailedJobs, FilesFault, SweepFault};
 
 /// Why a command fails.
 #[derive(Drop, Error)]
 pub enum Error {
-    /// The disk or a stream failed, and counted it.
+    /// No matcher is built of the text to find.
+    #[error("invalid regex {0}")]
+    Regex(grep_regex::Error),
+    /// The disk or a stream failed, and counted it; or no regular file stands at a path.
     #[error("{0}")]
     File(DiskFault),
-    /// These files could not be processed.
+    /// A path names no file: it is empty, or nothing but `/`.
+    #[error("file doesn't have parent path: {}", .0.as_str())]
+    InvalidPath(Text),
+    /// These files could not be processed. All others are rewritten.
     #[error("failed processing files:\n\t{0}")]
     FailedProcessing(FailedJobs),
+    /// A numbered reference of the replacement text is ambiguous.
+    #[error("{0}")]
+    InvalidReplaceCapture(InvalidReplaceCapture),
     /// The glob at this place among the globs, counted from 0, is the first that is invalid.
     #[error("invalid glob at place {0}")]
     BadGlob(usize),
     /// The root leads to no node.
     #[error("the root leads to nothing")]
     RootMissing,
+    /// The walk of the tree met a failure of the disk, which counted it.
+    #[error("{0}")]
+    Walk(walkdir::Error),
+    /// 2^32 entries or more lie below the root.
+    #[error("too many entries")]
+    TooMany,
+    /// More than 2^40 bytes were left in the input.
+    #[error("input too long")]
+    InputTooLong,
     /// There is no memory left.
     #[error("out of memory")]
     NoMemory,
@@ -40,111 +61,72 @@ impl fmt::Debug for Error {
     }
 }
 
-/// Want of memory is an answer of its own.
-impl From<DiskFault> for Error {
-    ghost from_gives = { IsErrorOf };
+impl From<NoMemory> for Error {
+    ghost from_gives = { λ _ made. made ≡ error.NoMemory };
 
-    fn from(fault: DiskFault) -> Error {
+    fn from(_error: NoMemory) -> Error {
+        Error::NoMemory
+    }
+}
+
+impl From<ReplacerFault> for Error {
+    ghost from_gives = { λ fault made. made ≡ of_replacer fault };
+
+    fn from(fault: ReplacerFault) -> Error {
         match fault {
-            DiskFault::NoMemory => Error::NoMemory,
-            fault => Error::File(fault),
+            ReplacerFault::InvalidReplaceCapture(capture) => Error::InvalidReplaceCapture(capture),
+            ReplacerFault::Regex(refused) => Error::Regex(refused),
+            ReplacerFault::NoMemory => Error::NoMemory,
         }
     }
 }
 
-/// No glob is read where one is invalid.
-impl From<GlobsError> for Error {
-    ghost from_gives = { IsErrorOfGlobs };
+impl From<SweepFault> for Error {
+    ghost from_gives = { λ fault made. made ≡ of_sweep fault };
 
-    fn from(error: GlobsError) -> Error {
-        match error {
-            GlobsError::Invalid(place) => Error::BadGlob(place),
-            GlobsError::NoMemory => Error::NoMemory,
+    fn from(fault: SweepFault) -> Error {
+        match fault {
+            SweepFault::BadGlob(place) => Error::BadGlob(place),
+            SweepFault::RootMissing => Error::RootMissing,
+            SweepFault::Walk(failed) => Error::Walk(failed),
+            SweepFault::TooMany => Error::TooMany,
+            SweepFault::Failed(jobs) => Error::FailedProcessing(jobs),
+            SweepFault::NoMemory => Error::NoMemory,
         }
     }
 }
 
-/// A listing fails by its root or by the disk.
-impl From<ListingError> for Error {
-    ghost from_gives = { IsErrorOfListing };
+impl From<FilesFault> for Error {
+    ghost from_gives = { λ fault made. made ≡ of_files fault };
 
-    fn from(error: ListingError) -> Error {
-        match error {
-            ListingError::RootMissing => Error::RootMissing,
-            ListingError::Disk(fault) => Error::from(fault),
+    fn from(fault: FilesFault) -> Error {
+        match fault {
+            FilesFault::Failed(jobs) => Error::FailedProcessing(jobs),
+            FilesFault::NoMemory => Error::NoMemory,
         }
     }
 }
 
-/// Why one file could not be processed. The file is as it was.
-#[derive(Clone, Copy, Debug, PartialEq, Eq, Error)]
-pub enum JobFault {
-    /// Every reserved name of the file's folder is taken.
-    #[error("no free temporary name")]
-    TempName,
-}
+impl From<StreamFault> for Error {
+    ghost from_gives = { λ fault made. made ≡ of_stream fault };
 
-/// The files that could not be processed, in their order, each with its path and its fault.
-#[derive(Drop)]
-pub struct FailedJobs {
-    jobs: Vec<(Text, JobFault)>,
-}
-
-impl Model for FailedJobs {
-    ghost use Rattle.std.specs.Prelude.{List, ℕ};
-    ghost use Rattle.sd_core.specs.declared.error.JobFault.{JobFault};
-
-    ghost Value = { List (List ℕ × JobFault) };
-
-    ghost view = { λ failed. failed.jobs.items };
-}
-
-impl FailedJobs {
-    /// These jobs, in their order.
-    pub fn from_list(jobs: Vec<(Text, JobFault)>) -> FailedJobs
-        ensures { result ≡ jobs.items }
-    {
-        FailedJobs { jobs }
-    }
-
-    /// How many jobs there are.
-    pub fn len(&self) -> usize
-        ensures { result ≡ length self.now }
-    {
-        self.jobs.len()
-    }
-
-    /// Whether there is none.
-    pub fn is_empty(&self) -> bool
-        ensures { IsTrue result ↔ (self.now ≡ []) }
-    {
-        self.jobs.is_empty()
-    }
-
-    /// The path and the fault of a job, counted from 0.
-    pub fn get(&self, i: usize) -> (&str, &JobFault)
-        requires { i < length self.now }
-        ensures { slice_get self.now i ≡ Some (result.0.now, result.1.now) }
-    {
-        let job = &self.jobs[i];
-        (job.0.as_str(), &job.1)
-    }
-}
-
-/// A line for each job, within `FailedJobs(` and `)`.
-impl fmt::Display for FailedJobs {
-    fn fmt<W: fmt::Write>(&self, f: &mut fmt::Formatter<W>) -> fmt::Result {
-        writeln!(f, "FailedJobs(")?;
-        for (path, fault) in self.jobs.iter() {
-            let path = path.as_str();
-            writeln!(f, "\t{path}: {fault}")?;
+    fn from(fault: StreamFault) -> Error {
+        match fault {
+            StreamFault::Failed => Error::File(DiskFault::Failed),
+            StreamFault::InputTooLong => Error::InputTooLong,
+            StreamFault::NoMemory => Error::NoMemory,
         }
-        write!(f, ")")
     }
 }
 
-impl fmt::Debug for FailedJobs {
-    fn fmt<W: fmt::Write>(&self, f: &mut fmt::Formatter<W>) -> fmt::Result {
-        write!(f, "{self}")
+impl From<PreviewFault> for Error {
+    ghost from_gives = { λ fault made. made ≡ of_preview fault };
+
+    fn from(fault: PreviewFault) -> Error {
+        match fault {
+            PreviewFault::File(fault) => Error::File(fault),
+            PreviewFault::InvalidPath(path) => Error::InvalidPath(path),
+            PreviewFault::NoMemory => Error::NoMemory,
+        }
     }
 }

@@ -1,39 +1,40 @@
-//! Laws of what is found and of what takes its place, and of what a crash leaves of it.
+//! Laws of what a crash leaves of a command on a tree.
 
 ghost use Rattle.std.specs.Prelude.{◌≡◌, ◌⊎◌, ℕ, List, Some};
 ghost use Rattle.sd_edge.specs.Tree.{NameList, Content, Tree};
-ghost use Rattle.sd_edge.specs.Outcomes.{content_at};
-ghost use Rattle.sd_edge.specs.Disk.{DiskState};
-ghost use Rattle.sd_core.specs.Words.{TreeOrder};
-ghost use Rattle.sd_core.specs.Crash.{IsOnMedium, IsChosenBy, IsNewChosen, IsFreeBesideChosen, IsOldOrNewImage, IsNewImage};
-ghost use Rattle.sd_core.specs.Rewriting.{NewBytes};
+ghost use Rattle.sd_edge.specs.Outcomes.{Leaves, content_at};
+ghost use Rattle.sd_edge.specs.Disk.{DiskState, MayLeave, outcomes_now};
+ghost use Rattle.sd_edge.specs.Crashes.{IsDurable};
+ghost use Rattle.sd_replace.specs.Replacement.{Replacement, Changes};
+ghost use Rattle.tree_rewrite.specs.Files.{IsFreeBeside};
+ghost use Rattle.tree_rewrite.specs.Rewritten.{IsNewOne, IsChangedOne};
+ghost use Rattle.tree_rewrite.specs.Sweep.{IsChosenBelow};
+ghost use Rattle.sd_core.specs.TreeCommand.{IsOldOrNewImage};
+ghost use Rattle.sd_core.specs.Crash.{IsOnMedium};
 
-/// A file's bytes and the two texts determine its new bytes and how many texts are replaced. A text replaced by itself
-/// changes nothing.
-pub fn one_list_of_new_bytes()
-    ensures one { (find replacement bytes a b : List ℕ) (m n : ℕ) → NewBytes find replacement bytes a m
-        → NewBytes find replacement bytes b n → (a ≡ b) × (m ≡ n) }
-    ensures itself { (find bytes new : List ℕ) (n : ℕ) → NewBytes find find bytes new n → new ≡ bytes }
-{}
-
-/// Where at entry a crash leaves at each place what stands there, one at any moment leaves each chosen file wholly old or
-/// wholly new. At every other place it leaves what stood there at entry, but at the reserved names that were free in the
+/// Where at the start a crash leaves at each place what stands there, one at any moment leaves each chosen file wholly old or
+/// wholly new. At every other place it leaves what stood there at the start, but at the reserved names that were free in the
 /// folders of chosen files.
 pub fn a_crash_leaves_chosen_files_old_or_new()
-    ensures chosen { (old : DiskState) (order : TreeOrder) (image : Tree) → IsOnMedium old → IsOldOrNewImage old order image
-        → (place : NameList) → IsChosenBy old.tree order place
+    ensures chosen { (replacement : Replacement) (root : List ℕ) (globs : List (List ℕ)) (old : DiskState) (image : Tree) → IsOnMedium old
+        → IsOldOrNewImage (Changes replacement) root globs old image → (place : NameList) → IsChosenBelow old.tree root globs place
         → (content_at image place ≡ content_at old.tree place)
-        ⊎ ((content : Content) × (content_at image place ≡ Some content) × IsNewChosen old.tree order place content) }
-    ensures others { (old : DiskState) (order : TreeOrder) (image : Tree) → IsOnMedium old → IsOldOrNewImage old order image
-        → (place : NameList) → (IsChosenBy old.tree order place → ⊥) → (IsFreeBesideChosen old.tree order place → ⊥)
-        → content_at image place ≡ content_at old.tree place }
+        ⊎ ((content : Content) × (content_at image place ≡ Some content) × IsNewOne (IsChosenBelow old.tree root globs) (Changes replacement) old.tree place content) }
+    ensures others { (replacement : Replacement) (root : List ℕ) (globs : List (List ℕ)) (old : DiskState) (image : Tree) → IsOnMedium old
+        → IsOldOrNewImage (Changes replacement) root globs old image → (place : NameList) → (IsChosenBelow old.tree root globs place → ⊥)
+        → (IsFreeBeside (IsChosenBelow old.tree root globs) old.tree place → ⊥) → content_at image place ≡ content_at old.tree place }
 {}
 
-/// Where at entry a crash leaves at each place what stands there, one after status 0 leaves each chosen file wholly new,
-/// and at every other place what stood there at entry.
+/// Where at the start a crash leaves at each place what stands there, one after all was done leaves each chosen file wholly new,
+/// and at every other place what stood there at the start.
 pub fn a_crash_leaves_rewritten_files_new()
-    ensures chosen { (old : DiskState) (order : TreeOrder) (image : Tree) → IsOnMedium old → IsNewImage old order image
-        → (place : NameList) (content : Content) → IsNewChosen old.tree order place content → content_at image place ≡ Some content }
-    ensures others { (old : DiskState) (order : TreeOrder) (image : Tree) → IsOnMedium old → IsNewImage old order image
-        → (place : NameList) → (IsChosenBy old.tree order place → ⊥) → content_at image place ≡ content_at old.tree place }
-{}
+    ensures chosen { (replacement : Replacement) (root : List ℕ) (globs : List (List ℕ)) (old new : DiskState) (image : Tree) → IsOnMedium old
+        → IsDurable (IsChangedOne (IsChosenBelow old.tree root globs) (Changes replacement) old.tree) old new → MayLeave new image
+        → (place : NameList) (content : Content) → IsNewOne (IsChosenBelow old.tree root globs) (Changes replacement) old.tree place content
+        → content_at image place ≡ Some content }
+    ensures others { (replacement : Replacement) (root : List ℕ) (globs : List (List ℕ)) (old new : DiskState) (image : Tree) → IsOnMedium old
+        → IsDurable (IsChangedOne (IsChosenBelow old.tree root globs) (Changes replacement) old.tree) old new → MayLeave new image
+        → (place : NameList) → (IsChosenBelow old.tree root globs place → ⊥) → content_at image place ≡ content_at old.tree place }
+{
+    sd_replace::one_change();
+}

@@ -1,65 +1,43 @@
 //! The program, from its words to its status.
 
-ghost use Rattle.std.specs.Prelude.{◌≡◌, ◌↔◌, ◌<◌, ◌≤◌, ◌⊎◌, ℕ, true, false, None, Some, IsTrue, IsSome, All};
-ghost use Rattle.sd_edge.specs.Count.{HasRisen};
-ghost use Rattle.sd_edge.specs.Disk.{MayLeave, MayLeaveSince};
-ghost use Rattle.sd_edge.specs.Paths.{reached};
-ghost use Rattle.sd_edge.specs.Tree.{Tree};
-ghost use Rattle.sd_edge.specs.Files.{LeadsNowhere};
-ghost use Rattle.sd_edge.specs.declared.fault.DiskFault.{DiskFault};
+ghost use Rattle.std.specs.Prelude.{◌≡◌, ◌≢◌, ◌≤◌, ℕ, List, true, false, IsTrue, None, Some};
+ghost use Rattle.sd_course.specs.Course.{course};
+ghost use Rattle.sd_words.specs.Order.{order_of};
+ghost use Rattle.sd_words.specs.declared.options.Options.{Options};
+ghost use Rattle.sd_replace.specs.Replacement.{Replacement, Changes};
+ghost use Rattle.sd_replace.specs.Replacer.{replacement_of};
+ghost use Rattle.sd_core.specs.Asked.{IsReplacerOf, RefusesReplacer};
+ghost use Rattle.sd_core.specs.Mode as mode;
+ghost use Rattle.sd_core.specs.Mode.{IsPlan, mode_of};
+ghost use Rattle.sd_core.specs.CarryingOut.{CarriesOut};
+ghost use Rattle.sd_core.specs.Run as form;
+ghost use Rattle.sd_core.specs.Run.{Asks, Begins, CallsNoDisk, IsOrMemory, IsRefusedFirst, ReadsNoInput, WritesNoOutput};
+ghost use Rattle.sd_core.specs.TreeCommand.{DoesTreeCommand, TreeCommand};
+ghost use Rattle.sd_core.specs.DemoCommand.{DemoCommand};
+ghost use Rattle.sd_core.specs.InputCommand.{InputCommand};
+ghost use Rattle.sd_core.specs.NamedCommands.{FilesCommand, PreviewCommand};
 ghost use Rattle.sd_core.specs.declared.error.Error.{Error};
-ghost use Rattle.sd_core.specs.declared.error.FailedJobs.{FailedJobs};
-ghost use Rattle.sd_core.specs.Words.{TreeOrder, tree_order};
-ghost use Rattle.chosen_files.specs.Globs.{IsValid, IsFirstInvalid};
-ghost use Rattle.sd_core.specs.Walk.{LeavesLists};
-ghost use Rattle.sd_core.specs.Crash.{IsOldOrNewImage, IsNewImage};
-ghost use Rattle.sd_core.specs.Headline.{LeavesTree, HasNoRoom};
-ghost use Rattle.file_exchange.specs.Causes.{HasRisenBy};
-ghost use Rattle.file_exchange.specs.Reserved.{reserved_names};
-ghost use Rattle.sd_core.specs.Sweep.{IsOneJob};
-ghost use Rattle.sd_core.specs.Run.{IsStatusOf, DoesOrder, FailsToPrint, HasRoom};
 
-use crate::Error;
-use crate::report::{print_error, print_report};
-use crate::sweep::sweep;
-use crate::words::tree_command;
-use sd_edge::{Disk, DiskFault, Sink, Source, Words};
+use crate::asking::replacer_of;
+use crate::commands::{demo_command, tree_command, words_command};
+use crate::printing::print_error;
+use crate::{Ended, Error, Why};
+use sd_base::Words;
+use sd_edge::{Disk, Sink, Source};
+use sd_replace::{Replacer, an_asked_replacement_is_readable};
+use sd_words::{Options, OptionsFault};
 use std::alloc::Global;
-
-/// How a run ended.
-#[derive(Drop)]
-pub struct Ended {
-    /// The status to end the process with: 0 where all was done, else 1.
-    pub status: u8,
-    /// Why it ended so.
-    pub why: Why,
-}
-
-/// Why a run ended.
-#[derive(Drop)]
-pub enum Why {
-    /// All was done and reported.
-    Done,
-    /// Something failed.
-    Fault(Error),
-    /// The words are of a form that isn't built yet.
-    NotYet,
-}
 
 /// Runs the program on the words after its name.
 ///
-/// `--root DIR -- FIND REPLACE_WITH GLOB` replaces FIND by REPLACE_WITH in the files below DIR
-/// whose path from there fits GLOB, and prints how many files were chosen and changed and how many
-/// texts were replaced. An invalid glob is told before the disk is asked for anything. The tree is
-/// listed whole before the first file is written. A file is written under a reserved name beside
-/// it and then renamed. However the run ends, each file is then old or new. Whatever goes wrong is
-/// printed to `err`, after `error: `.
+/// Where it reads a tree command and ends with status 0, every regular nonempty file below the root whose path there fits a
+/// glob keeps its mode and holds its entry bytes with the spans of its fair cover, or the first n where n isn't 0 (in each line
+/// under `-l`), replaced by their replacement texts; no other path changed; and what it printed counts exactly these files and
+/// spans.
 ///
-/// On a disk that tells its tree a crash at any moment leaves each chosen file as one at entry could
-/// have left it, or with its mode and its new bytes. It may leave anything at the reserved names
-/// that were free in the folders of chosen files, and leaves all else as one at entry could have
-/// left it. After status 0 each crash leaves the new bytes of the chosen files whose bytes change,
-/// and all else as one at entry could have left it.
+/// However it ends, its answer has its cause. A tree command leaves each of these files wholly old or wholly new, also after a
+/// crash at any moment; a demo and standard input leave the disk alone; a preview changes nothing. Whatever goes wrong is
+/// printed to `err`, after `error: `, and a fault there is passed over.
 pub fn run<D: Disk, S: Source, O: Sink, E: Sink>(
     alloc: Global,
     words: &Words,
@@ -68,75 +46,161 @@ pub fn run<D: Disk, S: Source, O: Sink, E: Sink>(
     out: &mut O,
     err: &mut E,
 ) -> Ended
-    ensures not_yet { result.why ≡ Why.NotYet ↔ (tree_order words.now ≡ None) }
-    ensures untouched { result.why ≡ Why.NotYet → (disk.new ≡ disk.old) × (out.new ≡ out.old) }
-    ensures status { IsStatusOf result.why result.status }
-    ensures headline { IsTrue D.tells → (order : TreeOrder) → tree_order words.now ≡ Some order → result.status ≡ 0
-        → DoesOrder (D.state disk.old).tree order (D.state disk.new).tree O.tells (O.state out.old) (O.state out.new) }
-    ensures err_kept { result.status ≡ 0 → err.new ≡ err.old }
-    ensures input_kept { input.new ≡ input.old }
-    ensures out_kept { (error : Error) → result.why ≡ Why.Fault error → (out.new ≡ out.old)
-        ⊎ ((error ≡ Error.File DiskFault.Failed) × HasRisen (O.state out.old).faults (O.state out.new).faults) }
-    ensures leaves { IsTrue D.tells → (order : TreeOrder) → tree_order words.now ≡ Some order
-        → LeavesTree (D.state disk.old).tree order (D.state disk.new).tree }
-    ensures crash { IsTrue D.tells → (order : TreeOrder) → tree_order words.now ≡ Some order → (image : Tree)
-        → MayLeaveSince (D.state disk.new) (D.state disk.old).clock image → IsOldOrNewImage (D.state disk.old) order image }
-    ensures durable { IsTrue D.tells → (order : TreeOrder) → tree_order words.now ≡ Some order → result.status ≡ 0 → (image : Tree)
-        → MayLeave (D.state disk.new) image → IsNewImage (D.state disk.old) order image }
-    ensures lists { LeavesLists (D.state disk.old) (D.state disk.new) }
-    ensures refused { IsTrue D.tells → (order : TreeOrder) → tree_order words.now ≡ Some order → (error : Error) → result.why ≡ Why.Fault error
-        → (out.new ≡ out.old)
-        ⊎ ((error ≡ Error.File DiskFault.Failed) × FailsToPrint (D.state disk.old).tree order (D.state disk.new).tree O.tells (O.state out.old) (O.state out.new)) }
-    ensures root_missing { IsTrue D.tells → (order : TreeOrder) → tree_order words.now ≡ Some order → result.why ≡ Why.Fault Error.RootMissing
-        → LeadsNowhere (D.state disk.old) order.root true × ((D.state disk.new).tree ≡ (D.state disk.old).tree) }
-    ensures bad_glob { (order : TreeOrder) → tree_order words.now ≡ Some order → (place : ℕ) → result.why ≡ Why.Fault (Error.BadGlob place)
-        → IsFirstInvalid order.globs place × (disk.new ≡ disk.old) × (out.new ≡ out.old) }
-    ensures invalid { (order : TreeOrder) → tree_order words.now ≡ Some order → (place : ℕ) → IsFirstInvalid order.globs place
-        → (result.why ≡ Why.Fault (Error.BadGlob place)) ⊎ (result.why ≡ Why.Fault Error.NoMemory) }
-    ensures no_room { IsTrue D.tells → (order : TreeOrder) → tree_order words.now ≡ Some order → (jobs : FailedJobs)
-        → result.why ≡ Why.Fault (Error.FailedProcessing jobs) → HasNoRoom (D.state disk.old).tree order jobs (D.state disk.new).tree }
-    ensures never_fall { ((D.state disk.old).faults ≤ (D.state disk.new).faults) × ((O.state out.old).faults ≤ (O.state out.new).faults) }
-    ensures failed { result.why ≡ Why.Fault (Error.File DiskFault.Failed)
-        → HasRisen (D.state disk.old).faults (D.state disk.new).faults ⊎ HasRisen (O.state out.old).faults (O.state out.new).faults }
-    ensures absent { result.why ≡ Why.Fault (Error.File DiskFault.Absent) → (D.tells ≡ false) × ((D.state disk.old).faults < (D.state disk.new).faults) }
-    ensures no_other { (fault : DiskFault) → result.why ≡ Why.Fault (Error.File fault) → (fault ≡ DiskFault.Failed) ⊎ (fault ≡ DiskFault.Absent) }
-    ensures one_job { (jobs : FailedJobs) → result.why ≡ Why.Fault (Error.FailedProcessing jobs) → IsOneJob jobs }
-    ensures no_room_untold { D.tells ≡ false → (jobs : FailedJobs) → result.why ≡ Why.Fault (Error.FailedProcessing jobs)
-        → HasRisenBy reserved_names (D.state disk.old).faults (D.state disk.new).faults }
-    ensures root_untold { D.tells ≡ false → result.why ≡ Why.Fault Error.RootMissing → (D.state disk.old).faults < (D.state disk.new).faults }
-    ensures complete { IsTrue D.tells → (order : TreeOrder) → tree_order words.now ≡ Some order
-        → IsSome (reached (D.state disk.old).tree order.root true) → All IsValid order.globs → HasRoom (D.state disk.old).tree order
-        → (HasRisen (D.state disk.old).faults (D.state disk.new).faults → ⊥) → (HasRisen (O.state out.old).faults (O.state out.new).faults → ⊥)
-        → (result.why ≡ Why.Done) ⊎ (result.why ≡ Why.Fault Error.NoMemory) }
+    ensures headline { IsTrue D.tells → (order : Options) (root : List ℕ) → Asks words.now order (mode.tree root) → result.status ≡ 0
+        → (replacement : Replacement) × IsReplacerOf order replacement
+        × DoesTreeCommand (Changes replacement) root order.words (D.state disk.old) (D.state disk.new) (course O.tells (O.state out.old) (O.state out.new)) }
+    ensures status { result.status ≡ form.status_of result.why }
+    ensures usage { result.why ≡ Why.Usage → order_of words.now ≡ None }
+    ensures no_order { order_of words.now ≡ None → IsOrMemory Why.Usage result.why × (disk.new ≡ disk.old) × (input.new ≡ input.old) × (out.new ≡ out.old) }
+    ensures not_yet { (order : Options) (root : List ℕ) → Asks words.now order (mode.plan root) → IsOrMemory Why.NotYet result.why }
+    ensures replacer { (order : Options) → order_of words.now ≡ Some order → result.why ≢ Why.NotYet
+        → (error : Error) → RefusesReplacer order error → IsRefusedFirst order result.why }
+    ensures tree { (order : Options) (root : List ℕ) → Asks words.now order (mode.tree root)
+        → Begins order ((disk.new ≡ disk.old) × (input.new ≡ input.old) × (out.new ≡ out.old)) result.why
+        (λ change. TreeCommand change root order.words (course D.tells (D.state disk.old) (D.state disk.new)) (course O.tells (O.state out.old) (O.state out.new)) result.why) }
+    ensures demo { (order : Options) (n : ℕ) → Asks words.now order (mode.demo n)
+        → Begins order ((disk.new ≡ disk.old) × (input.new ≡ input.old) × (out.new ≡ out.old)) result.why
+        (λ change. DemoCommand change n order.words (course O.tells (O.state out.old) (O.state out.new)) result.why) }
+    ensures standard_input { (order : Options) → Asks words.now order mode.stream
+        → Begins order ((disk.new ≡ disk.old) × (input.new ≡ input.old) × (out.new ≡ out.old)) result.why
+        (λ change. InputCommand change (course S.tells (S.state input.old) (S.state input.new)) (course O.tells (O.state out.old) (O.state out.new)) result.why) }
+    ensures files { (order : Options) → Asks words.now order mode.files
+        → Begins order ((disk.new ≡ disk.old) × (input.new ≡ input.old) × (out.new ≡ out.old)) result.why
+        (λ change. FilesCommand change order.words (course D.tells (D.state disk.old) (D.state disk.new)) result.why) }
+    ensures preview { (order : Options) → Asks words.now order mode.preview
+        → Begins order ((disk.new ≡ disk.old) × (input.new ≡ input.old) × (out.new ≡ out.old)) result.why
+        (λ change. PreviewCommand change order.words (course D.tells (D.state disk.old) (D.state disk.new)) (course O.tells (O.state out.old) (O.state out.new)) result.why) }
+    ensures disk_kept { (order : Options) → order_of words.now ≡ Some order → CallsNoDisk (mode_of order) result.why → disk.new ≡ disk.old }
+    ensures input_kept { (order : Options) → order_of words.now ≡ Some order → ReadsNoInput (mode_of order) → input.new ≡ input.old }
+    ensures out_kept { (order : Options) → order_of words.now ≡ Some order → WritesNoOutput (mode_of order) result.why → out.new ≡ out.old }
+    ensures err_kept { result.why ≡ Why.Done → err.new ≡ err.old }
 {
-    let Some(command) = tree_command(words) else {
-        return end_with(err, Why::NotYet);
-    };
-    match sweep(alloc, disk, &command) {
-        Err(error) => end_with(err, Why::Fault(error)),
-        Ok(report) => match print_report(out, &report) {
-            Ok(()) => end_with(err, Why::Done),
-            Err(_) => end_with(err, Why::Fault(Error::File(DiskFault::Failed))),
-        },
+    match Options::read(alloc, words) {
+        Err(fault) => refuse(err, &fault),
+        Ok(options) => {
+            let why = carry_out(alloc, &options, disk, input, out);
+            end_with(err, why)
+        }
     }
 }
 
-/// Prints what went wrong, and gives the status.
+/// Prints why the words ask for nothing.
+fn refuse<E: Sink>(err: &mut E, fault: &OptionsFault) -> Ended
+    ensures why { result.why ≡ form.of_words fault.now }
+    ensures status { result.status ≡ form.status_of result.why }
+{
+    print_error(err, fault);
+    let why = match fault {
+        OptionsFault::Usage(_) => Why::Usage,
+        OptionsFault::NoMemory => Why::Fault(Error::NoMemory),
+    };
+    Ended {
+        status: why.status(),
+        why,
+    }
+}
+
+/// Prints what went wrong, where something did.
 fn end_with<E: Sink>(err: &mut E, why: Why) -> Ended
     ensures why { result.why ≡ why }
-    ensures status { IsStatusOf why result.status }
+    ensures status { result.status ≡ form.status_of why }
     ensures err_kept { why ≡ Why.Done → err.new ≡ err.old }
 {
-    let status = match &why {
-        Why::Done => 0,
-        Why::Fault(error) => {
-            print_error(err, error);
-            1
+    print_why(err, &why);
+    Ended {
+        status: why.status(),
+        why,
+    }
+}
+
+/// Prints the text of an end that isn't the wanted one.
+fn print_why<E: Sink>(err: &mut E, why: &Why)
+    ensures { why.now ≡ Why.Done → err.new ≡ err.old }
+{
+    match why {
+        Why::Done => {}
+        Why::Usage => print_error(err, &"not a valid command line"),
+        Why::Fault(error) => print_error(err, error),
+        Why::Print => print_error(err, &"the report could not be written"),
+        Why::NotYet => print_error(err, &"not built yet"),
+    }
+}
+
+/// Carries out what the options ask for.
+fn carry_out<D: Disk, S: Source, O: Sink>(
+    alloc: Global,
+    options: &Options,
+    disk: &mut D,
+    input: &mut S,
+    out: &mut O,
+) -> Why
+    requires few { (n : ℕ) → options.now.demo ≡ Some n → n ≤ 100000 }
+    ensures { CarriesOut options.now (disk.new ≡ disk.old) (input.new ≡ input.old) (out.new ≡ out.old) (course D.tells (D.state disk.old) (D.state disk.new))
+        (course S.tells (S.state input.old) (S.state input.new)) (course O.tells (O.state out.old) (O.state out.new)) result }
+{
+    if is_plan(options) {
+        return Why::NotYet;
+    }
+    match replacer_of(alloc, options) {
+        Err(fault) => Why::Fault(Error::from(fault)),
+        Ok(replacer) => {
+            an_asked_replacement_is_readable();
+            let why = begin(alloc, options, &replacer, disk, input, out);
+            drop(replacer);
+            why
         }
-        Why::NotYet => {
-            print_error(err, &"not built yet");
-            1
-        }
-    };
-    Ended { status, why }
+    }
+}
+
+/// Whether a plan of a tree is asked for, which isn't built yet.
+fn is_plan(options: &Options) -> bool
+    ensures plan { result ≡ true → IsPlan (mode_of options.now) }
+    ensures no_plan { result ≡ false → IsPlan (mode_of options.now) → ⊥ }
+{
+    match &options.root {
+        Some(_) => options.preview,
+        None => false,
+    }
+}
+
+/// Begins the command of the options' mode, which is no plan.
+fn begin<D: Disk, S: Source, O: Sink>(
+    alloc: Global,
+    options: &Options,
+    replacer: &Replacer,
+    disk: &mut D,
+    input: &mut S,
+    out: &mut O,
+) -> Why
+    requires no_plan { IsPlan (mode_of options.now) → ⊥ }
+    requires few { (n : ℕ) → options.now.demo ≡ Some n → n ≤ 100000 }
+    ensures headline { IsTrue D.tells → (root : List ℕ) → mode_of options.now ≡ mode.tree root → result ≡ Why.Done
+        → DoesTreeCommand (Changes (replacement_of replacer.now)) root options.now.words (D.state disk.old) (D.state disk.new) (course O.tells (O.state out.old) (O.state out.new)) }
+    ensures tree { (root : List ℕ) → mode_of options.now ≡ mode.tree root → TreeCommand (Changes (replacement_of replacer.now)) root options.now.words
+        (course D.tells (D.state disk.old) (D.state disk.new)) (course O.tells (O.state out.old) (O.state out.new)) result }
+    ensures demo { (n : ℕ) → mode_of options.now ≡ mode.demo n
+        → DemoCommand (Changes (replacement_of replacer.now)) n options.now.words (course O.tells (O.state out.old) (O.state out.new)) result }
+    ensures standard_input { mode_of options.now ≡ mode.stream → InputCommand (Changes (replacement_of replacer.now))
+        (course S.tells (S.state input.old) (S.state input.new)) (course O.tells (O.state out.old) (O.state out.new)) result }
+    ensures files { mode_of options.now ≡ mode.files
+        → FilesCommand (Changes (replacement_of replacer.now)) options.now.words (course D.tells (D.state disk.old) (D.state disk.new)) result }
+    ensures preview { mode_of options.now ≡ mode.preview → PreviewCommand (Changes (replacement_of replacer.now)) options.now.words
+        (course D.tells (D.state disk.old) (D.state disk.new)) (course O.tells (O.state out.old) (O.state out.new)) result }
+    ensures disk_kept { CallsNoDisk (mode_of options.now) result → disk.new ≡ disk.old }
+    ensures input_kept { ReadsNoInput (mode_of options.now) → input.new ≡ input.old }
+    ensures out_kept { WritesNoOutput (mode_of options.now) result → out.new ≡ out.old }
+{
+    match (&options.root, options.demo) {
+        (Some(root), _) => tree_command(alloc, disk, out, root.as_str(), &options.words, replacer),
+        (None, Some(n)) => demo_command(alloc, out, n, &options.words, replacer),
+        (None, None) => words_command(
+            alloc,
+            options.preview,
+            &options.words,
+            replacer,
+            disk,
+            input,
+            out,
+        ),
+    }
 }

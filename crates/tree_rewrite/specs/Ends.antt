@@ -1,5 +1,5 @@
 -- How the rewriting of files ends where not all are rewritten.
-use Rattle.std.specs.Prelude.{◌≡◌, ◌≢◌, ℕ, IsTrue, List, [], All, ⊤}
+use Rattle.std.specs.Prelude.{◌≡◌, ◌≢◌, ℕ, IsTrue, List, [], All, Contains, ⊤}
 use Rattle.sd_edge.specs.Tree.{NameList, Tree}
 use Rattle.sd_edge.specs.Disk.{DiskState}
 use Rattle.sd_change.specs.Change.{Change}
@@ -10,12 +10,13 @@ use Rattle.tree_rewrite.specs.Turns.{FailsFiles}
 use Rattle.tree_rewrite.specs.declared.fault.FilesFault.{FilesFault}
 use Rattle.tree_rewrite.specs.declared.fault.FilesFault.TheVariants as fault
 
--- at least one file failed
+-- at least one file failed, each by one of the paths
 pub record FailsJobs (change : Change) (paths : List (List ℕ)) (d : Course DiskState) (jobs : List Job) : Type 0 where
   pub some : jobs ≢ []
   pub files : IsTrue d.tells → (places : List NameList) → ListsFiles d.old.tree paths places → FailsFiles change paths places jobs d.old d.new
   pub causes : HaveCauses d jobs
   pub name_files : All NamesFile jobs
+  pub by_paths : All (λ failed. Contains paths failed.0) jobs
 
 -- What a refusal leaves, and why it comes.
 abbrev pub FilesFail : Change → List (List ℕ) → Course DiskState → FilesFault → Type 0

@@ -1,5 +1,5 @@
 -- Files that are to be rewritten.
-use Rattle.std.specs.Prelude.{◌≡◌, ℕ, List, ◌∷◌, map, true, Some, Contains}
+use Rattle.std.specs.Prelude.{◌≡◌, ℕ, List, map, true, Some, Contains}
 use Rattle.std.specs.List.Sorted.{IsStrictlySortedBy}
 use Rattle.sd_edge.specs.Tree.{NameList, Tree, name_list_cmp}
 use Rattle.sd_edge.specs.Paths.{reached, parent_of}

@@ -8,7 +8,7 @@ use Rattle.sd_edge.specs.Files.{LeadsNowhere}
 use Rattle.sd_change.specs.Change.{Change}
 use Rattle.sd_course.specs.Course.{Course, AsTold, DiskFailed}
 use Rattle.chosen_files.specs.Globs.{IsValid, IsFirstInvalid}
-use Rattle.chosen_files.specs.Chosen.{IsChosen, ListsChosen}
+use Rattle.chosen_files.specs.Chosen.{IsChosen, IsPathBelow, ListsChosen}
 use Rattle.chosen_files.specs.Below.{HasFewerBelow, HasManyBelow}
 use Rattle.chosen_files.specs.Choice.{WalkFails}
 use Rattle.tree_rewrite.specs.Files.{HasRoom}
@@ -30,7 +30,7 @@ pub record RewritesTree (change : Change) (root : List ℕ) (globs : List (List 
   pub chosen : ListsChosen old.tree root globs paths
   pub files : RewritesFiles change chosen.places report old new
 
--- some chosen files failed, and exactly these are the jobs
+-- some chosen files failed, and exactly these are the jobs, each by its path from the root as it was given
 pub record FailsTree (change : Change) (root : List ℕ) (globs : List (List ℕ)) (jobs : List Job) (old new : DiskState) : Type 0 where
   pub paths : List (List ℕ)
   pub chosen : ListsChosen old.tree root globs paths
@@ -43,6 +43,7 @@ pub record FailsSomeBelow (change : Change) (root : List ℕ) (globs : List (Lis
   pub files : IsTrue d.tells → FailsTree change root globs jobs d.old d.new
   pub causes : HaveCauses d jobs
   pub name_files : All NamesFile jobs
+  pub below_root : All (λ failed. IsPathBelow root failed.0) jobs
 
 -- What a refused sweep leaves, and why it is refused.
 abbrev pub SweepFails : Change → List ℕ → List (List ℕ) → ℕ → Course DiskState → SweepFault → Type 0

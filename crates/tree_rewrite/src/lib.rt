@@ -13,7 +13,10 @@ mod rewriting;
 mod sweep_fault;
 mod sweeping;
 
-pub use examples::{files_are_counted, jobs_are_the_failed_files};
+pub use examples::{
+    files_are_counted, jobs_are_the_failed_files, sweeps_fail_as_in_the_examples,
+    trees_are_rewritten_as_in_the_examples,
+};
 pub use fault::FilesFault;
 pub use jobs::FailedJobs;
 pub use report::Report;

@@ -24,7 +24,8 @@ pub enum SweepFault {
     /// As many entries lie below the root as the caller's cap, or more.
     #[error("too many entries")]
     TooMany,
-    /// These files could not be processed. All others are rewritten.
+    /// These files could not be processed. All others are rewritten. The path of each is the root as it was given, and its names
+    /// from there.
     #[error("failed processing files:\n\t{0}")]
     Failed(FailedJobs),
     /// There is no memory left. Nothing was written.

@@ -5,6 +5,7 @@ ghost use Rattle.sd_edge.specs.Crashes.{LeavesSince, IsDurable};
 ghost use Rattle.sd_course.specs.Course.{course};
 ghost use Rattle.file_rewrite.specs.Paths.{IsNoPath};
 ghost use Rattle.chosen_files.specs.Globs.{IsFirstInvalid};
+ghost use Rattle.chosen_files.specs.Chosen.{IsPathBelow};
 ghost use Rattle.chosen_files.specs.Below.{HasFewerBelow};
 ghost use Rattle.chosen_files.specs.Choice.{KeepsLists};
 ghost use Rattle.tree_rewrite.specs.Files.{IsFreeBeside};
@@ -22,7 +23,8 @@ use std::alloc::Global;
 
 /// Rewrites each chosen file below a root, where fewer than `cap` entries lie there: each regular nonempty file whose path from
 /// the root fits a glob, in the order of names. The tree is listed whole before the first write. A file that fails is a job,
-/// and the others go on.
+/// and the others go on. The path of a job is the root as it was given, `/` unless it ends with it, and the file's names from
+/// there, joined by `/`.
 ///
 /// Refuses, with the tree as it was, `BadGlob` with the place of the first invalid glob, before the disk is called;
 /// `RootMissing` where the root leads to no node; `Walk` with a counted fault; `TooMany` where the cap or more entries lie
@@ -97,6 +99,7 @@ pub fn sweep<D: Disk, R: Replaces>(
 fn keep_named(mut paths: Vec<Text>) -> Vec<Text>
     ensures named { All (λ path. IsNoPath path → ⊥) result.items }
     ensures all { All (λ path. IsNoPath path → ⊥) paths.items → result.items ≡ paths.items }
+    ensures below { (root : List ℕ) → All (IsPathBelow root) paths.items → All (IsPathBelow root) result.items }
 {
     paths.retain(|path| names_file(path.as_str()));
     paths

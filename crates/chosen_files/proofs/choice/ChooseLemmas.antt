@@ -77,12 +77,12 @@ leads_below old now root top cap entries is same l =
     (All-from_recursion (LeadsTo old) entries (all_lead old l.place lists.places entries is lists.entries))
 
 pub chosen_below : (old mid next : Tree) (root top text : List ℕ) (cap : ℕ) (globs : List (List ℕ)) (entries : List DirEntry) (paths : List (List ℕ)) → IsTree mid → mid ≡ old → next ≡ mid
-    → text ≡ top → ListsBelowTop mid root top cap entries → Picks next text globs (map entry_item entries) paths → ListsChosen old root globs paths
+    → text ≡ top → ListsBelowTop mid root top cap entries → Picks next root text globs (map entry_item entries) paths → ListsChosen old root globs paths
 chosen_below old mid next root top text cap globs entries paths is same later named l picks =
     subst (λ (t : Tree). ListsChosen t root globs paths) same
     (listed_chosen mid first_options root l.place globs (map entry_item entries) paths is l.walk
-    (subst (λ (t : Tree). Picks t (path_text l.place) globs (map entry_item entries) paths) later
-    (subst (λ (p : List ℕ). Picks next p globs (map entry_item entries) paths) (named ∙ l.top_is) picks)))
+    (subst (λ (t : Tree). Picks t root (path_text l.place) globs (map entry_item entries) paths) later
+    (subst (λ (p : List ℕ). Picks next root p globs (map entry_item entries) paths) (named ∙ l.top_is) picks)))
 
 pub few_below : (old mid : Tree) (root top : List ℕ) (cap : ℕ) (entries : List DirEntry) → IsTree mid → mid ≡ old → ListsBelowTop mid root top cap entries → HasFewerBelow cap old root
 few_below old mid root top cap entries is same l =

@@ -2,7 +2,7 @@
 use Rattle.std.proofs.Common.{◌≡◌, ◌<◌, ◌≤◌, inl, inr, ℕ, zero, suc, length, get_or, Bool, List, [], ◌∷◌, ◌++◌, map, Ok, Err, refl, sym, ◌∙◌, ap, subst, arith}
 use Rattle.std.specs.Prelude.{All}
 use Rattle.std.proofs.lemmas.List.{map-append}
-use Rattle.std.proofs.lemmas.List.Elements.{recursion_from_All}
+use Rattle.std.proofs.lemmas.List.Elements.{All-push, recursion_from_All}
 use Rattle.sd_edge.specs.Count.{HasRisen}
 use Rattle.sd_edge.specs.Disk.{DiskState, SameLists, SameTree}
 use Rattle.sd_edge.specs.Tree.{Tree}
@@ -13,6 +13,7 @@ use Rattle.walk_rest.specs.declared.error.Error.TheVariants.{Disk, Absent, Loop,
 use Rattle.walk_rest.specs.Plan.{Item, path_below}
 use Rattle.walkdir.specs.Collect.{entry_item}
 use Rattle.chosen_files.specs.Choice.{LeadsTo, WalkFails}
+use Rattle.chosen_files.specs.Chosen.{IsPathBelow}
 use Rattle.chosen_files.specs.Globs.{FitsAny}
 use Rattle.chosen_files.specs.Picks.{IsPicked, Picks}
 use Rattle.chosen_files.proofs.laws.BelowLemmas.{same_below}
@@ -20,20 +21,20 @@ use Rattle.chosen_files.proofs.laws.PlaceLemmas.{In, in_from_all}
 
 -- ---- one more entry
 
-module _ (tree : Tree) (root : List ℕ) (globs : List (List ℕ)) (entry : DirEntry) where
-  pub picks_more : (items : List Item) (paths : List (List ℕ)) → Picks tree root globs items paths → IsPicked tree root globs entry
-      → Picks tree root globs (items ++ Ok entry ∷ []) (paths ++ entry.path ∷ [])
-  picks_more [] paths picks picked = inl (picked, ([], ap (λ (ps : List (List ℕ)). ps ++ entry.path ∷ []) picks, refl))
+module _ (tree : Tree) (root top : List ℕ) (globs : List (List ℕ)) (entry : DirEntry) where
+  pub picks_more : (items : List Item) (paths : List (List ℕ)) → Picks tree root top globs items paths → (picked : IsPicked tree top globs entry)
+      → Picks tree root top globs (items ++ Ok entry ∷ []) (paths ++ path_below root picked.names ∷ [])
+  picks_more [] paths picks picked = inl (picked, [], ap (λ (ps : List (List ℕ)). ps ++ path_below root picked.names ∷ []) picks, refl)
   picks_more (Err error ∷ items) paths picks picked = picks_more items paths picks picked
-  picks_more (Ok first ∷ items) paths (inl (one, (more, are, picks))) picked =
-      inl (one, (more ++ entry.path ∷ [], ap (λ (ps : List (List ℕ)). ps ++ entry.path ∷ []) are, picks_more items more picks picked))
+  picks_more (Ok first ∷ items) paths (inl (one, more, are, picks)) picked =
+      inl (one, more ++ path_below root picked.names ∷ [], ap (λ (ps : List (List ℕ)). ps ++ path_below root picked.names ∷ []) are, picks_more items more picks picked)
   picks_more (Ok first ∷ items) paths (inr (not, picks)) picked = inr (not, picks_more items paths picks picked)
 
-  pub picks_past : (items : List Item) (paths : List (List ℕ)) → Picks tree root globs items paths → ¬ IsPicked tree root globs entry
-      → Picks tree root globs (items ++ Ok entry ∷ []) paths
+  pub picks_past : (items : List Item) (paths : List (List ℕ)) → Picks tree root top globs items paths → ¬ IsPicked tree top globs entry
+      → Picks tree root top globs (items ++ Ok entry ∷ []) paths
   picks_past [] paths picks not_picked = inr (not_picked, picks)
   picks_past (Err error ∷ items) paths picks not_picked = picks_past items paths picks not_picked
-  picks_past (Ok first ∷ items) paths (inl (one, (more, are, picks))) not_picked = inl (one, (more, are, picks_past items more picks not_picked))
+  picks_past (Ok first ∷ items) paths (inl (one, more, are, picks)) not_picked = inl (one, more, are, picks_past items more picks not_picked)
   picks_past (Ok first ∷ items) paths (inr (not, picks)) not_picked = inr (not, picks_past items paths picks not_picked)
 
 -- ---- one entry
@@ -70,22 +71,31 @@ next_leads old now entries at entry same all within is =
     in_at (e ∷ es) (suc k) lt f = inr (in_at es k (omega (arith, lt)) f)
 
 -- an entry more, picked or passed over
-pub pick_more : (old now : Tree) (root : List ℕ) (globs : List (List ℕ)) (entry : DirEntry) (yielded : List DirEntry) (paths new : List (List ℕ)) (path : List ℕ) → now ≡ old
-    → Picks old root globs (map entry_item yielded) paths → IsPicked now root globs entry → new ≡ paths ++ path ∷ [] → path ≡ entry.path
-    → Picks old root globs (map entry_item (yielded ++ entry ∷ [])) new
-pick_more old now root globs entry yielded paths new path same picks picked pushed is =
-    let more = picks_more old root globs entry (map entry_item yielded) paths picks (subst (λ (t : Tree). IsPicked t root globs entry) same picked) in
+pub pick_more : (old now : Tree) (root top : List ℕ) (globs : List (List ℕ)) (entry : DirEntry) (yielded : List DirEntry) (paths new : List (List ℕ)) (names path : List ℕ) → now ≡ old
+    → Picks old root top globs (map entry_item yielded) paths → IsPicked now top globs entry → entry.path ≡ path_below top names
+    → new ≡ paths ++ path ∷ [] → path ≡ path_below root names
+    → Picks old root top globs (map entry_item (yielded ++ entry ∷ [])) new
+pick_more old now root top globs entry yielded paths new names path same picks picked named pushed is =
+    let one = subst (λ (t : Tree). IsPicked t top globs entry) same picked in
+    let more = picks_more old root top globs entry (map entry_item yielded) paths picks one in
     let items : map entry_item (yielded ++ entry ∷ []) ≡ map entry_item yielded ++ Ok entry ∷ [] = map-append entry_item yielded (entry ∷ []) in
-    let all : new ≡ paths ++ entry.path ∷ [] = pushed ∙ ap (λ (p : List ℕ). paths ++ p ∷ []) is in
-    subst (λ (ps : List (List ℕ)). Picks old root globs (map entry_item (yielded ++ entry ∷ [])) ps) (sym all)
-    (subst (λ (xs : List Item). Picks old root globs xs (paths ++ entry.path ∷ [])) (sym items) more)
+    let text : path ≡ path_below root one.names = is ∙ ap (path_below root) (same_below top names one.names (sym named ∙ one.path_is)) in
+    let all : new ≡ paths ++ path_below root one.names ∷ [] = pushed ∙ ap (λ (p : List ℕ). paths ++ p ∷ []) text in
+    subst (λ (ps : List (List ℕ)). Picks old root top globs (map entry_item (yielded ++ entry ∷ [])) ps) (sym all)
+    (subst (λ (xs : List Item). Picks old root top globs xs (paths ++ path_below root one.names ∷ [])) (sym items) more)
 
-pub pick_past : (old now : Tree) (root : List ℕ) (globs : List (List ℕ)) (entry : DirEntry) (yielded : List DirEntry) (paths : List (List ℕ)) → now ≡ old
-    → Picks old root globs (map entry_item yielded) paths → ¬ IsPicked now root globs entry → Picks old root globs (map entry_item (yielded ++ entry ∷ [])) paths
-pick_past old now root globs entry yielded paths same picks not_picked =
-    let past = picks_past old root globs entry (map entry_item yielded) paths picks (λ picked. not_picked (subst (λ (t : Tree). IsPicked t root globs entry) (sym same) picked)) in
+pub pick_past : (old now : Tree) (root top : List ℕ) (globs : List (List ℕ)) (entry : DirEntry) (yielded : List DirEntry) (paths : List (List ℕ)) → now ≡ old
+    → Picks old root top globs (map entry_item yielded) paths → ¬ IsPicked now top globs entry → Picks old root top globs (map entry_item (yielded ++ entry ∷ [])) paths
+pick_past old now root top globs entry yielded paths same picks not_picked =
+    let past = picks_past old root top globs entry (map entry_item yielded) paths picks (λ picked. not_picked (subst (λ (t : Tree). IsPicked t top globs entry) (sym same) picked)) in
     let items : map entry_item (yielded ++ entry ∷ []) ≡ map entry_item yielded ++ Ok entry ∷ [] = map-append entry_item yielded (entry ∷ []) in
-    subst (λ (xs : List Item). Picks old root globs xs paths) (sym items) past
+    subst (λ (xs : List Item). Picks old root top globs xs paths) (sym items) past
+
+-- a path more
+pub below_more : (root : List ℕ) (paths new : List (List ℕ)) (names path : List ℕ) → All (IsPathBelow root) paths → new ≡ paths ++ path ∷ [] → path ≡ path_below root names
+    → All (IsPathBelow root) new
+below_more root paths new names path below pushed is =
+    subst (All (IsPathBelow root)) (sym pushed) (All-push (IsPathBelow root) paths path below (names, is))
 
 -- what both calls keep
 pub tree_on : (old mid new : DiskState) → SameTree old mid → SameTree mid new → SameTree old new

@@ -1,34 +1,28 @@
 -- Where paths of the examples' tree lead, and which of its entries are picked.
-use Rattle.std.proofs.Common.{◌≡◌, ◌≢◌, ◌<◌, ℕ, true, false, cond, List, [], ◌∷◌, ◌++◌, Option, Some, None, refl, sym, ◌∙◌, ap, subst, inl, inr, arith}
-use Rattle.std.specs.Prelude.{codes, chars, slice_get}
-use Rattle.std.specs.List.{AllByRecursion}
+use Rattle.std.proofs.Common.{◌≡◌, ◌≢◌, ◌<◌, ℕ, true, false, cond, List, [], ◌∷◌, ◌++◌, Option, Some, None, refl, sym, ◌∙◌, ap, subst, arith}
+use Rattle.std.specs.Prelude.{codes, slice_get}
 use Rattle.std.specs.Option.{option_and_then}
-use Rattle.std.specs.Str.{bytes_eq, IsAscii}
-use Rattle.std.specs.Cmp.Lexicographic.{lists_total, nat_list_cmp_total}
-use Rattle.std.specs.FinMap.{find, get-from_entries}
-use Rattle.std.proofs.lemmas.List.Elements.{All-from_recursion}
+use Rattle.std.specs.Str.{bytes_eq}
+use Rattle.std.specs.FinMap.{find}
 use Rattle.std.proofs.lemmas.Option.{same_Some}
-use Rattle.std.proofs.lemmas.Str.{chars-IsAscii}
-use Rattle.std.proofs.lemmas.Str.Ascii.{IsAscii-from_all}
 use Rattle.sd_edge.specs.Tree.{Name, NameList, Content, directory, link, file, other, Node, Tree, name_list_cmp, node_at, is_directory_at, is_directory_node}
 use Rattle.sd_edge.specs.Paths.{Linking, through_node, steps, followed, start_of, parts_of, is_up, reached}
 use Rattle.sd_edge.specs.Files.{len_of}
 use Rattle.sd_edge.specs.declared.meta.Kind.TheVariants as kind
 use Rattle.walk_rest.specs.declared.entry.DirEntry.{DirEntry}
 use Rattle.walk_rest.specs.Examples.{tree_with}
-use Rattle.walk_rest.specs.Plan.{node_to}
-use Rattle.glob_match.specs.Takes.{Fits}
+use Rattle.walk_rest.specs.Plan.{node_to, path_below}
 use Rattle.chosen_files.specs.Examples.{d_nodes}
 use Rattle.chosen_files.specs.Globs.{FitsAny}
 use Rattle.chosen_files.specs.Picks.{IsPicked}
 use Rattle.chosen_files.proofs.laws.BelowLemmas.{same_below}
-use Rattle.chosen_files.proofs.laws.PlaceLemmas.{in_from_contains, contains_from_in}
+use Rattle.chosen_files.proofs.examples.GlobLemmas.{fits_one, fits_only}
+use Rattle.chosen_files.proofs.examples.StandsLemmas.{node_is}
 
 -- ---- the tree
 
 stands : (place : NameList) → node_at (tree_with d_nodes) place ≡ find name_list_cmp place d_nodes
-unfolding tree_with
-stands place = get-from_entries (lists_total nat_list_cmp_total) d_nodes place
+stands place = node_is d_nodes place
 
 -- a step from a directory to what is no link
 step_down : (tree : Tree) (linking : Linking) (at : NameList) (part : Name) (parts : List Name) (c : Content) (dev ino : ℕ)
@@ -108,11 +102,11 @@ module _ (globs : List (List ℕ)) where
   Picked = IsPicked (tree_with d_nodes) (codes "/d") globs
 
   pub root_not : ¬ Picked (record { path = codes "/d"; kind = kind.Directory; depth = 0; ino = 0; followed = false })
-  root_not picked = let deep = picked.below_root in absurd (omega (arith, deep))
+  root_not picked = let deep = picked.below_top in absurd (omega (arith, deep))
 
   pub a_picked : FitsAny globs (codes "a") → Picked (record { path = codes "/d/a"; kind = kind.File; depth = 1; ino = 3; followed = false })
   a_picked fits = record {
-    below_root = omega arith;
+    below_top = omega arith;
     is_file = refl;
     node = record { content = file (codes "hi") 420; dev = 0; ino = 3 };
     leads = node_there (codes "/d/a") (codes "d" ∷ codes "a" ∷ []) to_a;
@@ -121,6 +115,11 @@ module _ (globs : List (List ℕ)) where
     path_is = refl;
     fits = fits;
   }
+
+  -- its path below a root is of its names
+  pub picked_path : (root names : List ℕ) (entry : DirEntry) → entry.path ≡ path_below (codes "/d") names
+      → (picked : IsPicked (tree_with d_nodes) (codes "/d") globs entry) → path_below root names ≡ path_below root picked.names
+  picked_path root names entry e picked = ap (path_below root) (same_below (codes "/d") names picked.names (sym e ∙ picked.path_is))
 
   -- the file is empty
   pub e_not : ¬ Picked (record { path = codes "/d/e"; kind = kind.File; depth = 1; ino = 4; followed = false })
@@ -139,7 +138,7 @@ module _ (globs : List (List ℕ)) where
 
   pub b_picked : FitsAny globs (codes "s/b") → Picked (record { path = codes "/d/s/b"; kind = kind.File; depth = 2; ino = 7; followed = false })
   b_picked fits = record {
-    below_root = omega arith;
+    below_top = omega arith;
     is_file = refl;
     node = record { content = file (codes "hi") 420; dev = 0; ino = 7 };
     leads = node_there (codes "/d/s/b") (codes "d" ∷ codes "s" ∷ codes "b" ∷ []) to_b;
@@ -155,16 +154,6 @@ module _ (globs : List (List ℕ)) where
       (same_below (codes "/d") picked.names (codes "s/b") (sym picked.path_is)) picked.fits)
 
 -- ---- globs
-
-ascii : (text : List ℕ) → AllByRecursion (λ b. b < 128) text → IsAscii text
-ascii text each = IsAscii-from_all text (All-from_recursion (λ b. b < 128) text each)
-
--- the characters of the globs and the paths are their bytes
-by_bytes : (glob path : List ℕ) → AllByRecursion (λ b. b < 128) glob → AllByRecursion (λ b. b < 128) path → Fits (chars glob) (chars path) ≡ Fits glob path
-by_bytes glob path low small = λ i. Fits (chars-IsAscii glob (ascii glob low) i) (chars-IsAscii path (ascii path small) i)
-
-fits_one : (glob path : List ℕ) → AllByRecursion (λ b. b < 128) glob → AllByRecursion (λ b. b < 128) path → Fits glob path → FitsAny (glob ∷ []) path
-fits_one glob path low small fits = (glob, contains_from_in (glob ∷ []) glob (inl refl), subst (λ (F : Type 0). F) (sym (by_bytes glob path low small)) fits)
 
 no_slash : (place : ℕ) → place < 1 → slice_get (codes "a") place ≢ Some 47
 no_slash place within e =
@@ -183,12 +172,6 @@ pub star_fits_a : FitsAny (codes "*" ∷ []) (codes "a")
 star_fits_a = fits_one (codes "*") (codes "a") (omega arith, tt) (omega arith, tt) (1, (omega arith, omega arith, λ place from to. no_slash place to), refl)
 
 pub star_not_b : ¬ FitsAny (codes "*" ∷ []) (codes "s/b")
-star_not_b (one, is_one, fits) = elim (in_from_contains (codes "*" ∷ []) one is_one) [
-  | inl e ↦
-      let fits' : Fits (codes "*") (codes "s/b") =
-      subst (λ (F : Type 0). F) (by_bytes (codes "*") (codes "s/b") (omega arith, tt) (omega arith, (omega arith, (omega arith, tt))))
-      (subst (λ (g : List ℕ). Fits (chars g) (chars (codes "s/b"))) (sym e) fits) in
-      let (mid, (from, to, none), end) = fits' in
-      none 1 (omega arith) (omega (arith, end)) refl
-  | inr i ↦ absurd i
-]
+star_not_b any =
+    let (mid, (from, to, none), end) = fits_only (codes "*") (codes "s/b") (omega arith, tt) (omega arith, (omega arith, (omega arith, tt))) any in
+    none 1 (omega arith) (omega (arith, end)) refl

@@ -11,7 +11,7 @@ use Rattle.chosen_files.proofs.laws.PlaceLemmas.{In, contains_from_in}
 
 -- ---- texts that end with `/`
 
-abbrev ends : List ℕ → Bool
+abbrev pub ends : List ℕ → Bool
 ends xs = ends_with nat_eq xs (47 ∷ [])
 
 ends_cons : (x y : ℕ) (ys : List ℕ) → ends (x ∷ y ∷ ys) ≡ ends (y ∷ ys)
@@ -37,17 +37,17 @@ ends_name x [] none = ends_one x (λ e. none (inl (sym e)))
 ends_name x (y ∷ ys) none = ends_cons x y ys ∙ ends_name y ys (λ i. none (inr i))
 
 -- a text that isn't empty and doesn't end with `/`
-record IsPlain (text : List ℕ) : Type 0 where
-  first : ℕ
-  more : List ℕ
-  text_is : text ≡ first ∷ more
-  plain : ends text ≡ false
+pub record IsPlain (text : List ℕ) : Type 0 where
+  pub first : ℕ
+  pub more : List ℕ
+  pub text_is : text ≡ first ∷ more
+  pub plain : ends text ≡ false
 
-name_plain : (name : Name) → IsName name → IsPlain name
+pub name_plain : (name : Name) → IsName name → IsPlain name
 name_plain [] real = absurd (real.nonempty refl)
 name_plain (x ∷ xs) real = record { first = x; more = xs; text_is = refl; plain = ends_name x xs (λ i. real.no_slash (contains_from_in (x ∷ xs) 47 i)) }
 
-plain_after : (front text : List ℕ) → IsPlain text → IsPlain (front ++ text)
+pub plain_after : (front text : List ℕ) → IsPlain text → IsPlain (front ++ text)
 plain_after front text p = record {
   first = (begins front).0;
   more = (begins front).1;

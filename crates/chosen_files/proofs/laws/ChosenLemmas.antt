@@ -1,12 +1,12 @@
 -- The list of what a fact holds of is one.
-use Rattle.std.proofs.Common.{◌≡◌, ◌≤◌, inl, inr, ℕ, arith, length, List, [], ◌∷◌, map, refl, sym, subst, ap, ◌∙◌, Ordering, Less}
+use Rattle.std.proofs.Common.{◌≡◌, ◌≤◌, inl, inr, ℕ, arith, length, List, [], ◌∷◌, ◌++◌, map, refl, sym, subst, ap, ◌∙◌, Ordering, Less}
 use Rattle.std.specs.List.Sorted.{IsStrictlySortedBy}
 use Rattle.std.specs.Cmp.{IsTotalOrder, tied_itself}
 use Rattle.sd_edge.specs.Tree.{NameList, Tree, name_list_cmp}
-use Rattle.sd_edge.specs.Files.{path_text}
+use Rattle.std.proofs.lemmas.List.{append_cancel_left}
 use Rattle.std.proofs.lemmas.List.Elements.{recursion_from_All}
 use Rattle.chosen_files.specs.Below.{IsBelow, HasFewerBelow, HasManyBelow}
-use Rattle.chosen_files.specs.Chosen.{IsListOf, Chosen, ListsChosen}
+use Rattle.chosen_files.specs.Chosen.{IsListOf, Chosen, path_from, ListsChosen}
 use Rattle.chosen_files.proofs.laws.PlaceLemmas.{In, in_from_contains, contains_from_in, in_from_all, place_total}
 
 -- what comes before itself isn't there
@@ -84,12 +84,24 @@ one_list_of P xs ys h k =
 pub one_chosen : (tree : Tree) (root : NameList) (globs : List (List ℕ)) (xs ys : List NameList) → Chosen tree root globs xs → Chosen tree root globs ys → xs ≡ ys
 one_chosen tree root globs xs ys h k = one_list_of _ xs ys h k
 
+-- places below a top differ where their names do
+same_names : (top : NameList) (xs ys : List NameList) → map (λ below. top ++ below) xs ≡ map (λ below. top ++ below) ys → xs ≡ ys
+same_names top [] [] e = refl
+same_names top [] (y ∷ ys) e = cc
+same_names top (x ∷ xs) [] e = cc
+same_names top (x ∷ xs) (y ∷ ys) e =
+    let first = append_cancel_left top x y (cc e) in
+    let rest = same_names top xs ys (cc e) in
+    λ i. first i ∷ rest i
+
 -- and one list of their paths
 pub one_list_of_paths : (tree : Tree) (root : List ℕ) (globs : List (List ℕ)) (xs ys : List (List ℕ)) → ListsChosen tree root globs xs → ListsChosen tree root globs ys → xs ≡ ys
 one_list_of_paths tree root globs xs ys h k =
     let top : k.top ≡ h.top = cc (h.leads, k.leads) in
     let same = one_chosen tree h.top globs h.places k.places h.chosen (subst (λ (t : NameList). Chosen tree t globs k.places) top k.chosen) in
-    h.paths_are ∙ ap (map path_text) same ∙ sym k.paths_are
+    let below : map (λ below. h.top ++ below) h.names ≡ map (λ below. h.top ++ below) k.names =
+    sym h.places_are ∙ same ∙ k.places_are ∙ ap (λ (t : NameList). map (λ below. t ++ below) k.names) top in
+    h.paths_are ∙ ap (map (path_from root)) (same_names h.top h.names k.names below) ∙ sym k.paths_are
 
 -- not both fewer than so many and so many or more entries lie below a root
 pub fewer_not_many : (cap : ℕ) (tree : Tree) (root : List ℕ) → HasFewerBelow cap tree root → HasManyBelow cap tree root → ⊥

@@ -14,7 +14,7 @@ use Rattle.sd_edge.proofs.PathTextLemmas.{text_not_followed}
 use Rattle.walk_rest.specs.declared.entry.DirEntry.{DirEntry}
 use Rattle.walk_rest.specs.declared.options.Options.{Options}
 use Rattle.walk_rest.specs.Plan.{Item, path_below, node_to}
-use Rattle.chosen_files.specs.Chosen.{IsChosen, Chosen, ListsChosen}
+use Rattle.chosen_files.specs.Chosen.{IsChosen, Chosen, path_from, ListsChosen}
 use Rattle.chosen_files.specs.Globs.{FitsAny}
 use Rattle.chosen_files.specs.Picks.{IsWithin}
 use Rattle.chosen_files.specs.Picks.{StandsIn, IsEntryAt, AreEntriesAt, ListsAllIn, IsPicked, Picks, WalksWhole}
@@ -47,19 +47,29 @@ module _ (tree : Tree) (is : IsTree tree) (top : NameList) (globs : List (List �
     names_join : within.0 ≢ [] → entry.path ≡ path_below (path_text top) (join_with_byte 47 within.0)
     names_join some = at.path_is ∙ ap path_text within.1 ∙ sym (below_place tree top within.0 is there some)
 
+    picked_proper : IsPicked tree (path_text top) globs entry → within.0 ≢ []
+    picked_proper picked = longer_below top place within.0 entry.depth within.1 at.depth_is picked.below_top
+
+    -- what is picked has the names for its text
+    picked_names : (picked : IsPicked tree (path_text top) globs entry) → within.0 ≢ [] → picked.names ≡ join_with_byte 47 within.0
+    picked_names picked proper = same_below (path_text top) picked.names (join_with_byte 47 within.0) (sym picked.path_is ∙ names_join proper)
+
     picked_chosen : IsPicked tree (path_text top) globs entry → IsChosen tree top globs place
     picked_chosen picked =
-        let proper = longer_below top place within.0 entry.depth within.1 at.depth_is picked.below_root in
+        let proper = picked_proper picked in
         let node : picked.node ≡ at.node = same_Some picked.node at.node (sym picked.leads ∙ leads_there) in
         let nonempty = nonempty_content at.node.content (sym at.kind_is ∙ picked.is_file) (subst (λ (n : Node). 0 < len_of n.content) node picked.nonempty) in
-        let text = same_below (path_text top) picked.names (join_with_byte 47 within.0) (sym picked.path_is ∙ names_join proper) in
         record {
           names = within.0;
           below = within.1;
           proper = proper;
           is_file = (nonempty.0, nonempty.1, nonempty.2, file_is ∙ nonempty.3);
-          fits = subst (λ (t : List ℕ). FitsAny globs t) text picked.fits;
+          fits = subst (λ (t : List ℕ). FitsAny globs t) (picked_names picked proper) picked.fits;
         }
+
+    -- and its path below a root is of them
+    picked_path : (root : List ℕ) (picked : IsPicked tree (path_text top) globs entry) → path_below root picked.names ≡ path_from root within.0
+    picked_path root picked = ap (path_below root) (picked_names picked (picked_proper picked))
 
     chosen_picked : IsChosen tree top globs place → IsPicked tree (path_text top) globs entry
     chosen_picked chosen =
@@ -68,7 +78,7 @@ module _ (tree : Tree) (is : IsTree tree) (top : NameList) (globs : List (List �
         let names : chosen.names ≡ within.0 = append_cancel_left top chosen.names within.0 (sym chosen.below ∙ within.1) in
         let proper : within.0 ≢ [] = λ none. chosen.proper (names ∙ none) in
         record {
-          below_root = deeper within.0 within.1 proper;
+          below_top = deeper within.0 within.1 proper;
           is_file = at.kind_is ∙ nonempty.0;
           node = at.node;
           leads = leads_there;
@@ -86,18 +96,20 @@ module _ (tree : Tree) (is : IsTree tree) (top : NameList) (globs : List (List �
             let m = length-append top (name ∷ names) in
             omega (arith, long, l, m)
 
-  -- of entries at some places in order, the chosen ones
-  record AreChosenOf (places : List NameList) (paths : List (List ℕ)) : Type 0 where
+  -- of entries at some places in order, the chosen ones, and their paths below a root
+  record AreChosenOf (root : List ℕ) (places : List NameList) (paths : List (List ℕ)) : Type 0 where
     chosen : List NameList
     in_order : IsStrictlySortedBy name_list_cmp chosen
     these : (q : NameList) → In q chosen ↔ (In q places × IsChosen tree top globs q)
-    paths_are : paths ≡ map path_text chosen
+    names : List NameList
+    chosen_are : chosen ≡ map (λ below. top ++ below) names
+    paths_are : paths ≡ map (path_from root) names
 
-  one_more : (place : NameList) (entry : DirEntry) (places : List NameList) (paths more : List (List ℕ)) → IsEntryAt tree top place entry
-      → AllByRecursion (λ q. name_list_cmp place q ≡ Less) places → IsChosen tree top globs place → paths ≡ entry.path ∷ more
-      → AreChosenOf places more → AreChosenOf (place ∷ places) paths
+  one_more : (root : List ℕ) (place : NameList) (places : List NameList) (paths more : List (List ℕ)) (within : IsWithin top place)
+      → AllByRecursion (λ q. name_list_cmp place q ≡ Less) places → IsChosen tree top globs place → paths ≡ path_from root within.0 ∷ more
+      → AreChosenOf root places more → AreChosenOf root (place ∷ places) paths
   unfolding IsStrictlySortedBy
-  one_more place entry places paths more at first chosen are rest = record {
+  one_more root place places paths more within first chosen are rest = record {
     chosen = place ∷ rest.chosen;
     in_order = (
       all_from_in (λ q. name_list_cmp place q ≡ Less) rest.chosen
@@ -105,7 +117,9 @@ module _ (tree : Tree) (is : IsTree tree) (top : NameList) (globs : List (List �
       rest.in_order,
     );
     these = λ q. (from_in q, to_in q);
-    paths_are = are ∙ (λ i. at.path_is i ∷ rest.paths_are i);
+    names = within.0 ∷ rest.names;
+    chosen_are = λ i. within.1 i ∷ rest.chosen_are i;
+    paths_are = are ∙ (λ i. path_from root within.0 ∷ rest.paths_are i);
   }
     where
       from_in : (q : NameList) → In q (place ∷ rest.chosen) → In q (place ∷ places) × IsChosen tree top globs q
@@ -116,12 +130,14 @@ module _ (tree : Tree) (is : IsTree tree) (top : NameList) (globs : List (List �
       to_in q (inl e, c) = inl e
       to_in q (inr i, c) = inr ((rest.these q).1 (i, c))
 
-  one_passed : (place : NameList) (places : List NameList) (paths : List (List ℕ)) → ¬ IsChosen tree top globs place
-      → AreChosenOf places paths → AreChosenOf (place ∷ places) paths
-  one_passed place places paths not rest = record {
+  one_passed : (root : List ℕ) (place : NameList) (places : List NameList) (paths : List (List ℕ)) → ¬ IsChosen tree top globs place
+      → AreChosenOf root places paths → AreChosenOf root (place ∷ places) paths
+  one_passed root place places paths not rest = record {
     chosen = rest.chosen;
     in_order = rest.in_order;
     these = λ q. ((λ i. let r = (rest.these q).0 i in (inr r.0, r.1)), to_in q);
+    names = rest.names;
+    chosen_are = rest.chosen_are;
     paths_are = rest.paths_are;
   }
     where
@@ -129,44 +145,65 @@ module _ (tree : Tree) (is : IsTree tree) (top : NameList) (globs : List (List �
       to_in q (inl e, c) = absurd (not (subst (λ (q : NameList). IsChosen tree top globs q) (sym e) c))
       to_in q (inr i, c) = (rest.these q).1 (i, c)
 
-  picked_of : (places : List NameList) (items : List Item) (paths : List (List ℕ)) → AreEntriesAt tree top places items → AllByRecursion (IsWithin top) places
-      → IsStrictlySortedBy name_list_cmp places → Picks tree (path_text top) globs items paths → AreChosenOf places paths
+  picked_of : (root : List ℕ) (places : List NameList) (items : List Item) (paths : List (List ℕ)) → AreEntriesAt tree top places items
+      → AllByRecursion (IsWithin top) places → IsStrictlySortedBy name_list_cmp places → Picks tree root (path_text top) globs items paths
+      → AreChosenOf root places paths
   unfolding IsStrictlySortedBy
-  picked_of [] [] paths at within up picks = record { chosen = []; in_order = tt; these = λ q. ((λ i. absurd i), λ c. absurd c.0); paths_are = picks }
-  picked_of [] (item ∷ items) paths at within up picks = absurd at
-  picked_of (place ∷ places) [] paths at within up picks = absurd at
-  picked_of (place ∷ places) (Err error ∷ items) paths at within up picks = absurd at
-  picked_of (place ∷ places) (Ok entry ∷ items) paths at within up (inl (picked, (more, are, picks))) =
-      one_more place entry places paths more at.0 up.0 (picked_chosen place entry at.0 within.0 picked) are
-      (picked_of places items more at.1 within.1 up.1 picks)
-  picked_of (place ∷ places) (Ok entry ∷ items) paths at within up (inr (not, picks)) =
-      one_passed place places paths (λ chosen. not (chosen_picked place entry at.0 within.0 chosen)) (picked_of places items paths at.1 within.1 up.1 picks)
+  picked_of root [] [] paths at within up picks = record {
+    chosen = [];
+    in_order = tt;
+    these = λ q. ((λ i. absurd i), λ c. absurd c.0);
+    names = [];
+    chosen_are = refl;
+    paths_are = picks;
+  }
+  picked_of root [] (item ∷ items) paths at within up picks = absurd at
+  picked_of root (place ∷ places) [] paths at within up picks = absurd at
+  picked_of root (place ∷ places) (Err error ∷ items) paths at within up picks = absurd at
+  picked_of root (place ∷ places) (Ok entry ∷ items) paths at within up (inl (picked, more, are, picks)) =
+      one_more root place places paths more within.0 up.0 (picked_chosen place entry at.0 within.0 picked)
+      (are ∙ ap (λ (path : List ℕ). path ∷ more) (picked_path place entry at.0 within.0 root picked))
+      (picked_of root places items more at.1 within.1 up.1 picks)
+  picked_of root (place ∷ places) (Ok entry ∷ items) paths at within up (inr (not, picks)) =
+      one_passed root place places paths (λ chosen. not (chosen_picked place entry at.0 within.0 chosen))
+      (picked_of root places items paths at.1 within.1 up.1 picks)
 
-  pub picks_are_chosen : (items : List Item) (paths : List (List ℕ)) → ListsAllIn tree top items → Picks tree (path_text top) globs items paths
-      → (places : List NameList) × Chosen tree top globs places × (paths ≡ map path_text places)
-  picks_are_chosen items paths lists picks =
+  -- the chosen files, their names from the top, and their paths below a root
+  pub record PicksChosen (root : List ℕ) (paths : List (List ℕ)) : Type 0 where
+    pub places : List NameList
+    pub chosen : Chosen tree top globs places
+    pub names : List NameList
+    pub places_are : places ≡ map (λ below. top ++ below) names
+    pub paths_are : paths ≡ map (path_from root) names
+
+  pub picks_are_chosen : (root : List ℕ) (items : List Item) (paths : List (List ℕ)) → ListsAllIn tree top items
+      → Picks tree root (path_text top) globs items paths → PicksChosen root paths
+  picks_are_chosen root items paths lists picks =
       let within = all_from_in (IsWithin top) lists.places (λ q i. ((lists.all.these q).0 (contains_from_in lists.places q i)).0) in
-      let of = picked_of lists.places items paths lists.entries within lists.all.in_order picks in (
-        of.chosen,
-        record {
+      let of = picked_of root lists.places items paths lists.entries within lists.all.in_order picks in
+      record {
+        places = of.chosen;
+        chosen = record {
           in_order = of.in_order;
           these = λ q. (
             (λ c. ((of.these q).0 (in_from_contains of.chosen q c)).1),
             (λ chosen. contains_from_in of.chosen q ((of.these q).1 (in_from_contains lists.places q ((lists.all.these q).1 (stands_in q chosen)), chosen))),
           );
-        },
-        of.paths_are,
-      )
+        };
+        names = of.names;
+        places_are = of.chosen_are;
+        paths_are = of.paths_are;
+      }
     where
       stands_in : (q : NameList) → IsChosen tree top globs q → StandsIn tree top q
       stands_in q chosen = let (byte, bytes, mode, e) = chosen.is_file in ((chosen.names, chosen.below), file_stands (node_at tree q) (byte ∷ bytes, mode) e)
 
   -- nothing is picked where the top is no directory
-  pub none_picked : (node : Node) → node_at tree top ≡ Some node → kind_of node.content ≢ kind.Directory → (items : List Item) (paths : List (List ℕ))
-      → ListsAllIn tree top items → Picks tree (path_text top) globs items paths → paths ≡ []
-  none_picked node stands no_folder items paths lists picks =
-      let chosen = picks_are_chosen items paths lists picks in
-      chosen.2 ∙ by chosen.0 chosen.1
+  pub none_picked : (root : List ℕ) (node : Node) → node_at tree top ≡ Some node → kind_of node.content ≢ kind.Directory → (items : List Item) (paths : List (List ℕ))
+      → ListsAllIn tree top items → Picks tree root (path_text top) globs items paths → paths ≡ []
+  none_picked root node stands no_folder items paths lists picks =
+      let picked = picks_are_chosen root items paths lists picks in
+      picked.paths_are ∙ by picked.names (subst (λ (places : List NameList). Chosen tree top globs places) picked.places_are picked.chosen)
     where
       nothing : (q : NameList) (names : NameList) → IsChosen tree top globs q → q ≡ top ++ names → names ≢ [] → ⊥
       nothing q [] chosen below some = some refl
@@ -174,16 +211,16 @@ module _ (tree : Tree) (is : IsTree tree) (top : NameList) (globs : List (List �
           let (byte, bytes, mode, e) = chosen.is_file in
           nothing_below tree is top node stands no_folder q (name, rest, below, file_stands (node_at tree q) (byte ∷ bytes, mode) e)
 
-      by : (places : List NameList) → Chosen tree top globs places → map path_text places ≡ []
+      by : (names : List NameList) → Chosen tree top globs (map (λ below. top ++ below) names) → map (path_from root) names ≡ []
       by [] chosen = refl
-      by (q ∷ places) chosen =
-          let one = (chosen.these q).0 (contains_from_in (q ∷ places) q (inl refl)) in
-          absurd (nothing q one.names one one.below one.proper)
+      by (below ∷ names) chosen =
+          let one = (chosen.these (top ++ below)).0 (contains_from_in (map (λ below. top ++ below) (below ∷ names)) (top ++ below) (inl refl)) in
+          absurd (nothing (top ++ below) one.names one one.below one.proper)
 
 -- what is picked of a whole walk are the chosen files
 pub listed_chosen : (tree : Tree) (options : Options) (root : List ℕ) (top : NameList) (globs : List (List ℕ)) (items : List Item) (paths : List (List ℕ))
-    → IsTree tree → WalksWhole tree options root top items → Picks tree (path_text top) globs items paths → ListsChosen tree root globs paths
+    → IsTree tree → WalksWhole tree options root top items → Picks tree root (path_text top) globs items paths → ListsChosen tree root globs paths
 listed_chosen tree options root top globs items paths is walk picks =
     let at = reached_no_link tree root top is walk.leads in
-    let chosen = picks_are_chosen tree is top globs (ap is_some at.stands) items paths (whole_listed tree options root top items is walk) picks in
-    record { top = top; leads = walk.leads; places = chosen.0; chosen = chosen.1; paths_are = chosen.2 }
+    let picked = picks_are_chosen tree is top globs (ap is_some at.stands) root items paths (whole_listed tree options root top items is walk) picks in
+    record { top = top; leads = walk.leads; places = picked.places; chosen = picked.chosen; names = picked.names; places_are = picked.places_are; paths_are = picked.paths_are }

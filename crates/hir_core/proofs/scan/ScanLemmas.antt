@@ -1,14 +1,15 @@
 -- What a filter has looked at of a text.
-use Rattle.std.proofs.Common.{◌≡◌, ℕ, ◌+◌, ◌*◌, ◌/◌, ◌%◌, ◌^◌, ◌<◌, ◌≤◌, Bool, true, false, ◌⊎◌, inl, inr, List, length, slice_index, slice_index_or, bit_and, bit_or, refl, sym, subst, arith}
+use Rattle.std.proofs.Common.{◌≡◌, ℕ, ◌+◌, ◌*◌, ◌/◌, ◌%◌, ◌^◌, ◌<◌, ◌≤◌, Bool, true, false, ◌⊎◌, inl, inr, List, Option, length, slice_index, slice_index_or, bit_and, refl, sym, subst, arith}
 use Rattle.std.proofs.lemmas.Bool.{cases_lt}
 use Rattle.std.proofs.lemmas.Option.{slice_get_read, get_or_from_slice_get}
+use Rattle.hir_tree.specs.declared.look.Look.{Look}
 use Rattle.hir_core.specs.Program.{spot_at}
-use Rattle.hir_core.specs.Masks.{HasBit, IsPart, match_bit, row_place, next_of, is_wide, IsDead, AreDead, NoRun}
-use Rattle.hir_core.specs.Scan.{IsFilterOf}
+use Rattle.hir_core.specs.Masks.{HasBit, IsPart, match_bit, sure_bit, row_place, next_of, is_wide, IsDead, AreDead, NoRun}
+use Rattle.hir_core.specs.Scan.{IsFilterOf, NoEnd, NoneBegins}
 use Rattle.hir_core.specs.declared.spot.Spot.{Spot}
 use Rattle.hir_core.specs.declared.scan.Scan.{Scan}
-use Rattle.hir_core.proofs.scan.bits.MaskLemmas.{HasBit-none, HasBit-above, HasBit-or_left, HasBit-or_right, HasBit-and, HasBit-eight}
-use Rattle.hir_core.proofs.scan.reach.DeadLemmas.{AreDead-part, IsDead-taker, spot_size-within, one_byte, NoRun-dead}
+use Rattle.hir_core.proofs.scan.bits.MaskLemmas.{HasBit-none, HasBit-above, HasBit-and, HasBit-eight}
+use Rattle.hir_core.proofs.scan.reach.DeadLemmas.{AreDead-none, AreDead-part, IsDead-taker, spot_size-within, one_byte, NoRun-dead}
 
 -- What the filter has looked at: no run begins before `from`, and none that begins from there on, unless a spot of the state
 -- gives something at the place.
@@ -16,84 +17,118 @@ pub record Looked (text : List ℕ) (s : Scan) (at from place state : ℕ) : Typ
   pub after : at ≤ from
   pub before : from ≤ place
   pub within : place ≤ length text
-  pub unmatched : state < 2 ^ 63
-  pub quiet : (spots : List Spot) → IsFilterOf spots s → (q : ℕ) → at ≤ q → q < from → IsDead text spots q 0
-  pub held : (spots : List Spot) → IsFilterOf spots s → AreDead text spots s.of.items place state → (q : ℕ) → from ≤ q → q < place → IsDead text spots q 0
+  pub unmatched : NoEnd text place s.last_look state
+  pub quiet : NoneBegins text s at from
+  pub held : (spots : List Spot) → IsFilterOf spots s → AreDead text spots s.of.items s.last_look place state → (q : ℕ) → from ≤ q → q < place
+      → IsDead text spots q 0
 
--- What the filter does at a byte: these are the spots that may be tried after it.
-pub record Steps (text : List ℕ) (s : Scan) (place state next : ℕ) : Type 0 where
+-- What the filter does at a byte: the spots that are tried are those of the state, and those of the start unless no run begins there,
+-- and these are the spots that may be tried after it.
+pub record Steps (text : List ℕ) (s : Scan) (place state tried next : ℕ) : Type 0 where
   pub more : place < length text
   pub byte : slice_index text place < 256
-  pub narrow : (slice_index text place < 128) ⊎ (bit_and (bit_or state s.start) s.wide ≡ 0)
-  pub follows : (i : ℕ) → i < 64 → HasBit (bit_and (bit_or state s.start) (slice_index s.takes.items (slice_index text place))) i
-      → IsPart (slice_index s.after.items (row_place (bit_and (bit_or state s.start) (slice_index s.takes.items (slice_index text place))) i)) next
+  pub kept : IsPart state tried
+  pub begun : IsPart s.start tried ⊎ NoneBegins text s place (place + 1)
+  pub narrow : (slice_index text place < 128) ⊎ (bit_and tried s.wide ≡ 0)
+  pub follows : (i : ℕ) → i < 64 → HasBit (bit_and tried (slice_index s.takes.items (slice_index text place))) i
+      → IsPart (slice_index s.after.items (row_place (bit_and tried (slice_index s.takes.items (slice_index text place))) i)) next
 
 -- what the filter does, from what it reads of its lists
-pub Steps-read : (text : List ℕ) (s : Scan) (place state next read : ℕ) (rows : List ℕ) → place < length text → slice_index text place < length s.takes.items → slice_index text place < 256
-    → (slice_index text place < 128) ⊎ (bit_and (bit_or state s.start) s.wide ≡ 0) → read ≡ slice_index_or s.takes.items (slice_index text place) read → rows ≡ s.after.items
-    → ((i : ℕ) → i < 64 → HasBit (bit_and (bit_or state s.start) read) i → IsPart (slice_index rows (row_place (bit_and (bit_or state s.start) read) i)) next)
-    → Steps text s place state next
-Steps-read text s place state next read rows more within byte narrow is same follows =
+pub Steps-read : (text : List ℕ) (s : Scan) (place state tried next read : ℕ) (rows : List ℕ) → place < length text → slice_index text place < length s.takes.items
+    → slice_index text place < 256 → IsPart state tried → IsPart s.start tried ⊎ NoneBegins text s place (place + 1)
+    → (slice_index text place < 128) ⊎ (bit_and tried s.wide ≡ 0) → read ≡ slice_index_or s.takes.items (slice_index text place) read → rows ≡ s.after.items
+    → ((i : ℕ) → i < 64 → HasBit (bit_and tried read) i → IsPart (slice_index rows (row_place (bit_and tried read) i)) next)
+    → Steps text s place state tried next
+Steps-read text s place state tried next read rows more within byte kept begun narrow is same follows =
     let takes : read ≡ slice_index s.takes.items (slice_index text place) =
     sym (get_or_from_slice_get s.takes.items (slice_index text place) read 0 (slice_get_read s.takes.items (length s.takes.items) (slice_index text place) read refl within is)) in
     record {
       more = more;
       byte = byte;
+      kept = kept;
+      begun = begun;
       narrow = narrow;
       follows =
-          subst (λ (live : ℕ). (i : ℕ) → i < 64 → HasBit (bit_and (bit_or state s.start) live) i → IsPart (slice_index s.after.items (row_place (bit_and (bit_or state s.start) live) i)) next) takes
-          (subst (λ (list : List ℕ). (i : ℕ) → i < 64 → HasBit (bit_and (bit_or state s.start) read) i → IsPart (slice_index list (row_place (bit_and (bit_or state s.start) read) i)) next) same follows);
+          subst (λ (live : ℕ). (i : ℕ) → i < 64 → HasBit (bit_and tried live) i → IsPart (slice_index s.after.items (row_place (bit_and tried live) i)) next) takes
+          (subst (λ (list : List ℕ). (i : ℕ) → i < 64 → HasBit (bit_and tried read) i → IsPart (slice_index list (row_place (bit_and tried read) i)) next) same follows);
     }
-
--- no bit, no spot
-AreDead-none : (text : List ℕ) (spots : List Spot) (of : List ℕ) (at : ℕ) → AreDead text spots of at 0
-AreDead-none text spots of at = record { unmatched = HasBit-none match_bit; dead = λ i lt has. absurd (HasBit-none i has) }
 
 module _ (text : List ℕ) (spots : List Spot) (s : Scan) (filter : IsFilterOf spots s) where
   -- at the end of the text each spot that takes bytes is dead
-  AreDead-end : (mask at : ℕ) → length text ≤ at → mask < 2 ^ 63 → AreDead text spots s.of.items at mask
-  AreDead-end mask at past small = record {
-    unmatched = HasBit-above mask match_bit small;
+  AreDead-end : (mask at : ℕ) → length text ≤ at → NoEnd text at s.last_look mask → AreDead text spots s.of.items s.last_look at mask
+  AreDead-end mask at past none = record {
+    unmatched = none.0;
+    asked = none.1;
     dead = λ i lt has.
         IsDead-taker text spots at (slice_index s.of.items i) (spot_at spots (slice_index s.of.items i)) refl (filter.takers i lt)
         (λ k sized. let size = spot_size-within text spots (spot_at spots (slice_index s.of.items i)) at k sized in absurd (omega (arith, size.0, size.1)));
   }
 
   -- the spots that were tried are dead, if those are that may be tried next
-  AreDead-before : (place state next mask : ℕ) → Steps text s place state next → AreDead text spots s.of.items (place + 1) next
-      → mask < 2 ^ 63 → IsPart mask (bit_or state s.start) → AreDead text spots s.of.items place mask
-  AreDead-before place state next mask steps later small part = record {
-    unmatched = HasBit-above mask match_bit small;
+  AreDead-before : (place state tried next mask : ℕ) → Steps text s place state tried next → AreDead text spots s.of.items s.last_look (place + 1) next
+      → NoEnd text place s.last_look mask → IsPart mask tried → AreDead text spots s.of.items s.last_look place mask
+  AreDead-before place state tried next mask steps later none part = record {
+    unmatched = none.0;
+    asked = none.1;
     dead = λ i lt has.
         IsDead-taker text spots place (slice_index s.of.items i) (taker i) refl (filter.takers i lt)
         (λ k sized.
         let one = one_byte text spots (taker i) place k (narrow i lt (part i has)) sized in
-        let live = HasBit-and (bit_or state s.start) (slice_index s.takes.items byte) i (part i has) (filter.takes i byte lt steps.byte one.1) in
+        let live_bit = HasBit-and tried (slice_index s.takes.items byte) i (part i has) (filter.takes i byte lt steps.byte one.1) in
         let least : i < 64 = omega (arith, filter.few) in
         subst (λ (j : ℕ). IsDead text spots (place + j) (next_of (taker i))) (sym one.0)
-        (filter.follows i (eight i) lt (omega arith) (HasBit-eight tried i live) text (place + 1)
-        (AreDead-part text spots s.of.items (place + 1) (slice_index s.after.items (row_place tried i)) next (steps.follows i least live) later)));
+        (filter.follows i (eight i) lt (omega arith) (HasBit-eight live i live_bit) text (place + 1)
+        (AreDead-part text spots s.of.items s.last_look (place + 1) (slice_index s.after.items (row_place live i)) next (steps.follows i least live_bit) later)));
   }
     where
       byte : ℕ
       byte = slice_index text place
 
-      tried : ℕ
-      tried = bit_and (bit_or state s.start) (slice_index s.takes.items byte)
+      live : ℕ
+      live = bit_and tried (slice_index s.takes.items byte)
 
       eight : ℕ → ℕ
-      eight i = tried / 2 ^ (8 * (i / 8)) % 256
+      eight i = live / 2 ^ (8 * (i / 8)) % 256
 
       taker : ℕ → Spot
       taker i = spot_at spots (slice_index s.of.items i)
 
-      narrow : (i : ℕ) → i < length s.of.items → HasBit (bit_or state s.start) i → (slice_index text place < 128) ⊎ (is_wide (taker i) ≡ false)
+      narrow : (i : ℕ) → i < length s.of.items → HasBit tried i → (slice_index text place < 128) ⊎ (is_wide (taker i) ≡ false)
       narrow i lt has = elim steps.narrow [ inl low ↦ inl low | inr nothing ↦ inr (cases (is_wide (taker i)) refl nothing) ]
         where
-          cases : (b : Bool) → is_wide (taker i) ≡ b → bit_and (bit_or state s.start) s.wide ≡ 0 → b ≡ false
+          cases : (b : Bool) → is_wide (taker i) ≡ b → bit_and tried s.wide ≡ 0 → b ≡ false
           cases false e nothing = refl
-          cases true e nothing =
-              absurd (HasBit-none i (subst (λ (m : ℕ). HasBit m i) nothing (HasBit-and (bit_or state s.start) s.wide i has (filter.wide i lt e))))
+          cases true e nothing = absurd (HasBit-none i (subst (λ (m : ℕ). HasBit m i) nothing (HasBit-and tried s.wide i has (filter.wide i lt e))))
+
+-- no match ends where there is no bit for it
+pub NoEnd-small : (text : List ℕ) (at : ℕ) (look : Option Look) (mask : ℕ) → mask < 2 ^ 62 → NoEnd text at look mask
+NoEnd-small text at look mask small = (HasBit-above mask sure_bit small, λ has. absurd (HasBit-above mask match_bit (omega (arith, small)) has))
+
+module _ (text : List ℕ) (s : Scan) where
+  -- no run begins by a byte that no spot of the start takes
+  pub NoneBegins-by : (place : ℕ) → place < length text → slice_index text place < 256 → s.start < 2 ^ 62
+      → (slice_index text place < 128) ⊎ (bit_and s.start s.wide ≡ 0) → bit_and s.start (slice_index s.takes.items (slice_index text place)) ≡ 0
+      → NoneBegins text s place (place + 1)
+  NoneBegins-by place more byte small narrow nothing spots filter q low high =
+      subst (λ (p : ℕ). IsDead text spots p 0) (let here : place ≡ q = omega arith in here)
+      (filter.start text place
+      (AreDead-before text spots s filter place s.start s.start 0 s.start steps (AreDead-none text spots s.of.items s.last_look (place + 1))
+      (NoEnd-small text place s.last_look s.start small) (λ i has. has)))
+    where
+      steps : Steps text s place s.start s.start 0
+      steps = record {
+        more = more;
+        byte = byte;
+        kept = λ i has. has;
+        begun = inl (λ i has. has);
+        narrow = narrow;
+        follows = λ i least has. absurd (HasBit-none i (subst (λ (m : ℕ). HasBit m i) nothing has));
+      }
+
+  -- more places
+  pub NoneBegins-more : (from mid until : ℕ) → NoneBegins text s from mid → NoneBegins text s mid until → NoneBegins text s from until
+  NoneBegins-more from mid until before after spots filter q low high =
+      elim (cases_lt q mid) [ inl left ↦ before spots filter q low left | inr right ↦ after spots filter q right high ]
 
 module _ (text : List ℕ) (s : Scan) (at : ℕ) where
   -- at first nothing was looked at
@@ -102,28 +137,35 @@ module _ (text : List ℕ) (s : Scan) (at : ℕ) where
     after = omega arith;
     before = omega arith;
     within = within;
-    unmatched = omega arith;
+    unmatched = (HasBit-none sure_bit, λ has. absurd (HasBit-none match_bit has));
     quiet = λ spots filter q low high. absurd (omega arith);
     held = λ spots filter dead q low high. absurd (omega arith);
   }
 
-  -- a byte more
-  pub Looked-next : (from place state next : ℕ) → s.start < 2 ^ 63 → next < 2 ^ 63 → Looked text s at from place state → Steps text s place state next
-      → Looked text s at from (place + 1) next
-  Looked-next from place state next start small h steps = record {
+  -- a byte more, at a place where no match without a byte is
+  pub Looked-next : (from place state tried next : ℕ) → NoEnd text place s.last_look s.start ⊎ NoneBegins text s place (place + 1)
+      → NoEnd text (place + 1) s.last_look next → Looked text s at from place state → Steps text s place state tried next → Looked text s at from (place + 1) next
+  Looked-next from place state tried next empty none h steps = record {
     after = h.after;
     before = omega (arith, h.before);
     within = omega (arith, steps.more);
-    unmatched = small;
+    unmatched = none;
     quiet = h.quiet;
     held = λ spots filter dead q low high. elim (cases_lt q place) [
       | inl before ↦
-          h.held spots filter (AreDead-before text spots s filter place state next state steps dead h.unmatched (HasBit-or_left state s.start)) q low before
-      | inr last ↦
-          subst (λ (p : ℕ). IsDead text spots p 0) (let here : place ≡ q = omega arith in here)
-          (filter.start text place (AreDead-before text spots s filter place state next s.start steps dead start (HasBit-or_right state s.start)))
+          h.held spots filter (AreDead-before text spots s filter place state tried next state steps dead h.unmatched steps.kept) q low before
+      | inr last ↦ subst (λ (p : ℕ). IsDead text spots p 0) (let here : place ≡ q = omega arith in here) (begins spots filter dead)
     ];
   }
+    where
+      begins : (spots : List Spot) → IsFilterOf spots s → AreDead text spots s.of.items s.last_look (place + 1) next → IsDead text spots place 0
+      begins spots filter dead = elim empty [
+        | inr nothing ↦ nothing spots filter place (omega arith) (omega arith)
+        | inl no_match ↦ elim steps.begun [
+          | inr nothing ↦ nothing spots filter place (omega arith) (omega arith)
+          | inl part ↦ filter.start text place (AreDead-before text spots s filter place state tried next s.start steps dead no_match part)
+        ]
+      ]
 
   -- where no spot may be tried, all before is over
   pub Looked-over : (from place : ℕ) → Looked text s at from place 0 → Looked text s at place place 0
@@ -134,8 +176,19 @@ module _ (text : List ℕ) (s : Scan) (at : ℕ) where
     unmatched = h.unmatched;
     quiet = λ spots filter q low high. elim (cases_lt q from) [
       | inl before ↦ h.quiet spots filter q low before
-      | inr later ↦ h.held spots filter (AreDead-none text spots s.of.items place) q later high
+      | inr later ↦ h.held spots filter (AreDead-none text spots s.of.items s.last_look place) q later high
     ];
+    held = λ spots filter dead q low high. absurd (omega arith);
+  }
+
+  -- places are passed over that begin no run
+  pub Looked-stride : (from to : ℕ) → NoneBegins text s from to → from ≤ to → to ≤ length text → Looked text s at from from 0 → Looked text s at to to 0
+  Looked-stride from to none forward end h = record {
+    after = omega (arith, h.after, forward);
+    before = omega arith;
+    within = end;
+    unmatched = (HasBit-none sure_bit, λ has. absurd (HasBit-none match_bit has));
+    quiet = NoneBegins-more text s at from to h.quiet none;
     held = λ spots filter dead q low high. absurd (omega arith);
   }
 
@@ -143,15 +196,21 @@ module _ (text : List ℕ) (s : Scan) (at : ℕ) where
   pub Looked-quiet : (from place state : ℕ) → Looked text s at from place state → (spots : List Spot) → IsFilterOf spots s → NoRun text spots at from
   Looked-quiet from place state h spots filter = NoRun-dead text spots at from (h.quiet spots filter)
 
-  -- at the end of the text, no run begins at all
-  pub Looked-end : (from place state : ℕ) → s.start < 2 ^ 63 → length text ≤ place → Looked text s at from place state
-      → (spots : List Spot) → IsFilterOf spots s → NoRun text spots at (length text + 1)
-  Looked-end from place state start over h spots filter =
+  -- at the end of the text, where no match without a byte is, no run begins at all
+  pub Looked-end : (from place state : ℕ) → NoEnd text place s.last_look s.start ⊎ NoneBegins text s place (place + 1) → length text ≤ place
+      → Looked text s at from place state → (spots : List Spot) → IsFilterOf spots s → NoRun text spots at (length text + 1)
+  Looked-end from place state empty over h spots filter =
       NoRun-dead text spots at (length text + 1)
       (λ q low high. elim (cases_lt q from) [
         | inl before ↦ h.quiet spots filter q low before
         | inr later ↦ elim (cases_lt q place) [
           | inl within ↦ h.held spots filter (AreDead-end text spots s filter state place over h.unmatched) q later within
-          | inr last ↦ filter.start text q (AreDead-end text spots s filter s.start q (omega (arith, h.within)) start)
+          | inr last ↦ subst (λ (p : ℕ). IsDead text spots p 0) (let here : place ≡ q = omega (arith, h.within) in here) begins
         ]
       ])
+    where
+      begins : IsDead text spots place 0
+      begins = elim empty [
+        | inl no_match ↦ filter.start text place (AreDead-end text spots s filter s.start place over no_match)
+        | inr nothing ↦ nothing spots filter place (omega arith) (omega arith)
+      ]

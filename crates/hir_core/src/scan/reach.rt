@@ -2,10 +2,11 @@
 
 ghost use Rattle.std.specs.Prelude.{◌≡◌, ◌+◌, ◌*◌, ◌/◌, ◌%◌, ◌<◌, ◌≤◌, ◌++◌, ℕ, true, length, slice_index, slice_set, vec_len, IfOk};
 ghost use Rattle.hir_core.specs.Program.{spot_at};
-ghost use Rattle.hir_core.specs.Masks.{HasBit, IsPart, IsClosed, Covers, AreAllTakers, SaysWhatFollows, is_reached, new_ways, ways_on, next_of, match_bit};
+ghost use Rattle.hir_core.specs.Masks.{HasBit, IsPart, Asks, AllAsk, IsClosed, Covers, CoversBeside, AreAllTakers, SaysWhatFollows, is_reached, new_ways, ways_on, next_of};
 ghost use Rattle.hir_core.specs.declared.spot.Spot.TheVariants as spot;
 
-use crate::scan::bits::{ROWS, add_to_row, masks, with_bit};
+use crate::Look;
+use crate::scan::bits::{ROWS, SURE, add_to_row, masks, with_bit};
 use crate::spot::Spot;
 use sd_base::NoMemory;
 use std::alloc::Global;
@@ -49,14 +50,41 @@ fn visit(
     lead(spot, stack)
 }
 
-/// For each spot, whether a run that is at one may come to it without a byte. Refuses for want of memory alone.
-fn reach(alloc: Global, spots: &[Spot], from: usize) -> Result<Vec<bool>, NoMemory>
+/// Whether a spot asks the look, if there is one.
+fn asks(spot: &Spot, look: Option<Look>) -> bool
+    ensures { result ≡ true → Asks look spot.now }
+{
+    match (spot, look) {
+        (Spot::Look { look, .. }, Some(other)) => *look == other,
+        _ => false,
+    }
+}
+
+/// Which spots ask the look, if there is one. Refuses for want of memory alone.
+fn asking(alloc: Global, spots: &[Spot], look: Option<Look>) -> Result<Vec<bool>, NoMemory>
+    ensures room { IfOk result (λ asking. vec_len asking ≡ length spots.now) }
+    ensures ask { IfOk result (λ asking. AllAsk spots.now look asking.items) }
+{
+    let mut asking = Vec::new(alloc);
+    for spot in spots {
+        asking.push(asks(spot, look))?;
+    }
+    Ok(asking)
+}
+
+/// For each spot, whether a run that is at one may come to it without a byte, where the look, if there is one, doesn't hold.
+/// Refuses for want of memory alone.
+fn reach(
+    alloc: Global,
+    spots: &[Spot],
+    from: usize,
+    look: Option<Look>,
+) -> Result<Vec<bool>, NoMemory>
     ensures from { IfOk result (λ reached. is_reached reached.items from ≡ true) }
-    ensures closed { IfOk result (λ reached. IsClosed spots.now reached.items) }
+    ensures closed { IfOk result (λ reached. IsClosed spots.now look reached.items) }
     ensures room { IfOk result (λ reached. vec_len reached ≡ length spots.now) }
 {
-    let mut reached = Vec::new(alloc);
-    reached.resize(spots.len(), false)?;
+    let mut reached = asking(alloc, spots, look)?;
     let mut stack = Vec::new(alloc);
     stack.push(from)?;
     while let Some(place) = stack.pop() {
@@ -67,7 +95,7 @@ fn reach(alloc: Global, spots: &[Spot], from: usize) -> Result<Vec<bool>, NoMemo
 
 /// The bits of the spots that were reached.
 fn reached_bits(of: &[usize], reached: &[bool]) -> u64
-    requires { length of.now ≤ 63 }
+    requires { length of.now ≤ 62 }
     ensures { (i : ℕ) → i < length of.now → is_reached reached.now (slice_index of.now i) ≡ true → HasBit result i }
 {
     let mut mask = 0;
@@ -92,19 +120,46 @@ fn reached_match(spots: &[Spot], reached: &[bool]) -> bool
     false
 }
 
-/// The bits of the spots that may be tried at a spot, and MATCH if a match may end there. Refuses for want of memory
-/// alone.
-pub fn mask_from(alloc: Global, spots: &[Spot], of: &[usize], from: usize) -> Result<u64, NoMemory>
-    requires few { length of.now ≤ 63 }
+/// The bits of the spots that may be tried at a spot where a look, if there is one, doesn't hold, and SURE if a match may end
+/// there. Refuses for want of memory alone.
+pub fn mask_beside(
+    alloc: Global,
+    spots: &[Spot],
+    of: &[usize],
+    from: usize,
+    shut: Option<Look>,
+) -> Result<u64, NoMemory>
+    requires few { length of.now ≤ 62 }
     requires all { AreAllTakers spots.now of.now }
-    ensures { IfOk result (λ mask. Covers spots.now of.now mask from) }
+    ensures { IfOk result (λ mask. CoversBeside spots.now of.now shut mask from) }
 {
-    let reached = reach(alloc, spots, from)?;
+    let reached = reach(alloc, spots, from, shut)?;
     let mask = reached_bits(of, reached.as_slice());
     if reached_match(spots, reached.as_slice()) {
-        return Ok(with_bit(mask, 63));
+        return Ok(with_bit(mask, 62));
     }
     Ok(mask)
+}
+
+/// The bits of the spots that may be tried at a spot, MATCH if a match may end there where the look, if there is one, holds, and
+/// SURE if one may also end where it doesn't. Refuses for want of memory alone.
+pub fn mask_from(
+    alloc: Global,
+    spots: &[Spot],
+    of: &[usize],
+    from: usize,
+    look: Option<Look>,
+) -> Result<u64, NoMemory>
+    requires few { length of.now ≤ 62 }
+    requires all { AreAllTakers spots.now of.now }
+    ensures { IfOk result (λ mask. Covers spots.now of.now look mask from) }
+{
+    let all = mask_beside(alloc, spots, of, from, None)?;
+    if all < SURE {
+        return Ok(all);
+    }
+    let beside = mask_beside(alloc, spots, of, from, look)?;
+    Ok(with_bit(beside, 63))
 }
 
 /// The spot that comes after the bytes of one.
@@ -117,17 +172,22 @@ fn next_of(spots: &[Spot], place: usize) -> usize
     }
 }
 
-/// The rows of the spots that may be tried after some took bytes, and MATCH if a match may end there. Refuses for want of
-/// memory alone.
-pub fn after(alloc: Global, spots: &[Spot], of: &[usize]) -> Result<Vec<u64>, NoMemory>
-    requires few { length of.now ≤ 63 }
+/// The rows of the spots that may be tried after some took bytes, and of whether a match may end there, as [`mask_from`] says.
+/// Refuses for want of memory alone.
+pub fn after(
+    alloc: Global,
+    spots: &[Spot],
+    of: &[usize],
+    look: Option<Look>,
+) -> Result<Vec<u64>, NoMemory>
+    requires few { length of.now ≤ 62 }
     requires all { AreAllTakers spots.now of.now }
     ensures room { IfOk result (λ after. vec_len after ≡ 2048) }
-    ensures says { IfOk result (λ after. SaysWhatFollows spots.now of.now after.items) }
+    ensures says { IfOk result (λ after. SaysWhatFollows spots.now of.now look after.items) }
 {
     let mut after = masks(alloc, ROWS)?;
     for (i, place) in of.iter().enumerate() {
-        let mask = mask_from(alloc, spots, of, next_of(spots, *place))?;
+        let mask = mask_from(alloc, spots, of, next_of(spots, *place), look)?;
         add_to_row(&mut after, i / 8, i % 8, mask);
     }
     Ok(after)

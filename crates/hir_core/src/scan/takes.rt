@@ -102,7 +102,7 @@ fn add_spot(takes: &mut [u64], bit: usize, spot: &Spot)
 /// Adds the bits of the spots at the bytes that they take.
 fn add_spots(takes: &mut [u64], spots: &[Spot], of: &[usize])
     requires room { length takes.old ≡ 256 }
-    requires few { length of.now ≤ 63 }
+    requires few { length of.now ≤ 62 }
     ensures { SaysWhatTakes spots.now of.now takes.new }
 {
     for (i, place) in of.iter().enumerate() {
@@ -114,7 +114,7 @@ fn add_spots(takes: &mut [u64], spots: &[Spot], of: &[usize])
 
 /// For each byte, the bits of the spots that take it, or the ASCII character that it is. Refuses for want of memory alone.
 pub fn takes(alloc: Global, spots: &[Spot], of: &[usize]) -> Result<Vec<u64>, NoMemory>
-    requires { length of.now ≤ 63 }
+    requires { length of.now ≤ 62 }
     ensures room { IfOk result (λ takes. vec_len takes ≡ 256) }
     ensures says { IfOk result (λ takes. SaysWhatTakes spots.now of.now takes.items) }
 {
@@ -147,7 +147,7 @@ fn is_wide(spots: &[Spot], place: usize) -> bool
 
 /// The bits of the spots that may take a character beyond ASCII.
 pub fn wide(spots: &[Spot], of: &[usize]) -> u64
-    requires { length of.now ≤ 63 }
+    requires { length of.now ≤ 62 }
     ensures { SaysWhichAreWide spots.now of.now result }
 {
     let mut mask = 0;

@@ -1,6 +1,6 @@
 -- What all files' rewriting is at the end.
 use Rattle.std.proofs.Common.{◌≡◌, ◌≢◌, ◌⊎◌, ℕ, zero, suc, ◌+◌, ◌≤◌, Bool, true, false, cond, List, [], ◌∷◌, ◌++◌, map, take, length, refl, sym, ◌∙◌, ap, subst, inl, inr, arith}
-use Rattle.std.specs.Prelude.{Option, Some, None, IsSome, is_some, IsTrue, Contains, sum_by, Result, Ok, Err, IfOk, IfErr, OnOk}
+use Rattle.std.specs.Prelude.{Option, Some, None, IsSome, is_some, IsTrue, All, Contains, sum_by, Result, Ok, Err, IfOk, IfErr, OnOk}
 use Rattle.std.specs.Option.{option_map_or}
 use Rattle.std.specs.Cmp.Lexicographic.{pointwise_decides, bytes_decides}
 use Rattle.std.proofs.lemmas.List.{take_all}
@@ -390,7 +390,7 @@ module _ (change : Change) (s0 s : DiskState) (paths : List (List ℕ)) (places 
   for_memory tells told causes clear room (Err failed) (jobs_told, e, same, some) =
       subst (IsForMemory s.tree) (sym e) (subst (WantMemory s.tree) (sym same) (want_memory change s0 s paths places listed done jobs changed replaced so whole tells told causes clear room))
 
-module _ (change : Change) (s0 s : DiskState) (paths : List (List ℕ)) (done : List (List ℕ)) (jobs : List Job) (changed replaced : ℕ) (whole : done ≡ paths) (tells : Bool) (causes : HaveCausesSoFar tells s0 s jobs)
+module _ (change : Change) (s0 s : DiskState) (paths : List (List ℕ)) (done : List (List ℕ)) (jobs : List Job) (changed replaced : ℕ) (whole : done ≡ paths) (tells : Bool) (causes : HaveCausesSoFar tells s0 s jobs) (by_paths : All (λ (failed : Job). Contains paths failed.0) jobs)
     (so : IsTrue tells → (places : List NameList) → ListsFiles s0.tree paths places → IsSweptTo change s0 places done jobs changed replaced s)
     (files_are : IsTrue tells → (places : List NameList) × ListsFiles s0.tree paths places) where
   fails_jobs : (told : List Job) → told ≡ jobs → told ≢ [] → FailsJobs change paths (course tells s0 s) jobs
@@ -405,6 +405,7 @@ module _ (change : Change) (s0 s : DiskState) (paths : List (List ℕ)) (done : 
           crowded_all change s0 s paths places listed done jobs changed replaced (so is_told places listed) whole tells earlier later path e;
     };
     name_files = causes.name_files;
+    by_paths = by_paths;
   }
 
   pub fails_so : (result : Result Report FilesFault) → IfErr result (TellsJobs jobs) → IfErr result (FilesFail change paths (course tells s0 s))

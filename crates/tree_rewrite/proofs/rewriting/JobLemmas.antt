@@ -1,6 +1,6 @@
 -- Why jobs failed, and which turns they are.
 use Rattle.std.proofs.Common.{◌≡◌, ℕ, ◌≤◌, Bool, true, false, cond, List, [], ◌∷◌, ◌++◌, map, refl, sym, ◌∙◌, ap, subst, inl, inr, arith}
-use Rattle.std.specs.Prelude.{Option, Some, None, is_none, IsTrue, All, sum_by, Result, Ok, Err, IfErr, ◌&&◌}
+use Rattle.std.specs.Prelude.{Option, Some, None, is_none, IsTrue, All, Contains, sum_by, Result, Ok, Err, IfErr, ◌&&◌}
 use Rattle.std.proofs.lemmas.List.{append-nil}
 use Rattle.std.proofs.lemmas.List.Sums.{sum_by_push}
 use Rattle.std.proofs.lemmas.List.Elements.{All-nil, All-push, All-weaker}
@@ -138,6 +138,22 @@ module _ (tells : Bool) (s0 s1 s2 : DiskState) (low : s0.faults ≤ s1.faults) (
         → HaveCausesSoFar tells s0 s1 jobs → HaveCausesSoFar tells s0 s2 more
     more_causes jobs more (Ok rewrite) e cause before = subst (HaveCausesSoFar tells s0 s2) (sym (e ∙ append-nil jobs)) (more_done jobs before)
     more_causes jobs more (Err fault) e cause before = subst (HaveCausesSoFar tells s0 s2) (sym e) (more_failed jobs fault cause before)
+
+-- ---- by which paths
+
+pub by_more : (paths : List (List ℕ)) (path : List ℕ) (jobs more : List Job) (result : Result Rewrite JobFault) → more ≡ jobs ++ failed_of (path ∷ []) (end_of result ∷ [])
+    → Contains paths path → All (λ (failed : Job). Contains paths failed.0) jobs → All (λ (failed : Job). Contains paths failed.0) more
+by_more paths path jobs more (Ok rewrite) e there by_paths = subst (All (λ (failed : Job). Contains paths failed.0)) (sym (e ∙ append-nil jobs)) by_paths
+by_more paths path jobs more (Err fault) e there by_paths =
+    subst (All (λ (failed : Job). Contains paths failed.0)) (sym e) (All-push (λ (failed : Job). Contains paths failed.0) jobs (path, fault) by_paths there)
+
+-- the path of a file that failed is that of a file
+pub failed_path_in : (paths : List (List ℕ)) (ends : List (Option JobFault)) (path : List ℕ) (fault : JobFault) → In (path, fault) (failed_of paths ends) → In path paths
+failed_path_in [] ends path fault i = absurd i
+failed_path_in (first ∷ paths) [] path fault i = absurd i
+failed_path_in (first ∷ paths) (None ∷ ends) path fault i = inr (failed_path_in paths ends path fault i)
+failed_path_in (first ∷ paths) (Some f ∷ ends) path fault (inl e) = inl (ap (λ (failed : Job). failed.0) e)
+failed_path_in (first ∷ paths) (Some f ∷ ends) path fault (inr i) = inr (failed_path_in paths ends path fault i)
 
 -- ---- which turns they are
 

@@ -1,28 +1,39 @@
 -- The paths of files.
-use Rattle.std.proofs.Common.{◌≡◌, ◌≢◌, ℕ, Bool, true, false, List, [], ◌∷◌, ◌++◌, map, refl, sym, ◌∙◌, ap, subst, inl, inr}
-use Rattle.std.specs.Prelude.{Option, Some, None, IsSome, is_some, IsTrue, Contains, All, ◌==◌, ◌&&◌, ◌↔◌, not}
+use Rattle.std.proofs.Common.{◌≡◌, ℕ, Bool, true, false, cond, List, [], ◌∷◌, ◌++◌, map, refl, sym, ◌∙◌, ap, subst}
+use Rattle.std.specs.Prelude.{Option, Some, None, IsSome, IsTrue, Contains, All, ◌==◌, ◌&&◌, ◌↔◌, not}
 use Rattle.std.specs.List.{list_all, filter}
+use Rattle.std.specs.Str.{bytes_eq}
 use Rattle.std.proofs.lemmas.List.Elements.{All-same, All-map, All-weaker, All-contains_itself, All-head, All-tail, filter_passes}
-use Rattle.sd_edge.specs.Tree.{NameList, Content, directory, link, file, other, Node, Tree, IsTree, node_at, file_at, file_node, file_content, is_directory_at, is_directory_node}
-use Rattle.sd_edge.specs.Paths.{parts_of, reached}
-use Rattle.sd_edge.specs.Files.{path_text}
-use Rattle.sd_edge.proofs.PathTextLemmas.{text_no_link, text_parts}
-use Rattle.chosen_files.specs.Chosen.{ListsChosen, IsNonemptyFile}
+use Rattle.std.proofs.lemmas.Option.{same_Some}
+use Rattle.sd_edge.specs.Tree.{NameList, Content, directory, link, file, other, Node, Tree, IsTree, node_at, file_at, file_node, file_content, is_directory_node}
+use Rattle.sd_edge.specs.Paths.{parts_of, followed, links_most, reached}
+use Rattle.chosen_files.specs.Chosen.{path_from, ListsChosen, IsNonemptyFile}
+use Rattle.chosen_files.proofs.PlaceLemmas.{in_from_contains}
+use Rattle.chosen_files.proofs.RootLemmas.{chosen_lead, chosen_names, file_leads}
 use Rattle.file_rewrite.specs.Paths.{IsNoPath}
 use Rattle.tree_rewrite.specs.Files.{ListsFiles}
 use Rattle.tree_rewrite.specs.Sweep.{may_name_file}
-use Rattle.tree_rewrite.proofs.rewriting.MemberLemmas.{In, in_from_contains, contains_from_in}
-use Rattle.tree_rewrite.proofs.rewriting.FileLemmas.{a_file, file_stands}
+use Rattle.tree_rewrite.proofs.rewriting.FileLemmas.{a_file}
 
 -- nothing but `/` has no parts
 both : (a b : Bool) → a && b ≡ true → (a ≡ true) × (b ≡ true)
 both true b e = (refl, e)
 both false b e = cc
 
-pub no_parts : (path : List ℕ) → IsNoPath path → parts_of path ≡ []
+no_parts : (path : List ℕ) → IsNoPath path → parts_of path ≡ []
 unfolding parts_of
 no_parts [] e = refl
 no_parts (b ∷ bytes) e = let (slash, rest) = both (b == 47) (list_all (λ byte. byte == 47) bytes) e in rw slash (no_parts bytes rest)
+
+-- so it leads to the top, if anywhere
+no_path_top : (tree : Tree) (path : List ℕ) (place : NameList) → IsNoPath path → reached tree path true ≡ Some place → place ≡ []
+unfolding reached
+no_path_top tree path place none e =
+    by (bytes_eq path []) (sym (ap (λ parts. cond (bytes_eq path []) None (followed tree links_most true [] parts)) (no_parts path none)) ∙ e)
+  where
+    by : (empty : Bool) → cond empty None (Some []) ≡ Some place → place ≡ []
+    by true at = cc
+    by false at = sym (same_Some [] place at)
 
 -- a directory is no file
 no_file : (o : Option Node) → is_directory_node o ≡ true → IsSome (file_node o) → ⊥
@@ -35,53 +46,29 @@ no_file (Some node) d f = by node.content d f
     by (file bytes mode) d f = cc
     by other d f = cc
 
--- what stands at a file's place is no link
-stands_there : (o : Option Node) → IsSome (file_node o) → (node : Node) × (o ≡ Some node) × ((target : List ℕ) → node.content ≢ link target)
-stands_there None f = cc
-stands_there (Some node) f = (node, refl, (λ target e. no_link node.content target f e))
-  where
-    no_link : (content : Content) (target : List ℕ) → IsSome (file_content content) → content ≡ link target → ⊥
-    no_link directory target f e = cc
-    no_link (link to) target f e = cc
-    no_link (file bytes mode) target f e = cc
-    no_link other target f e = cc
+-- a path that leads to a file names one
+file_named : (tree : Tree) → IsTree tree → (path : List ℕ) (place : NameList) → reached tree path true ≡ Some place → IsNonemptyFile tree place → IsNoPath path → ⊥
+file_named tree is path place leads it none =
+    no_file (node_at tree []) is.top (subst (λ (q : NameList). IsSome (file_at tree q)) (no_path_top tree path place none leads) (a_file tree place it))
 
-module _ (tree : Tree) (is : IsTree tree) where
-  pub file_leads : (place : NameList) → IsNonemptyFile tree place → reached tree (path_text place) true ≡ Some place
-  file_leads place it = let (node, at, no_link) = stands_there (node_at tree place) (a_file tree place it) in text_no_link tree place true node is at no_link
+module _ (tree : Tree) (is : IsTree tree) (root : List ℕ) (globs paths : List (List ℕ)) (chosen : ListsChosen tree root globs paths) where
+  pub lists_files : ListsFiles tree paths chosen.places
+  lists_files = record {
+    lead = chosen_lead tree is root globs paths chosen;
+    in_order = chosen.chosen.in_order;
+    are_files = λ place c. ((chosen.chosen.these place).0 c).is_file;
+  }
 
-  pub file_named : (place : NameList) → IsNonemptyFile tree place → IsNoPath (path_text place) → ⊥
-  file_named place it none =
-      let stands = a_file tree place it in
-      let top : place ≡ [] = sym (text_parts tree place is (file_stands tree place stands)) ∙ no_parts (path_text place) none in
-      no_file (node_at tree []) is.top (subst (λ (q : NameList). IsSome (file_at tree q)) top stands)
+  named_below : (below : NameList) → Contains chosen.names below → IsNoPath (path_from root below) → ⊥
+  named_below below c =
+      let (some, is_file) = chosen_names tree is root globs paths chosen below (in_from_contains chosen.names below c) in
+      file_named tree is (path_from root below) (chosen.top ++ below) (file_leads tree is root chosen.top below chosen.leads some is_file) is_file
 
-  lead_there : (places : List NameList) → ((place : NameList) → In place places → IsNonemptyFile tree place)
-      → map (λ (path : List ℕ). reached tree path true) (map path_text places) ≡ map (λ (place : NameList). Some place) places
-  lead_there [] files = refl
-  lead_there (place ∷ places) files =
-      let first = file_leads place (files place (inl refl)) in
-      let rest = lead_there places (λ q i. files q (inr i)) in
-      λ i. first i ∷ rest i
-
-  module _ (root : List ℕ) (globs paths : List (List ℕ)) (chosen : ListsChosen tree root globs paths) where
-    files : (place : NameList) → Contains chosen.places place → IsNonemptyFile tree place
-    files place c = ((chosen.chosen.these place).0 c).is_file
-
-    pub lists_files : ListsFiles tree paths chosen.places
-    lists_files = record {
-      lead =
-          ap (map (λ (path : List ℕ). reached tree path true)) chosen.paths_are
-          ∙ lead_there chosen.places (λ place i. files place (contains_from_in chosen.places place i));
-      in_order = chosen.chosen.in_order;
-      are_files = files;
-    }
-
-    pub all_named : All (λ path. IsNoPath path → ⊥) paths
-    all_named =
-        All-same (λ path. IsNoPath path → ⊥) paths (map path_text chosen.places) chosen.paths_are
-        (All-map (λ path. IsNoPath path → ⊥) path_text chosen.places
-        (All-weaker (Contains chosen.places) (λ place. IsNoPath (path_text place) → ⊥) (λ place c. file_named place (files place c)) chosen.places (All-contains_itself chosen.places)))
+  pub all_named : All (λ path. IsNoPath path → ⊥) paths
+  all_named =
+      All-same (λ path. IsNoPath path → ⊥) paths (map (path_from root) chosen.names) chosen.paths_are
+      (All-map (λ path. IsNoPath path → ⊥) (path_from root) chosen.names
+      (All-weaker (Contains chosen.names) (λ below. IsNoPath (path_from root below) → ⊥) named_below chosen.names (All-contains_itself chosen.names)))
 
 -- ---- paths that are kept
 

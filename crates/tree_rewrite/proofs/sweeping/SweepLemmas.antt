@@ -1,14 +1,12 @@
 -- A sweep, of its choice and the rewriting of what was chosen.
-use Rattle.std.proofs.Common.{◌≡◌, ◌≢◌, ◌⊎◌, ℕ, zero, suc, ◌+◌, ◌<◌, ◌≤◌, Bool, true, List, [], ◌∷◌, ◌++◌, map, refl, sym, ◌∙◌, ap, subst, inl, inr, arith}
-use Rattle.std.specs.Prelude.{Option, Some, None, IsSome, IsTrue, Contains, All, Result, Ok, Err, IsErrOf, IsErrAnd, IfOk, IfErr, OnOk, sum_by}
+use Rattle.std.proofs.Common.{◌≡◌, ◌⊎◌, ℕ, zero, suc, ◌≤◌, Bool, List, [], ◌∷◌, refl, sym, ◌∙◌, ap, subst, inl, inr, arith}
+use Rattle.std.specs.Prelude.{Option, Some, None, IsTrue, Contains, All, Result, Ok, Err, IsErrAnd, IfErr, sum_by}
 use Rattle.std.proofs.lemmas.Option.{same_Some}
-use Rattle.std.proofs.lemmas.List.Elements.{All-weaker, All-head, All-tail}
-use Rattle.sd_edge.specs.Count.{HasRisen}
+use Rattle.std.proofs.lemmas.List.Elements.{All-weaker, All-contains, All-head, All-tail}
 use Rattle.sd_edge.specs.Tree.{NameList, Content, Tree, node_at, file_at}
-use Rattle.sd_edge.specs.Paths.{reached, parent_of}
-use Rattle.sd_edge.specs.Outcomes.{Leaves}
+use Rattle.sd_edge.specs.Paths.{parent_of}
 use Rattle.sd_edge.specs.Files.{file_of}
-use Rattle.sd_edge.specs.Disk.{DiskState, SameTree, SameLists, outcomes_now}
+use Rattle.sd_edge.specs.Disk.{DiskState, SameTree}
 use Rattle.sd_edge.specs.Crashes.{LeavesSince, IsDurable}
 use Rattle.sd_edge.specs.declared.fault.DiskFault.TheVariants as disk
 use Rattle.sd_edge.proofs.CrashLemmas.{since_same, since_then, since_more}
@@ -17,29 +15,24 @@ use Rattle.sd_course.specs.Course.{course, HasRisenBy}
 use Rattle.file_exchange.specs.Reserved.{Free}
 use Rattle.file_exchange.proofs.CauseLemmas.{risen_since}
 use Rattle.file_rewrite.specs.Rewritten.{IsNew, IsOld, IsLeft, IsNewFile, IsChangedFile}
-use Rattle.file_rewrite.specs.OneFile.{FreeAtMost}
 use Rattle.file_rewrite.specs.declared.fault.JobFault.{JobFault}
 use Rattle.file_rewrite.specs.declared.fault.JobFault.TheVariants as job
-use Rattle.chosen_files.specs.Chosen.{IsChosen, ListsChosen}
+use Rattle.chosen_files.specs.Chosen.{IsChosen, IsPathBelow, ListsChosen}
 use Rattle.chosen_files.specs.Globs.{IsValid, IsFirstInvalid}
 use Rattle.chosen_files.specs.Below.{HasFewerBelow}
-use Rattle.chosen_files.specs.Choice.{KeepsLists, ChoiceFails}
 use Rattle.chosen_files.specs.declared.globs.GlobsError.{GlobsError}
 use Rattle.chosen_files.specs.declared.globs.GlobsError.TheVariants as globs_error
-use Rattle.chosen_files.specs.declared.fault.ChoiceFault.{ChoiceFault}
-use Rattle.chosen_files.specs.declared.fault.ChoiceFault.TheVariants as choice_fault
 use Rattle.tree_rewrite.specs.Files.{ListsFiles, IsFreeBeside, HasRoom}
 use Rattle.tree_rewrite.specs.Rewritten.{KeepsNode, IsRewritten, LeavesEach, IsNewOne, IsChangedOne}
 use Rattle.tree_rewrite.specs.Counts.{Counts, RewritesFiles}
 use Rattle.tree_rewrite.specs.Jobs.{Job, faults_needed, HasJobCause, IsCrowdedOut, HaveCauses}
 use Rattle.tree_rewrite.specs.Turns.{Turn, faults_of_turn, EndsSo, IsTurn, FailsFiles}
 use Rattle.tree_rewrite.specs.Ends.{FailsJobs, FilesFail, IsForMemory}
-use Rattle.tree_rewrite.specs.Sweep.{IsChosenBelow, RewritesTree, FailsTree, FailsSomeBelow, SweepFails, IsSweepForMemory}
-use Rattle.tree_rewrite.specs.SweepFaults.{of_globs, of_choice, of_files}
+use Rattle.tree_rewrite.specs.Sweep.{IsChosenBelow, RewritesTree, FailsSomeBelow, SweepFails, IsSweepForMemory}
+use Rattle.tree_rewrite.specs.SweepFaults.{of_globs, of_files}
 use Rattle.tree_rewrite.specs.declared.report.Report.{Report}
 use Rattle.tree_rewrite.specs.declared.fault.FilesFault.{FilesFault}
 use Rattle.tree_rewrite.specs.declared.fault.FilesFault.TheVariants as files_fault
-use Rattle.tree_rewrite.specs.declared.sweep_fault.SweepFault.{SweepFault}
 use Rattle.tree_rewrite.specs.declared.sweep_fault.SweepFault.TheVariants as sweep
 use Rattle.file_rewrite.specs.Paths.{IsNoPath}
 use Rattle.sd_edge.specs.Tree.{IsTree}
@@ -224,7 +217,7 @@ module _ (change : Change) (s0 s1 s2 : DiskState) (same : SameTree s0 s1) where
 
 module _ (change : Change) (s0 s1 s2 : DiskState) (same : SameTree s0 s1) (root : List ℕ) (globs paths : List (List ℕ)) (cap : ℕ) (tells : Bool) (low : s0.faults ≤ s1.faults)
     (chosen : IsTrue tells → ListsChosen s0.tree root globs paths) (few : IsTrue tells → HasFewerBelow cap s0.tree root)
-    (listed : (told : IsTrue tells) → ListsFiles s1.tree paths (chosen told).places) where
+    (listed : (told : IsTrue tells) → ListsFiles s1.tree paths (chosen told).places) (below : All (IsPathBelow root) paths) where
   failed_below : (jobs : List Job) → FailsJobs change paths (course tells s1 s2) jobs → FailsSomeBelow change root globs cap (course tells s0 s2) jobs
   failed_below jobs f = record {
     some = f.some;
@@ -236,6 +229,9 @@ module _ (change : Change) (s0 s1 s2 : DiskState) (same : SameTree s0 s1) (root 
     };
     causes = causes_from change s0 s1 s2 same tells low jobs f.causes;
     name_files = f.name_files;
+    below_root =
+        All-weaker (λ (failed : Job). Contains paths failed.0) (λ (failed : Job). IsPathBelow root failed.0)
+        (λ failed there. All-contains (IsPathBelow root) paths failed.0 below there) jobs f.by_paths;
   }
 
   pub files_fail : (why : FilesFault) → FilesFail change paths (course tells s1 s2) why → SweepFails change root globs cap (course tells s0 s2) (of_files why)

@@ -15,10 +15,10 @@ returns-clause-chosen c = listed_chosen
 pub returns-clause-no_directory : goal.returns-clause-no_directory
 returns-clause-no_directory c = λ tree how root top globs items paths is walk no_folder picks.
     let at = reached_no_link tree root top is walk.leads in
-    none_picked tree is top globs (ap is_some at.stands) at.node at.stands
+    none_picked tree is top globs (ap is_some at.stands) root at.node at.stands
     (λ folder. false≢true (sym no_folder ∙ ap is_directory_node at.stands ∙ directory_kind at.node.content folder)) items paths
     (whole_listed tree how root top items is walk) picks
 
 pub returns-clause-nowhere : goal.returns-clause-nowhere
 returns-clause-nowhere c = λ tree how sorts compare root globs items paths nowhere listing picks.
-    subst (λ (xs : List Item). Picks tree root globs xs paths) (nowhere_listed tree how sorts compare root items nowhere listing) picks
+    subst (λ (xs : List Item). Picks tree root root globs xs paths) (nowhere_listed tree how sorts compare root items nowhere listing) picks

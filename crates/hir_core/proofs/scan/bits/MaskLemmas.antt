@@ -5,7 +5,7 @@ use Rattle.std.proofs.lemmas.List.{get_or_past}
 use Rattle.std.proofs.lemmas.Nat.{shr-shr}
 use Rattle.std.proofs.lemmas.Nat.Bits.{bit_at-zero, bit_at_and, bit_at_or, bit_at-lt, bit_at_above, bit_at_set_same, bit_at_cat_low}
 use Rattle.std.specs.Int.{bit_at}
-use Rattle.hir_core.specs.Masks.{HasBit, IsPart, Grows}
+use Rattle.hir_core.specs.Masks.{HasBit, IsPart, Grows, sure_bit}
 
 -- 0 has no bit
 pub HasBit-none : (i : ℕ) → HasBit 0 i → ⊥
@@ -37,6 +37,15 @@ HasBit-and a b i h k = bit_at_and a b i ∙ lesser (bit_at a i) (bit_at b i) h k
   where
     lesser : (x y : ℕ) → x ≡ 1 → y ≡ 1 → min x y ≡ 1
     lesser x y e f = omega arith
+
+-- numbers without a bit in common
+pub HasBit-apart : (a b i : ℕ) → bit_and a b ≡ 0 → HasBit a i → HasBit b i → ⊥
+HasBit-apart a b i nothing h k = HasBit-none i (subst (λ (m : ℕ). HasBit m i) nothing (HasBit-and a b i h k))
+
+-- the bit of a match that may end also where the last look doesn't hold
+pub HasBit-sure : HasBit (2 ^ 62) sure_bit
+unfolding HasBit
+HasBit-sure = omega arith
 
 -- the bit that was set
 pub HasBit-set : (mask k : ℕ) → k < 64 → HasBit (bit_or mask (1 * 2 ^ k % 2 ^ 64)) k

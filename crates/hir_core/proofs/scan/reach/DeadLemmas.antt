@@ -9,38 +9,52 @@ use Rattle.std.proofs.lemmas.Str.{encode_ascii}
 use Rattle.bstr.specs.Utf8.{Decoded, decoded}
 use Rattle.bstr.proofs.lemmas.PieceLemmas.{value-1}
 use Rattle.bstr.proofs.lemmas.SoundLemmas.{SpellsChar-decoded}
+use Rattle.hir_tree.specs.Looks.{holds}
 use Rattle.hir_tree.specs.Sides.{byte_after, char_after}
+use Rattle.hir_tree.specs.declared.look.Look.{Look}
 use Rattle.hir_tree.specs.Runs.{Run, begin, moved, mark, in_set, size_in, byte_size, char_size, as_list, take_size}
 use Rattle.hir_core.specs.Program.{Way, way, marked, opened, closed, spot_at, visit_as, gives_within, gives, rank}
-use Rattle.hir_core.specs.Masks.{HasBit, IsPart, Grows, match_bit, is_taker, next_of, takes_byte, has_wide, is_wide, ways_on, is_reached, IsClosed, IsDead, AreDead, Covers, NoRun, AreAllTakers}
+use Rattle.hir_core.specs.Masks.{HasBit, IsPart, Grows, match_bit, sure_bit, is_taker, next_of, takes_byte, has_wide, is_wide, ways_on, is_reached, Asks, IsShut, IsClosed, IsDead, AreDead, Covers, CoversBeside, NoRun, AreAllTakers}
 use Rattle.hir_core.specs.declared.spot.Spot.{Spot}
 use Rattle.hir_core.specs.declared.spot.Spot.TheVariants as spot
 use Rattle.hir_tree.proofs.RunsLemmas.{byte_size-within, char_size-within}
+use Rattle.hir_core.proofs.scan.bits.MaskLemmas.{HasBit-none}
 
 -- fewer bits are dead too
-pub AreDead-part : (text : List ℕ) (spots : List Spot) (of : List ℕ) (at mask more : ℕ) → IsPart mask more → AreDead text spots of at more → AreDead text spots of at mask
-AreDead-part text spots of at mask more part dead =
-    record { unmatched = λ has. dead.unmatched (part match_bit has); dead = λ i lt has. dead.dead i lt (part i has) }
+pub AreDead-part : (text : List ℕ) (spots : List Spot) (of : List ℕ) (look : Option Look) (at mask more : ℕ) → IsPart mask more
+    → AreDead text spots of look at more → AreDead text spots of look at mask
+AreDead-part text spots of look at mask more part dead =
+    record {
+      unmatched = λ has. dead.unmatched (part sure_bit has);
+      asked = λ has. dead.asked (part match_bit has);
+      dead = λ i lt has. dead.dead i lt (part i has);
+    }
+
+-- no bit, no spot
+pub AreDead-none : (text : List ℕ) (spots : List Spot) (of : List ℕ) (look : Option Look) (at : ℕ) → AreDead text spots of look at 0
+AreDead-none text spots of look at =
+    record { unmatched = HasBit-none sure_bit; asked = λ has. absurd (HasBit-none match_bit has); dead = λ i lt has. absurd (HasBit-none i has) }
 
 -- more bits cover what some cover
-pub Covers-part : (spots : List Spot) (of : List ℕ) (mask more q : ℕ) → IsPart mask more → Covers spots of mask q → Covers spots of more q
-Covers-part spots of mask more q part covers text at dead = covers text at (AreDead-part text spots of at mask more part dead)
+pub Covers-part : (spots : List Spot) (of : List ℕ) (look : Option Look) (mask more q : ℕ) → IsPart mask more → Covers spots of look mask q → Covers spots of look more q
+Covers-part spots of look mask more q part covers text at dead = covers text at (AreDead-part text spots of look at mask more part dead)
 
 -- the rows cover what comes after so many of the spots
-abbrev pub AfterHas : List Spot → List ℕ → List ℕ → ℕ → Type 0
-AfterHas spots of rows n =
-    (i v : ℕ) → i < n → v < 256 → HasBit v (i % 8) → Covers spots of (slice_index rows (256 * (i / 8) + v)) (next_of (spot_at spots (slice_index of i)))
+abbrev pub AfterHas : List Spot → List ℕ → Option Look → List ℕ → ℕ → Type 0
+AfterHas spots of look rows n =
+    (i v : ℕ) → i < n → v < 256 → HasBit v (i % 8) → Covers spots of look (slice_index rows (256 * (i / 8) + v)) (next_of (spot_at spots (slice_index of i)))
 
-pub AfterHas-next : (spots : List Spot) (of rows more : List ℕ) (n mask : ℕ) → AfterHas spots of rows n → Grows rows more
-    → ((v : ℕ) → v < 256 → HasBit v (n % 8) → IsPart mask (slice_index more (256 * (n / 8) + v))) → Covers spots of mask (next_of (spot_at spots (slice_index of n)))
-    → AfterHas spots of more (n + 1)
-AfterHas-next spots of rows more n mask h grows has covers i v low small set_bit = elim (cases_eq i n) [
+pub AfterHas-next : (spots : List Spot) (of : List ℕ) (look : Option Look) (rows more : List ℕ) (n mask : ℕ) → AfterHas spots of look rows n → Grows rows more
+    → ((v : ℕ) → v < 256 → HasBit v (n % 8) → IsPart mask (slice_index more (256 * (n / 8) + v)))
+    → Covers spots of look mask (next_of (spot_at spots (slice_index of n))) → AfterHas spots of look more (n + 1)
+AfterHas-next spots of look rows more n mask h grows has covers i v low small set_bit = elim (cases_eq i n) [
   | inl here ↦
       let Here : ℕ → Type 0
-      = λ j. HasBit v (j % 8) → Covers spots of (slice_index more (256 * (j / 8) + v)) (next_of (spot_at spots (slice_index of j))) in
-      subst Here (sym here) (λ own. Covers-part spots of mask (slice_index more (256 * (n / 8) + v)) (next_of (spot_at spots (slice_index of n))) (has v small own) covers) set_bit
+      = λ j. HasBit v (j % 8) → Covers spots of look (slice_index more (256 * (j / 8) + v)) (next_of (spot_at spots (slice_index of j))) in
+      subst Here (sym here)
+      (λ own. Covers-part spots of look mask (slice_index more (256 * (n / 8) + v)) (next_of (spot_at spots (slice_index of n))) (has v small own) covers) set_bit
   | inr other ↦
-      Covers-part spots of (slice_index rows (256 * (i / 8) + v)) (slice_index more (256 * (i / 8) + v)) (next_of (spot_at spots (slice_index of i)))
+      Covers-part spots of look (slice_index rows (256 * (i / 8) + v)) (slice_index more (256 * (i / 8) + v)) (next_of (spot_at spots (slice_index of i)))
       (grows (256 * (i / 8) + v)) (h i v (omega arith) small set_bit)
 ]
 
@@ -104,7 +118,7 @@ module _ (text : List ℕ) (spots : List Spot) where
   spot_size-within spot.Fail at k e = absurd (none-some k e)
   spot_size-within spot.Match at k e = absurd (none-some k e)
 
-  module _ (reached : List Bool) (at : ℕ) (closed_set : IsClosed spots reached)
+  module _ (reached : List Bool) (at : ℕ) (look : Option Look) (shut : IsShut text at look) (closed_set : IsClosed spots look reached)
       (takers : (q : ℕ) → is_reached reached q ≡ true → is_taker (spot_at spots q) ≡ true → IsDead text spots at q)
       (unmatched : (q : ℕ) → is_reached reached q ≡ true → spot_at spots q ≡ spot.Match → ⊥) where
     -- so it is with one step more, if it is so with some
@@ -113,8 +127,24 @@ module _ (text : List ℕ) (spots : List Spot) where
     unfolding gives_within
     step n fewer q w r here = cases (spot_at spots q) refl
       where
-        next : (s : Spot) → spot_at spots q ≡ s → (p : ℕ) → Contains (ways_on s) p → (v : Way) → v.run.at ≡ at → gives_within text spots n p v ≡ []
-        next s e p leads v there = fewer p v (closed_set q p r (subst (λ x. Contains (ways_on x) p) (sym e) leads)) there
+        leads_to : (s : Spot) → spot_at spots q ≡ s → (p : ℕ) → Contains (ways_on s) p → Asks look s ⊎ (is_reached reached p ≡ true)
+        leads_to s e p leads =
+            subst (λ x. Asks look x ⊎ (is_reached reached p ≡ true)) e (closed_set q p r (subst (λ x. Contains (ways_on x) p) (sym e) leads))
+
+        next : (s : Spot) → (Asks look s → ⊥) → spot_at spots q ≡ s → (p : ℕ) → Contains (ways_on s) p → (v : Way) → v.run.at ≡ at
+            → gives_within text spots n p v ≡ []
+        next s silent e p leads v there = elim (leads_to s e p leads) [
+          | inl asks ↦ absurd (silent asks)
+          | inr reached_too ↦ fewer p v reached_too there
+        ]
+
+        looks : (l : Look) (f : ℕ) → spot_at spots q ≡ spot.Look l f
+            → (if holds l text w.run.at then gives_within text spots n f (marked q w) else []) ≡ []
+        looks l f e = elim (leads_to (spot.Look l f) e f (0, omega arith, refl)) [
+          | inl asks ↦
+              ap (λ b. if b then gives_within text spots n f (marked q w) else []) (ap (holds l text) here ∙ subst (IsShut text at) asks shut)
+          | inr reached_too ↦ held_way _ _ (fewer f (marked q w) reached_too here)
+        ]
 
         taker : (s : Spot) → spot_at spots q ≡ s → is_taker s ≡ true → visit_as text spots (gives_within text spots n) s q w ≡ []
         taker s e t =
@@ -124,12 +154,14 @@ module _ (text : List ℕ) (spots : List Spot) where
         cases : (s : Spot) → spot_at spots q ≡ s → visit_as text spots (gives_within text spots n) s q w ≡ []
         cases (spot.Bytes set f) e = taker (spot.Bytes set f) e refl
         cases (spot.Chars set f) e = taker (spot.Chars set f) e refl
-        cases (spot.Look l f) e = either_way _ _ (held_way _ _ (next _ e f (0, omega arith, refl) (marked q w) here))
-        cases (spot.Jump f) e = either_way _ _ (next _ e f (0, omega arith, refl) (marked q w) here)
+        cases (spot.Look l f) e = either_way _ _ (looks l f e)
+        cases (spot.Jump f) e = either_way _ _ (next (spot.Jump f) (λ asks. asks) e f (0, omega arith, refl) (marked q w) here)
         cases (spot.Split a b) e =
-            either_way _ _ (ap₂ (λ xs ys. xs ++ ys) (next _ e a (0, omega arith, refl) (marked q w) here) (next _ e b (1, omega arith, refl) (marked q w) here))
-        cases (spot.Open f) e = either_way _ _ (next _ e f (0, omega arith, refl) (opened (marked q w)) here)
-        cases (spot.Close i f) e = next _ e f (0, omega arith, refl) (closed i w) here
+            either_way _ _
+            (ap₂ (λ xs ys. xs ++ ys) (next (spot.Split a b) (λ asks. asks) e a (0, omega arith, refl) (marked q w) here)
+            (next (spot.Split a b) (λ asks. asks) e b (1, omega arith, refl) (marked q w) here))
+        cases (spot.Open f) e = either_way _ _ (next (spot.Open f) (λ asks. asks) e f (0, omega arith, refl) (opened (marked q w)) here)
+        cases (spot.Close i f) e = next (spot.Close i f) (λ asks. asks) e f (0, omega arith, refl) (closed i w) here
         cases spot.Fail e = either_way _ _ refl
         cases spot.Match e = absurd (unmatched q r e)
 
@@ -139,18 +171,34 @@ module _ (text : List ℕ) (spots : List Spot) where
     IsDead-reached zero q w r here = refl
     IsDead-reached (suc n) q w r here = step n (λ p v. IsDead-reached n p v) q w r here
 
--- a mask covers a spot, if it has the bits of all spots that may come after it without a byte
-pub Covers-reached : (spots : List Spot) (of : List ℕ) (reached : List Bool) (mask from : ℕ) → AreAllTakers spots of → IsClosed spots reached → is_reached reached from ≡ true
+-- a mask covers a spot where a look doesn't hold, if it has the bits of all spots that may come after it without a byte and that look
+pub CoversBeside-reached : (spots : List Spot) (of : List ℕ) (shut : Option Look) (reached : List Bool) (mask from : ℕ) → AreAllTakers spots of
+    → IsClosed spots shut reached → is_reached reached from ≡ true
     → ((i : ℕ) → i < length of → is_reached reached (slice_index of i) ≡ true → HasBit mask i)
-    → ((q : ℕ) → spot_at spots q ≡ spot.Match → is_reached reached q ≡ true → HasBit mask match_bit)
-    → Covers spots of mask from
-Covers-reached spots of reached mask from all closed_set first bits ends text at dead n w here =
-    IsDead-reached text spots reached at closed_set
+    → ((q : ℕ) → spot_at spots q ≡ spot.Match → is_reached reached q ≡ true → HasBit mask sure_bit)
+    → CoversBeside spots of shut mask from
+CoversBeside-reached spots of shut reached mask from all closed_set first bits ends text at look is_shut dead n w here =
+    IsDead-reached text spots reached at shut is_shut closed_set
     (λ q r taker.
     let bit = all q taker in
     subst (IsDead text spots at) bit.2 (dead.dead bit.0 bit.1 (bits bit.0 bit.1 (subst (λ p. is_reached reached p ≡ true) (sym bit.2) r))))
     (λ q r e. dead.unmatched (ends q e r))
     n from w first here
+
+-- a mask that covers a spot whether or not its look holds
+pub Covers-whole : (spots : List Spot) (of : List ℕ) (look : Option Look) (mask q : ℕ) → CoversBeside spots of None mask q → Covers spots of look mask q
+Covers-whole spots of look mask q covers text at dead = covers text at look tt dead
+
+-- a mask that covers a spot where its look doesn't hold, and has the bit of where it holds
+pub Covers-asked : (spots : List Spot) (of : List ℕ) (look : Option Look) (mask more q : ℕ) → CoversBeside spots of look mask q → IsPart mask more
+    → HasBit more match_bit → Covers spots of look more q
+Covers-asked spots of look mask more q covers part asks text at dead =
+    covers text at look (dead.asked asks) (AreDead-part text spots of look at mask more part dead)
+
+-- where no spot is left where a look doesn't hold, no run begins there
+pub IsDead-beside : (spots : List Spot) (of : List ℕ) (look : Look) (q : ℕ) → CoversBeside spots of (Some look) 0 q
+    → (text : List ℕ) (at : ℕ) → holds look text at ≡ false → IsDead text spots at q
+IsDead-beside spots of look q covers text at fails = covers text at None fails (AreDead-none text spots of None at)
 
 -- a size is that of a member that stands there
 member : (set : List (ℕ × ℕ)) (size : ℕ) (c : Option ℕ) (k : ℕ) → size_in set size c ≡ Some k → (m : ℕ) × ((c ≡ Some m) × (in_set set m ≡ true) × (size ≡ k))

@@ -1,13 +1,16 @@
 -- A walk over spots that goes to each once.
 use Rattle.std.proofs.Common.{◌≡◌, ℕ, ◌+◌, ◌*◌, ◌<◌, ◌≤◌, Bool, true, false, ◌⊎◌, inl, inr, List, [], ◌∷◌, ◌++◌, length, get_or, set, if◌then◌else◌, refl, sym, ap, ◌∙◌, subst, true≢false, arith, take, drop, length-append, get_or-set_same, get_or-set_other}
 use Rattle.std.specs.List.{Contains, sum_by}
+use Rattle.std.specs.Prelude.{Option}
 use Rattle.std.proofs.lemmas.Bool.{cases_eq, cases_lt}
 use Rattle.std.proofs.lemmas.Grind.{common_steps}
-use Rattle.std.proofs.lemmas.List.{get_or_past, length-set, set_past}
+use Rattle.std.proofs.Math.ListN.{get_or-append}
+use Rattle.std.proofs.lemmas.List.{get_or_default, get_or_past, get_or_push, length-set, set_past}
 use Rattle.std.proofs.lemmas.List.Elements.{Contains-append_left, Contains-append_right, Contains-push_cases}
 use Rattle.std.proofs.lemmas.List.Sums.{sum_by-set}
+use Rattle.hir_tree.specs.declared.look.Look.{Look}
 use Rattle.hir_core.specs.Program.{spot_at}
-use Rattle.hir_core.specs.Masks.{ways_on, is_reached, new_ways, IsClosed}
+use Rattle.hir_core.specs.Masks.{ways_on, is_reached, new_ways, Asks, AllAsk, IsClosed}
 use Rattle.hir_core.specs.declared.spot.Spot.{Spot}
 use Rattle.hir_core.specs.declared.spot.Spot.TheVariants as spot
 
@@ -15,23 +18,35 @@ use Rattle.hir_core.specs.declared.spot.Spot.TheVariants as spot
 abbrev pub IsPending : List Bool → List ℕ → ℕ → Type 0
 IsPending reached stack q = (is_reached reached q ≡ true) ⊎ Contains stack q
 
--- Where the walk begins, that is pending, and so is each spot to which one leads that was reached.
-pub record Walks (spots : List Spot) (from : ℕ) (reached : List Bool) (stack : List ℕ) : Type 0 where
+-- Where the walk begins, that is pending, and so is each spot to which one leads that was reached, unless it asks the look.
+pub record Walks (spots : List Spot) (look : Option Look) (from : ℕ) (reached : List Bool) (stack : List ℕ) : Type 0 where
   pub room : length reached ≡ length spots
   pub first : IsPending reached stack from
-  pub on : (q p : ℕ) → is_reached reached q ≡ true → Contains (ways_on (spot_at spots q)) p → IsPending reached stack p
+  pub on : (q p : ℕ) → is_reached reached q ≡ true → Contains (ways_on (spot_at spots q)) p → Asks look (spot_at spots q) ⊎ IsPending reached stack p
 
 not_contained : {A : Type 0} (x : A) → Contains [] x → ⊥
 not_contained x h = absurd (omega (arith, h.1))
 
+-- one more spot is marked, if it asks the look
+pub AllAsk-push : (spots : List Spot) (look : Option Look) (marked : List Bool) (s : Spot) (b : Bool) (i : ℕ) → length marked ≡ i → i < length spots
+    → s ≡ get_or spots i s → (b ≡ true → Asks look s) → AllAsk spots look marked → AllAsk spots look (marked ++ b ∷ [])
+AllAsk-push spots look marked s b i count within there asks h q low is = elim (cases_lt q (length marked)) [
+  | inl before ↦ h q before (sym (get_or-append marked (b ∷ []) true q before) ∙ is)
+  | inr after ↦
+      let here : length marked ≡ q = omega (arith, low, after, length-append marked (b ∷ [])) in
+      let spot_is : s ≡ spot_at spots q =
+      there ∙ get_or_default spots i s spot.Fail within ∙ ap (λ (k : ℕ). get_or spots k spot.Fail) (sym count ∙ here) in
+      subst (Asks look) spot_is (asks (sym (get_or_push marked b true q here) ∙ is))
+]
+
 -- the walk at its begin
-pub Walks-begin : (spots : List Spot) (from : ℕ) (reached : List Bool) → length reached ≡ length spots
-    → ((k : ℕ) → k < length reached → get_or reached k true ≡ false) → Walks spots from reached (from ∷ [])
-Walks-begin spots from reached room none = record {
+pub Walks-begin : (spots : List Spot) (look : Option Look) (from : ℕ) (reached : List Bool) → length reached ≡ length spots
+    → AllAsk spots look reached → Walks spots look from reached (from ∷ [])
+Walks-begin spots look from reached room ask = record {
   room = room;
   first = inr (0, omega arith, refl);
   on = λ q p r leads. elim (cases_lt q (length reached)) [
-    | inl within ↦ absurd (true≢false (sym r ∙ none q within))
+    | inl within ↦ inl (ask q within r)
     | inr past ↦ absurd (not_contained p (subst (λ s. Contains (ways_on s) p) (get_or_past spots q spot.Fail (omega arith)) leads))
   ];
 }
@@ -70,31 +85,38 @@ still reached rest more q p (inr on) = elim (Contains-push_cases rest q p on) [
 ]
 
 -- a spot more
-pub Walks-next : (spots : List Spot) (from : ℕ) (reached : List Bool) (rest : List ℕ) (q : ℕ) → Walks spots from reached (rest ++ q ∷ [])
-    → Walks spots from (set reached q true) (rest ++ new_ways reached q (spot_at spots q))
-Walks-next spots from reached rest q h = record {
+pub Walks-next : (spots : List Spot) (look : Option Look) (from : ℕ) (reached : List Bool) (rest : List ℕ) (q : ℕ) → Walks spots look from reached (rest ++ q ∷ [])
+    → Walks spots look from (set reached q true) (rest ++ new_ways reached q (spot_at spots q))
+Walks-next spots look from reached rest q h = record {
   room = length-set reached q true ∙ h.room;
   first = still reached rest (new_ways reached q (spot_at spots q)) q from h.first;
   on = λ m p r leads. cases m p r leads (is_reached reached m) refl;
 }
   where
     cases : (m p : ℕ) → is_reached (set reached q true) m ≡ true → Contains (ways_on (spot_at spots m)) p → (b : Bool) → is_reached reached m ≡ b
-        → IsPending (set reached q true) (rest ++ new_ways reached q (spot_at spots q)) p
-    cases m p r leads true before = still reached rest (new_ways reached q (spot_at spots q)) q p (h.on m p before leads)
+        → Asks look (spot_at spots m) ⊎ IsPending (set reached q true) (rest ++ new_ways reached q (spot_at spots q)) p
+    cases m p r leads true before = elim (h.on m p before leads) [
+      | inl asks ↦ inl asks
+      | inr pending ↦ inr (still reached rest (new_ways reached q (spot_at spots q)) q p pending)
+    ]
     cases m p r leads false before =
         let here : m ≡ q = reached_only reached q m r before in
         let new : is_reached reached q ≡ false = ap (is_reached reached) (sym here) ∙ before in
         let ways : ways_on (spot_at spots m) ≡ new_ways reached q (spot_at spots q) =
         ap (λ (i : ℕ). ways_on (spot_at spots i)) here ∙ sym (new_if (spot_at spots q) (is_reached reached q) new) in
-        inr (Contains-append_right rest (new_ways reached q (spot_at spots q)) p (subst (λ (xs : List ℕ). Contains xs p) ways leads))
+        inr (inr (Contains-append_right rest (new_ways reached q (spot_at spots q)) p (subst (λ (xs : List ℕ). Contains xs p) ways leads)))
 
 -- when the stack is empty
 only_reached : (reached : List Bool) (p : ℕ) → IsPending reached [] p → is_reached reached p ≡ true
 only_reached reached p (inl r) = r
 only_reached reached p (inr on) = absurd (not_contained p on)
 
-pub Walks-end : (spots : List Spot) (from : ℕ) (reached : List Bool) → Walks spots from reached [] → (is_reached reached from ≡ true) × IsClosed spots reached
-Walks-end spots from reached h = (only_reached reached from h.first, λ q p r leads. only_reached reached p (h.on q p r leads))
+pub Walks-end : (spots : List Spot) (look : Option Look) (from : ℕ) (reached : List Bool) → Walks spots look from reached []
+    → (is_reached reached from ≡ true) × IsClosed spots look reached
+Walks-end spots look from reached h = (
+  only_reached reached from h.first,
+  λ q p r leads. elim (h.on q p r leads) [ inl asks ↦ inl asks | inr pending ↦ inr (only_reached reached p pending) ],
+)
 
 -- a spot that is still to be reached
 abbrev unreached : Bool → ℕ
@@ -144,7 +166,7 @@ pub lent_back : {A : Type 0} (now old : List A) (n : ℕ) → n ≡ length old �
 lent_back now old n whole same = grind (arith, common_steps)
 
 -- the walk once a spot was taken from the stack and visited
-module _ (spots : List Spot) (from : ℕ) (reached : List Bool) (stack rest : List ℕ) (q : ℕ) (popped : stack ≡ rest ++ q ∷ [])
+module _ (spots : List Spot) (look : Option Look) (from : ℕ) (reached : List Bool) (stack rest : List ℕ) (q : ℕ) (popped : stack ≡ rest ++ q ∷ [])
     (lent now : List Bool) (same : lent ≡ reached) (visited : now ≡ set lent q true) (next : List ℕ) (leads : next ≡ rest ++ new_ways lent q (spot_at spots q))
     (n : ℕ) (whole : n ≡ length reached) where
   back : take n (now ++ drop (length now) reached) ≡ set reached q true
@@ -155,10 +177,11 @@ module _ (spots : List Spot) (from : ℕ) (reached : List Bool) (stack rest : Li
   next_is : next ≡ rest ++ new_ways reached q (spot_at spots q)
   next_is = leads ∙ ap (λ (xs : List Bool). rest ++ new_ways xs q (spot_at spots q)) same
 
-  pub Walks-visited : Walks spots from reached stack → Walks spots from (take n (now ++ drop (length now) reached)) next
+  pub Walks-visited : Walks spots look from reached stack → Walks spots look from (take n (now ++ drop (length now) reached)) next
   Walks-visited h =
-      subst (λ (xs : List Bool). Walks spots from xs next) (sym back)
-      (subst (λ (ss : List ℕ). Walks spots from (set reached q true) ss) (sym next_is) (Walks-next spots from reached rest q (subst (Walks spots from reached) popped h)))
+      subst (λ (xs : List Bool). Walks spots look from xs next) (sym back)
+      (subst (λ (ss : List ℕ). Walks spots look from (set reached q true) ss) (sym next_is)
+      (Walks-next spots look from reached rest q (subst (Walks spots look from reached) popped h)))
 
   pub walk_weight-visited : walk_weight (take n (now ++ drop (length now) reached)) next < walk_weight reached stack
   walk_weight-visited =

@@ -1,67 +1,96 @@
-use Rattle.std.proofs.Common.{◌≡◌, ◌∙◌, refl, sym, subst, ap, Err}
-use Rattle.std.proofs.lemmas.Option.{same_Some}
-use Rattle.sd_edge.specs.Count.{HasRisen}
-use Rattle.sd_edge.specs.Paths.{reached}
-use Rattle.std.specs.Prelude.{None, true}
-use Rattle.chosen_files.specs.Globs.{IsFirstInvalid}
-use Rattle.sd_core.specs.Headline.{HasNoRoom}
-use Rattle.sd_core.specs.Words.{TreeOrder}
-use Rattle.sd_core.specs.WordsRead.{order_of}
-use Rattle.sd_core.proofs.top.OrderLemmas.{order_finds, rewritten_leave}
-use Rattle.sd_core.proofs.top.RunLemmas.{completes, same_fault, risen_by, no_other}
-use Rattle.sd_core.specs.Crash.{IsOldOrNewImage, IsNewImage}
-use Rattle.sd_core.proofs.sweep.CrashLemmas.{old_or_new_image, new_image}
+use Rattle.std.proofs.Common.{◌∙◌, ap, refl, sym}
+use Rattle.sd_core.specs.Run.{status_of}
+use Rattle.sd_core.proofs.top.RunLemmas.{none_tree, none_demo, none_input, none_files, none_preview, none_refused, or_memory, is_usage, usage_asks_nothing, none_done, not_done}
+use Rattle.sd_core.proofs.top.RunLemmas.{headline_so, tree_so, demo_so, input_so, files_so, preview_so, not_yet_so, replacer_so, disk_so, input_kept_so, out_so}
+use Rattle.sd_core.proofs.top.RunLemmas.{none_unordered, usage_so}
 use Rattle.sd_core.proofs.top.run.Goals as goal
 
-pub sweep-requires : goal.sweep-requires
-sweep-requires g c = order_finds c.args.words.now (order_of c.in-Some.command) c.in-Some.ensures
+pub returns-in-Err-clause-headline : goal.returns-in-Err-clause-headline
+returns-in-Err-clause-headline g c = λ told order root asks zero. absurd (none_done _ _ c.in-Err.ensures.read _ c.refuse.ensures.why _ c.refuse.ensures.status zero)
 
-pub returns-in-Err-clause-bad_glob : goal.returns-in-Err-clause-bad_glob
-returns-in-Err-clause-bad_glob g c = λ order is place e.
-    let same : order_of c.in-Some.command ≡ order = same_Some _ _ (sym c.in-Some.ensures ∙ is) in
-    let bad = c.in-Err.ensures.bad_glob place (ap Err (same_fault _ _ _ c.end_with-in-Err.ensures.why e)) in
-    (subst (λ (o : TreeOrder). IsFirstInvalid o.globs place) same bad.0, bad.1, refl)
+pub returns-in-Err-clause-status : goal.returns-in-Err-clause-status
+returns-in-Err-clause-status g c = c.refuse.ensures.status
 
-pub returns-in-Err-clause-no_other : goal.returns-in-Err-clause-no_other
-returns-in-Err-clause-no_other g c = λ fault e.
-    no_other _ _ _ _ c.in-Err.ensures.cause c.in-Err.ensures.own_answer fault (ap Err (same_fault _ _ _ c.end_with-in-Err.ensures.why e))
+pub returns-in-Err-clause-usage : goal.returns-in-Err-clause-usage
+returns-in-Err-clause-usage g c = usage_asks_nothing _ _ c.in-Err.ensures.read _ c.refuse.ensures.why
 
-pub returns-in-Err-clause-complete : goal.returns-in-Err-clause-complete
-returns-in-Err-clause-complete g c = λ told order is leads valid room calm_disk calm_out.
-    let same : order_of c.in-Some.command ≡ order = same_Some _ _ (sym c.in-Some.ensures ∙ is) in
-    let old = (g.D.Disk.state c.args.disk.now).tree in
-    let new = (g.D.Disk.state c.sweep.new.disk).tree in
-    let why = c.end_with-in-Err.ensures.why in
-    completes c.args.words.now order old new (HasRisen (g.D.Disk.state c.args.disk.now).faults (g.D.Disk.state c.sweep.new.disk).faults) c.end_with-in-Err.result.why
-    is leads valid room calm_disk
-    (λ e. cc)
-    (λ e. subst (λ (o : TreeOrder). reached old o.root true ≡ None) same (c.in-Err.ensures.root_missing told (ap Err (same_fault _ _ _ why e))))
-    (λ jobs e. subst (λ (o : TreeOrder). HasNoRoom old o jobs new) same (c.in-Err.ensures.no_room told jobs (ap Err (same_fault _ _ _ why e))))
-    (λ place e. subst (λ (o : TreeOrder). IsFirstInvalid o.globs place) same (c.in-Err.ensures.bad_glob place (ap Err (same_fault _ _ _ why e))).0)
-    (λ fault e. risen_by _ _ _ _ c.in-Err.ensures.cause c.in-Err.ensures.own_answer fault (ap Err (same_fault _ _ _ why e)))
+pub returns-in-Err-clause-no_order : goal.returns-in-Err-clause-no_order
+returns-in-Err-clause-no_order g c = λ none. (is_usage _ _ c.in-Err.ensures.read _ c.refuse.ensures.why, refl, refl, refl)
 
-pub returns-in-Ok-print_report-clause-leaves : goal.returns-in-Ok-print_report-clause-leaves
-returns-in-Ok-print_report-clause-leaves g c = λ told order is. rewritten_leave c.args.words.now (order_of c.in-Some.command) order _ _ c.in-Ok.report c.in-Some.ensures is (c.in-Ok.ensures.rewritten told)
+pub returns-in-Err-clause-not_yet : goal.returns-in-Err-clause-not_yet
+returns-in-Err-clause-not_yet g c = λ order root asks. or_memory _ _ c.in-Err.ensures.read _ c.refuse.ensures.why _ order asks.0
 
-pub returns-in-Err-print_report-clause-leaves : goal.returns-in-Err-print_report-clause-leaves
-returns-in-Err-print_report-clause-leaves g c = λ told order is. rewritten_leave c.args.words.now (order_of c.in-Some.command) order _ _ c.in-Ok.report c.in-Some.ensures is (c.in-Ok.ensures.rewritten told)
+pub returns-in-Err-clause-replacer : goal.returns-in-Err-clause-replacer
+returns-in-Err-clause-replacer g c = λ order asked yet failed refused. none_refused _ _ c.in-Err.ensures.read _ c.refuse.ensures.why order asked
 
-pub returns-in-Err-clause-crash : goal.returns-in-Err-clause-crash
-returns-in-Err-clause-crash g c = λ told order is image may.
-    subst (λ (o : TreeOrder). IsOldOrNewImage (g.D.Disk.state c.args.disk.now) o image) (same_Some _ _ (sym c.in-Some.ensures ∙ is))
-    (old_or_new_image _ _ (order_of c.in-Some.command) image (c.in-Err.ensures.crash told) may)
+pub returns-in-Err-clause-tree : goal.returns-in-Err-clause-tree
+returns-in-Err-clause-tree g c = none_tree _ _ c.in-Err.ensures.read _ c.refuse.ensures.why _ (refl, refl, refl) _ _
 
-pub returns-in-Ok-print_report-clause-crash : goal.returns-in-Ok-print_report-clause-crash
-returns-in-Ok-print_report-clause-crash g c = λ told order is image may.
-    subst (λ (o : TreeOrder). IsOldOrNewImage (g.D.Disk.state c.args.disk.now) o image) (same_Some _ _ (sym c.in-Some.ensures ∙ is))
-    (old_or_new_image _ _ (order_of c.in-Some.command) image (c.in-Ok.ensures.crash told) may)
+pub returns-in-Err-clause-demo : goal.returns-in-Err-clause-demo
+returns-in-Err-clause-demo g c = none_demo _ _ c.in-Err.ensures.read _ c.refuse.ensures.why _ (refl, refl, refl) _
 
-pub returns-in-Err-print_report-clause-crash : goal.returns-in-Err-print_report-clause-crash
-returns-in-Err-print_report-clause-crash g c = λ told order is image may.
-    subst (λ (o : TreeOrder). IsOldOrNewImage (g.D.Disk.state c.args.disk.now) o image) (same_Some _ _ (sym c.in-Some.ensures ∙ is))
-    (old_or_new_image _ _ (order_of c.in-Some.command) image (c.in-Ok.ensures.crash told) may)
+pub returns-in-Err-clause-standard_input : goal.returns-in-Err-clause-standard_input
+returns-in-Err-clause-standard_input g c = none_input _ _ c.in-Err.ensures.read _ c.refuse.ensures.why _ (refl, refl, refl) _ _
 
-pub returns-in-Ok-print_report-clause-durable : goal.returns-in-Ok-print_report-clause-durable
-returns-in-Ok-print_report-clause-durable g c = λ told order is done image may.
-    subst (λ (o : TreeOrder). IsNewImage (g.D.Disk.state c.args.disk.now) o image) (same_Some _ _ (sym c.in-Some.ensures ∙ is))
-    (new_image _ _ (order_of c.in-Some.command) image (c.in-Ok.ensures.durable told) may)
+pub returns-in-Err-clause-files : goal.returns-in-Err-clause-files
+returns-in-Err-clause-files g c = none_files _ _ c.in-Err.ensures.read _ c.refuse.ensures.why _ (refl, refl, refl) _
+
+pub returns-in-Err-clause-preview : goal.returns-in-Err-clause-preview
+returns-in-Err-clause-preview g c = none_preview _ _ c.in-Err.ensures.read _ c.refuse.ensures.why _ (refl, refl, refl) _ _
+
+pub returns-in-Err-clause-disk_kept : goal.returns-in-Err-clause-disk_kept
+returns-in-Err-clause-disk_kept g c = λ order asked calls. refl
+
+pub returns-in-Err-clause-input_kept : goal.returns-in-Err-clause-input_kept
+returns-in-Err-clause-input_kept g c = λ order asked reads. refl
+
+pub returns-in-Err-clause-out_kept : goal.returns-in-Err-clause-out_kept
+returns-in-Err-clause-out_kept g c = λ order asked writes. refl
+
+pub returns-in-Err-clause-err_kept : goal.returns-in-Err-clause-err_kept
+returns-in-Err-clause-err_kept g c = λ done. absurd (not_done _ _ c.in-Err.ensures.read _ c.refuse.ensures.why done)
+
+pub returns-in-Ok-clause-headline : goal.returns-in-Ok-clause-headline
+returns-in-Ok-clause-headline g c = λ told order root asks zero. headline_so _ c.in-Ok.options c.in-Ok.ensures.read c.carry_out-why.result _ c.end_with.ensures.why _ _ _ (c.carry_out-why.ensures.headline told) order root asks _ c.end_with.ensures.status zero
+
+pub returns-in-Ok-clause-status : goal.returns-in-Ok-clause-status
+returns-in-Ok-clause-status g c = c.end_with.ensures.status ∙ ap status_of (sym c.end_with.ensures.why)
+
+pub returns-in-Ok-clause-usage : goal.returns-in-Ok-clause-usage
+returns-in-Ok-clause-usage g c = usage_so _ c.in-Ok.options c.in-Ok.ensures.read c.carry_out-why.result _ c.end_with.ensures.why c.carry_out-why.ensures.ordered
+
+pub returns-in-Ok-clause-no_order : goal.returns-in-Ok-clause-no_order
+returns-in-Ok-clause-no_order g c = λ none. absurd (none_unordered _ c.in-Ok.options c.in-Ok.ensures.read c.carry_out-why.result _ c.end_with.ensures.why none)
+
+pub returns-in-Ok-clause-not_yet : goal.returns-in-Ok-clause-not_yet
+returns-in-Ok-clause-not_yet g c = not_yet_so _ c.in-Ok.options c.in-Ok.ensures.read c.carry_out-why.result _ c.end_with.ensures.why c.carry_out-why.ensures.not_yet
+
+pub returns-in-Ok-clause-replacer : goal.returns-in-Ok-clause-replacer
+returns-in-Ok-clause-replacer g c = replacer_so _ c.in-Ok.options c.in-Ok.ensures.read c.carry_out-why.result _ c.end_with.ensures.why c.carry_out-why.ensures.replacer
+
+pub returns-in-Ok-clause-tree : goal.returns-in-Ok-clause-tree
+returns-in-Ok-clause-tree g c = tree_so _ c.in-Ok.options c.in-Ok.ensures.read c.carry_out-why.result _ c.end_with.ensures.why _ _ _ c.carry_out-why.ensures.tree
+
+pub returns-in-Ok-clause-demo : goal.returns-in-Ok-clause-demo
+returns-in-Ok-clause-demo g c = demo_so _ c.in-Ok.options c.in-Ok.ensures.read c.carry_out-why.result _ c.end_with.ensures.why _ _ c.carry_out-why.ensures.demo
+
+pub returns-in-Ok-clause-standard_input : goal.returns-in-Ok-clause-standard_input
+returns-in-Ok-clause-standard_input g c = input_so _ c.in-Ok.options c.in-Ok.ensures.read c.carry_out-why.result _ c.end_with.ensures.why _ _ _ c.carry_out-why.ensures.standard_input
+
+pub returns-in-Ok-clause-files : goal.returns-in-Ok-clause-files
+returns-in-Ok-clause-files g c = files_so _ c.in-Ok.options c.in-Ok.ensures.read c.carry_out-why.result _ c.end_with.ensures.why _ _ c.carry_out-why.ensures.files
+
+pub returns-in-Ok-clause-preview : goal.returns-in-Ok-clause-preview
+returns-in-Ok-clause-preview g c = preview_so _ c.in-Ok.options c.in-Ok.ensures.read c.carry_out-why.result _ c.end_with.ensures.why _ _ _ c.carry_out-why.ensures.preview
+
+pub returns-in-Ok-clause-disk_kept : goal.returns-in-Ok-clause-disk_kept
+returns-in-Ok-clause-disk_kept g c = disk_so _ c.in-Ok.options c.in-Ok.ensures.read c.carry_out-why.result _ c.end_with.ensures.why _ c.carry_out-why.ensures.disk_kept
+
+pub returns-in-Ok-clause-input_kept : goal.returns-in-Ok-clause-input_kept
+returns-in-Ok-clause-input_kept g c = input_kept_so _ c.in-Ok.options c.in-Ok.ensures.read c.carry_out-why.result _ c.end_with.ensures.why _ c.carry_out-why.ensures.input_kept
+
+pub returns-in-Ok-clause-out_kept : goal.returns-in-Ok-clause-out_kept
+returns-in-Ok-clause-out_kept g c = out_so _ c.in-Ok.options c.in-Ok.ensures.read c.carry_out-why.result _ c.end_with.ensures.why _ c.carry_out-why.ensures.out_kept
+
+pub returns-in-Ok-clause-err_kept : goal.returns-in-Ok-clause-err_kept
+returns-in-Ok-clause-err_kept g c = λ done. c.end_with.ensures.err_kept (sym c.end_with.ensures.why ∙ done)

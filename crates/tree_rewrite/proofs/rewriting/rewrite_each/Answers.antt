@@ -1,14 +1,15 @@
 use Rattle.std.proofs.Common.{◌≡◌, ◌∙◌, ◌++◌, ◌∷◌, [], ℕ, List, length, sym, ap, subst, rules, arith}
 use Rattle.std.proofs.lemmas.List.{map-id, length_push}
-use Rattle.std.proofs.lemmas.List.Elements.{All-get_or}
+use Rattle.std.specs.Prelude.{All, Contains}
+use Rattle.std.proofs.lemmas.List.Elements.{All-get_or, All-nil}
 use Rattle.std.proofs.lemmas.Iterator.Adapters.{YieldsList-from_vec}
 use Rattle.std.proofs.lemmas.Iterator.Consumers.{YieldsList-turn, YieldsList-end}
 use Rattle.sd_edge.specs.Tree.{NameList}
 use Rattle.file_rewrite.specs.Paths.{IsNoPath}
 use Rattle.tree_rewrite.specs.Files.{ListsFiles}
-use Rattle.tree_rewrite.specs.Jobs.{failed_of, end_of}
+use Rattle.tree_rewrite.specs.Jobs.{Job, failed_of, end_of}
 use Rattle.tree_rewrite.proofs.rewriting.FileLemmas.{IsNextFile, next_file}
-use Rattle.tree_rewrite.proofs.rewriting.JobLemmas.{HaveCausesSoFar, no_causes, more_causes}
+use Rattle.tree_rewrite.proofs.rewriting.JobLemmas.{HaveCausesSoFar, no_causes, more_causes, by_more}
 use Rattle.tree_rewrite.proofs.rewriting.SweptLemmas.{IsSweptTo, swept_none, swept_more, stands_now, few_changed, few_replaced}
 use Rattle.tree_rewrite.proofs.rewriting.EndLemmas.{left_each, crash_all, rewritten_if_done, durable_if_done, fails_so, for_memory}
 use Rattle.tree_rewrite.proofs.rewriting.rewrite_each.Goals as goal
@@ -21,6 +22,9 @@ loop-path-init g c = record {
   room = omega (arith, c.in_ok-done.ensures.room, c.len.ensures, c.args.paths.ok.0);
   changed_few = omega (arith, c.in_ok-done.ensures.changed);
   replaced_few = omega (arith, c.in_ok-done.ensures.replaced);
+  by_paths =
+      subst (All (λ (failed : Job). Contains c.args.paths.items failed.0)) (sym c.in_ok-done.ensures.jobs)
+      (All-nil (λ (failed : Job). Contains c.args.paths.items failed.0));
   causes =
       subst (HaveCausesSoFar g.D.Disk.tells (g.D.Disk.state c.args.disk.now) (g.D.Disk.state c.args.disk.now)) (sym c.in_ok-done.ensures.jobs)
       (no_causes g.D.Disk.tells (g.D.Disk.state c.args.disk.now));
@@ -53,6 +57,7 @@ loop-path-preserved g c =
       room = omega (arith, c.add.ensures.capacity, c.loop-path.invariant.room);
       changed_few = omega (arith, c.add.ensures.changed, c.loop-path.invariant.changed_few, few_changed result, length_push xs c.in-Some.path);
       replaced_few = omega (arith, c.add.ensures.replaced, c.loop-path.invariant.replaced_few, few_replaced result c.replace_file-rewritten.ensures.few, length_push xs c.in-Some.path);
+      by_paths = by_more items text jobs c.add.new.self.jobs.items result added (subst (Contains items) (sym same) (length xs, turn.0, sym turn.1)) c.loop-path.invariant.by_paths;
       causes =
           more_causes g.D.Disk.tells before middle after c.loop-path.invariant.never_falls c.replace_file-rewritten.ensures.never_falls text named
           (λ told none.
@@ -88,7 +93,7 @@ returns-clause-fails g c =
     let made = c.into_iter-path-iterator.ensures.into_iter_gives in
     let xs = c.loop-path.yielded in
     let end = YieldsList-end (YieldsList-from_vec c.args.paths.items made.0 (made.1 ∙ c.args.paths.ok.0)) xs _ c.loop-path.yielded_by _ c.next.new.self c.in-None.is c.next.ensures.steps in
-    fails_so _ (g.D.Disk.state c.args.disk.now) (g.D.Disk.state c.loop-path.disk) c.args.paths.items xs _ _ _ (sym (map-id xs) ∙ end.0) g.D.Disk.tells c.loop-path.invariant.causes c.loop-path.invariant.swept c.requires.files
+    fails_so _ (g.D.Disk.state c.args.disk.now) (g.D.Disk.state c.loop-path.disk) c.args.paths.items xs _ _ _ (sym (map-id xs) ∙ end.0) g.D.Disk.tells c.loop-path.invariant.causes c.loop-path.invariant.by_paths c.loop-path.invariant.swept c.requires.files
     c.finish.result c.finish.ensures.failed
 
 pub returns-clause-however : goal.returns-clause-however

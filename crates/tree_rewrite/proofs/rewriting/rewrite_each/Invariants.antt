@@ -1,5 +1,5 @@
 use Rattle.std.proofs.Common.{◌≤◌, ◌*◌, ◌^◌, List, length}
-use Rattle.std.specs.Prelude.{IsTrue, vec_len, vec_capacity}
+use Rattle.std.specs.Prelude.{All, Contains, IsTrue, vec_len, vec_capacity}
 use Rattle.sd_edge.specs.Tree.{NameList}
 use Rattle.sd_edge.specs.Disk.{SameLists}
 use Rattle.tree_rewrite.specs.Files.{ListsFiles}
@@ -16,6 +16,7 @@ invariant-loop-path g l = record {
   room : length l.fn.paths.items ≤ vec_capacity l.done.jobs;
   changed_few : l.done.changed ≤ length l.yielded;
   replaced_few : l.done.replaced ≤ length l.yielded * 2 ^ 64;
+  by_paths : All (λ failed. Contains l.fn.paths.items failed.0) l.done.jobs.items;
   causes : HaveCausesSoFar g.D.Disk.tells (g.D.Disk.state l.fn.disk) (g.D.Disk.state l.disk) l.done.jobs.items;
   swept : IsTrue g.D.Disk.tells → (places : List NameList) → ListsFiles (g.D.Disk.state l.fn.disk).tree l.fn.paths.items places
       → IsSweptTo (g.R.Replaces.change l.replacer) (g.D.Disk.state l.fn.disk) places l.yielded l.done.jobs.items l.done.changed l.done.replaced (g.D.Disk.state l.disk);

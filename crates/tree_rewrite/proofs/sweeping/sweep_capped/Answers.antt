@@ -1,5 +1,5 @@
-use Rattle.std.proofs.Common.{◌≡◌, ◌∙◌, sym, ap, refl, inl, inr}
-use Rattle.std.specs.Prelude.{Err, IsTrue}
+use Rattle.std.proofs.Common.{◌∙◌, ap, refl, inl, inr}
+use Rattle.std.specs.Prelude.{Err}
 use Rattle.file_exchange.proofs.CauseLemmas.{risen_since}
 use Rattle.tree_rewrite.proofs.sweeping.SweepLemmas.{told_on, is_told, none_first, globs_told, globs_for_memory, rewrites_tree, left_from, crash_from, durable_from, room_for, files_fail, files_for_memory, chosen_kept, listed_at}
 use Rattle.tree_rewrite.proofs.sweeping.sweep_capped.Goals as goal
@@ -46,6 +46,7 @@ returns-in_err-report-clause-fails g c =
     c.in_ok-choice.ensures.few
     (λ told. listed_at (g.D.Disk.state c.args.disk.now) (g.D.Disk.state c.choose_capped.new.disk) c.in_ok-choice.ensures.tree (g.met.D.Disk.is_tree c.args.disk.now told) c.args.root.now c.args.globs.now c.keep_named-paths.result.items
     (chosen_kept (g.D.Disk.state c.args.disk.now).tree (g.met.D.Disk.is_tree c.args.disk.now told) c.args.root.now c.args.globs.now c.deref.result.now c.in_ok-choice.choice.paths.items c.keep_named-paths.result.items (c.deref.ensures.value ∙ c.in_ok-globs.ensures.read) (c.in_ok-choice.ensures.chosen told) c.keep_named-paths.ensures.all))
+    (c.keep_named-paths.ensures.below c.args.root.now c.in_ok-choice.ensures.below_root)
     c.in_err-report.field-0.0 c.in_err-report.ensures.fails)
 
 pub returns-in_err-report-clause-however : goal.returns-in_err-report-clause-however

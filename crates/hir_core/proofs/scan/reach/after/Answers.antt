@@ -13,9 +13,9 @@ loop-i-preserved c =
     record {
       room = ap length back ∙ same ∙ c.loop-i.invariant.room;
       covers =
-          subst (λ (rows : List ℕ). AfterHas c.args.spots.now c.args.of.now rows (c.loop-i.i + 1)) (sym back)
-          (AfterHas-next c.args.spots.now c.args.of.now c.loop-i.after.items now c.loop-i.i c.in_ok-mask.mask c.loop-i.invariant.covers
+          subst (λ (rows : List ℕ). AfterHas c.args.spots.now c.args.of.now c.args.look rows (c.loop-i.i + 1)) (sym back)
+          (AfterHas-next c.args.spots.now c.args.of.now c.args.look c.loop-i.after.items now c.loop-i.i c.in_ok-mask.mask c.loop-i.invariant.covers
           (subst (λ (rows : List ℕ). Grows rows now) c.deref_mut.ensures.value c.add_to_row.ensures.grows)
           c.add_to_row.ensures.has
-          (subst (λ (q : ℕ). Covers c.args.spots.now c.args.of.now c.in_ok-mask.mask q) c.next_of.ensures c.in_ok-mask.ensures));
+          (subst (λ (q : ℕ). Covers c.args.spots.now c.args.of.now c.args.look c.in_ok-mask.mask q) c.next_of.ensures c.in_ok-mask.ensures));
     }

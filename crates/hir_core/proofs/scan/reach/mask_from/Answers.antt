@@ -1,16 +1,11 @@
-use Rattle.std.proofs.Common.{slice_index, sym, ap, ◌∙◌, true≢false}
-use Rattle.hir_core.specs.Masks.{is_reached}
-use Rattle.hir_core.proofs.scan.reach.DeadLemmas.{Covers-reached}
+use Rattle.hir_core.proofs.scan.reach.DeadLemmas.{Covers-whole, Covers-asked}
 use Rattle.hir_core.proofs.scan.reach.mask_from.Goals as goal
 
-pub returns-then-reached_match : goal.returns-then-reached_match
-returns-then-reached_match c =
-    Covers-reached c.args.spots.now c.args.of.now c.in_ok-reached.reached.items _ c.args.from c.requires.all c.in_ok-reached.ensures.closed c.in_ok-reached.ensures.from
-    (λ i lt r. c.with_bit.ensures.kept i (c.reached_bits-mask.ensures i lt (ap (λ rs. is_reached rs (slice_index c.args.of.now i)) c.as_slice.ensures.value ∙ r)))
-    (λ q e r. c.with_bit.ensures.set)
+pub returns-then-all-lt-SURE : goal.returns-then-all-lt-SURE
+returns-then-all-lt-SURE c =
+    Covers-whole c.args.spots.now c.args.of.now c.args.look c.in_ok-all.all c.args.from c.in_ok-all.ensures
 
 pub returns : goal.returns
 returns c =
-    Covers-reached c.args.spots.now c.args.of.now c.in_ok-reached.reached.items _ c.args.from c.requires.all c.in_ok-reached.ensures.closed c.in_ok-reached.ensures.from
-    (λ i lt r. c.reached_bits-mask.ensures i lt (ap (λ rs. is_reached rs (slice_index c.args.of.now i)) c.as_slice.ensures.value ∙ r))
-    (λ q e r. absurd (true≢false (sym (c.reached_match.ensures q e (ap (λ rs. is_reached rs q) c.as_slice-2.ensures.value ∙ r)) ∙ c.if-reached_match.false)))
+    Covers-asked c.args.spots.now c.args.of.now c.args.look c.in_ok-beside.beside _ c.args.from c.in_ok-beside.ensures c.with_bit.ensures.kept
+    c.with_bit.ensures.set

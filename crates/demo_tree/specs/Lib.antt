@@ -1,0 +1,5 @@
+pub mod Demo
+pub mod Building
+pub mod FaultlessDisk
+pub mod Sweep
+pub mod Examples

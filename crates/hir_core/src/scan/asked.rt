@@ -1,0 +1,41 @@
+//! Which looks are asked first and last.
+
+ghost use Rattle.std.specs.Prelude.{IfOk, ◌≤◌, length};
+ghost use Rattle.hir_core.specs.Masks.{AreAllTakers};
+ghost use Rattle.hir_core.specs.Scan.{IsAskedFirst};
+
+use crate::Look;
+use crate::scan::reach::mask_beside;
+use crate::spot::Spot;
+use sd_base::NoMemory;
+use std::alloc::Global;
+
+/// The look that a spot asks, if it asks one.
+fn look_of(spot: &Spot) -> Option<Look> {
+    match spot {
+        Spot::Look { look, .. } => Some(*look),
+        _ => None,
+    }
+}
+
+/// The look that stands first in a program, if each run asks it before its first byte. Refuses for want of memory alone.
+pub fn first_look(alloc: Global, spots: &[Spot], of: &[usize]) -> Result<Option<Look>, NoMemory>
+    requires few { length of.now ≤ 62 }
+    requires all { AreAllTakers spots.now of.now }
+    ensures { IfOk result (λ look. IsAskedFirst spots.now look) }
+{
+    let Some(look) = spots.iter().find_map(look_of) else {
+        return Ok(None);
+    };
+    let mask = mask_beside(alloc, spots, of, 0, Some(look))?;
+    if mask == 0 {
+        return Ok(Some(look));
+    }
+    Ok(None)
+}
+
+/// The look of the ends of lines or texts that stands last in a program, if there is one. Those of words take longer to ask.
+pub fn last_look(spots: &[Spot]) -> Option<Look> {
+    let look = spots.iter().rev().find_map(look_of);
+    look.filter(|look| matches!(look, Look::End | Look::EndLF | Look::EndCRLF))
+}

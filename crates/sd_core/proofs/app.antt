@@ -1,0 +1,2 @@
+-- What the proofs about standard input and named files use.
+pub mod AppLemmas

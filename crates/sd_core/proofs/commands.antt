@@ -1,0 +1,3 @@
+-- What the proofs about commands use.
+pub mod TreeLemmas
+pub mod DemoLemmas

@@ -1,5 +1,0 @@
--- What the proofs about the listing use.
-pub mod ChoiceLemmas
-pub mod EntryLemmas
-pub mod ListingLemmas
-pub mod StackLemmas

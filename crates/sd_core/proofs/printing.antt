@@ -1,0 +1,2 @@
+-- What the proofs about printing use.
+pub mod ReportLemmas

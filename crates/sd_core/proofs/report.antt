@@ -1,2 +1,0 @@
--- What the proofs about the report use.
-pub mod ReportLemmas

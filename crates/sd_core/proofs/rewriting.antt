@@ -1,2 +1,0 @@
--- What the proofs about one file's rewriting use.
-pub mod NewBytesLemmas

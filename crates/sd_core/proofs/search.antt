@@ -1,2 +1,0 @@
--- What the proofs about texts in the place of texts use.
-pub mod SearchLemmas

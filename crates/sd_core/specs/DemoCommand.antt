@@ -1,0 +1,77 @@
+-- What a demo promises.
+use Rattle.std.specs.Prelude.{◌≡◌, ℕ, IsTrue, List, ◌++◌, All, ⊤}
+use Rattle.sd_edge.specs.Streams.{SinkState}
+use Rattle.sd_change.specs.Change.{Change}
+use Rattle.sd_course.specs.Course.{Course, SinkFailed, AppendsPrefix}
+use Rattle.chosen_files.specs.Globs.{IsValid, IsFirstInvalid}
+use Rattle.tree_rewrite.specs.declared.report.Report.{Report}
+use Rattle.tree_rewrite.specs.declared.sweep_fault.SweepFault.TheVariants as sweep
+use Rattle.demo_tree.specs.Sweep.{CountsDemo, DemoFails, IsForMemory}
+use Rattle.sd_core.specs.Report.{line_of}
+use Rattle.sd_core.specs.Run.{IsOrMemory}
+use Rattle.sd_core.specs.declared.error.Error.{Error}
+use Rattle.sd_core.specs.declared.error.Error.TheVariants as error
+use Rattle.sd_core.specs.declared.ended.Why.{Why}
+use Rattle.sd_core.specs.declared.ended.Why.TheVariants as why
+
+-- the line that counts the chosen files of the demo's tree was printed
+pub record PrintsDemo (change : Change) (n : ℕ) (globs : List (List ℕ)) (out : Course SinkState) : Type 0 where
+  pub report : Report
+  pub counted : CountsDemo change n globs report
+  pub printed : IsTrue out.tells → out.new.held ≡ out.old.held ++ line_of report
+
+-- the printing failed after a prefix of it
+pub record FailsToPrintDemo (change : Change) (n : ℕ) (globs : List (List ℕ)) (out : Course SinkState) : Type 0 where
+  pub failed : SinkFailed out
+  pub report : Report
+  pub counted : CountsDemo change n globs report
+  pub appended : IsTrue out.tells → AppendsPrefix out.old.held (line_of report) out.new.held
+
+-- why a demo is refused: in its tree, files fail for want of memory alone
+abbrev pub DemoIsRefused : ℕ → List (List ℕ) → Error → Type 0
+DemoIsRefused n globs (error.BadGlob place) = DemoFails n globs (sweep.BadGlob place)
+DemoIsRefused n globs (error.FailedProcessing jobs) = DemoFails n globs (sweep.Failed jobs)
+DemoIsRefused n globs error.NoMemory = DemoFails n globs sweep.NoMemory
+DemoIsRefused n globs (error.Regex refused) = ⊥
+DemoIsRefused n globs (error.File fault) = ⊥
+DemoIsRefused n globs (error.InvalidPath path) = ⊥
+DemoIsRefused n globs (error.InvalidReplaceCapture capture) = ⊥
+DemoIsRefused n globs error.RootMissing = ⊥
+DemoIsRefused n globs (error.Walk failed) = ⊥
+DemoIsRefused n globs error.TooMany = ⊥
+DemoIsRefused n globs error.InputTooLong = ⊥
+
+abbrev pub DemoEnds : Change → ℕ → List (List ℕ) → Course SinkState → Why → Type 0
+DemoEnds change n globs out why.Done = PrintsDemo change n globs out
+DemoEnds change n globs out why.Print = FailsToPrintDemo change n globs out
+DemoEnds change n globs out (why.Fault failed) = DemoIsRefused n globs failed
+DemoEnds change n globs out why.Usage = ⊥
+DemoEnds change n globs out why.NotYet = ⊥
+
+-- want of memory is the one reason left
+abbrev pub DemoIsForMemory : ℕ → Error → Type 0
+DemoIsForMemory n (error.FailedProcessing jobs) = IsForMemory n (sweep.Failed jobs)
+DemoIsForMemory n error.NoMemory = ⊤
+DemoIsForMemory n (error.BadGlob place) = ⊥
+DemoIsForMemory n (error.Regex refused) = ⊥
+DemoIsForMemory n (error.File fault) = ⊥
+DemoIsForMemory n (error.InvalidPath path) = ⊥
+DemoIsForMemory n (error.InvalidReplaceCapture capture) = ⊥
+DemoIsForMemory n error.RootMissing = ⊥
+DemoIsForMemory n (error.Walk failed) = ⊥
+DemoIsForMemory n error.TooMany = ⊥
+DemoIsForMemory n error.InputTooLong = ⊥
+
+-- it is done, or want of memory is the one reason why not
+abbrev pub IsDemoDone : ℕ → Why → Type 0
+IsDemoDone n why.Done = ⊤
+IsDemoDone n (why.Fault failed) = DemoIsForMemory n failed
+IsDemoDone n why.Print = ⊥
+IsDemoDone n why.Usage = ⊥
+IsDemoDone n why.NotYet = ⊥
+
+-- What a demo promises at each of its ends.
+pub record DemoCommand (change : Change) (n : ℕ) (globs : List (List ℕ)) (out : Course SinkState) (ended : Why) : Type 0 where
+  pub ends : DemoEnds change n globs out ended
+  pub bad_glob : (place : ℕ) → IsFirstInvalid globs place → IsOrMemory (why.Fault (error.BadGlob place)) ended
+  pub complete : All IsValid globs → (SinkFailed out → ⊥) → IsDemoDone n ended

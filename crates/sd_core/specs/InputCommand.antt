@@ -1,0 +1,51 @@
+-- What a command on standard input promises.
+use Rattle.std.specs.Prelude.{◌≡◌, ◌<◌, ◌⊎◌, ◌^◌, ℕ, IsTrue, length}
+use Rattle.sd_edge.specs.Streams.{SourceState, SinkState}
+use Rattle.sd_edge.specs.declared.fault.DiskFault.TheVariants as disk
+use Rattle.sd_change.specs.Change.{Change}
+use Rattle.sd_course.specs.Course.{Course, SourceFailed}
+use Rattle.stream_rewrite.specs.Stream.{DoesStream, StreamFails, IsStreamClear}
+use Rattle.stream_rewrite.specs.declared.fault.StreamFault.TheVariants as stream
+use Rattle.sd_core.specs.declared.error.Error.{Error}
+use Rattle.sd_core.specs.declared.error.Error.TheVariants as error
+use Rattle.sd_core.specs.declared.ended.Why.{Why}
+use Rattle.sd_core.specs.declared.ended.Why.TheVariants as why
+
+-- at most so many bytes are read
+abbrev pub input_cap : ℕ
+input_cap = 2 ^ 40
+
+-- What a refused command on standard input leaves, and why it is refused.
+abbrev pub InputFails : Change → Course SourceState → Course SinkState → Error → Type 0
+InputFails change input out (error.File disk.Failed) = StreamFails change input_cap input out stream.Failed
+InputFails change input out (error.File disk.Absent) = ⊥
+InputFails change input out (error.File disk.Taken) = ⊥
+InputFails change input out (error.File disk.NoMemory) = ⊥
+InputFails change input out error.InputTooLong = StreamFails change input_cap input out stream.InputTooLong
+InputFails change input out error.NoMemory = StreamFails change input_cap input out stream.NoMemory
+InputFails change input out (error.Regex refused) = ⊥
+InputFails change input out (error.InvalidPath path) = ⊥
+InputFails change input out (error.FailedProcessing jobs) = ⊥
+InputFails change input out (error.InvalidReplaceCapture capture) = ⊥
+InputFails change input out (error.BadGlob place) = ⊥
+InputFails change input out error.RootMissing = ⊥
+InputFails change input out (error.Walk failed) = ⊥
+InputFails change input out error.TooMany = ⊥
+
+abbrev pub InputEnds : Change → Course SourceState → Course SinkState → Why → Type 0
+InputEnds change input out why.Done = DoesStream change input out
+InputEnds change input out (why.Fault failed) = InputFails change input out failed
+InputEnds change input out why.Usage = ⊥
+InputEnds change input out why.Print = ⊥
+InputEnds change input out why.NotYet = ⊥
+
+-- it is told so, unless a read failed or there was no memory before that was seen
+abbrev pub IsTooLong : Course SourceState → Why → Type 0
+IsTooLong input ended =
+    (ended ≡ why.Fault error.InputTooLong) ⊎ (ended ≡ why.Fault error.NoMemory) ⊎ ((ended ≡ why.Fault (error.File disk.Failed)) × SourceFailed input)
+
+-- What a command on standard input promises at each of its ends.
+pub record InputCommand (change : Change) (input : Course SourceState) (out : Course SinkState) (ended : Why) : Type 0 where
+  pub ends : InputEnds change input out ended
+  pub too_long : IsTrue input.tells → input_cap < length input.old.left → IsTooLong input ended
+  pub complete : IsStreamClear input_cap input out → (ended ≡ why.Done) ⊎ (ended ≡ why.Fault error.NoMemory)

@@ -1,0 +1,2 @@
+-- What the proofs of the examples use.
+pub mod SmallTreeLemmas
