@@ -23,43 +23,44 @@ fn swept(alloc: Global, n: u64, globs: &[&str]) -> Result<[u128; 3], Fail>
     Ok([report.chosen, report.changed, report.replaced])
 }
 
+/// A demo's number, globs, and what a sweep reports: the chosen, the changed and the replaced. In a demo of 40 the files 6, 22 and 38 of a
+/// folder have one line, two and three; of 10, the file 8 has three lines, the file 2 has two, and the file 5 is empty.
+const SWEEPS: &[(u64, &[&str], [u128; 3])] = &[
+    (10, &["**/*.txt"], [6, 6, 30]),
+    (2000, &["**"], [1600, 1600, 8000]),
+    (40, &["d06/*"], [3, 3, 12]),
+    (40, &["demo/d06/*"], [0, 0, 0]),
+    (10, &["*"], [0, 0, 0]),
+    (10, &["**/*.md"], [2, 2, 10]),
+    (10, &[], [0, 0, 0]),
+    (0, &["**"], [0, 0, 0]),
+];
+
 #[test]
 fn chosen_files_are_rewritten_and_counted(rt: HostRuntime) -> Result<(), Fail> {
     let alloc = rt.alloc();
-    assert!(rt; swept(alloc, 10, &["**/*.txt"])? == [6, 6, 30]);
-    assert!(rt; swept(alloc, 2000, &["**"])? == [1600, 1600, 8000]);
+    for (n, globs, wanted) in SWEEPS {
+        let n = *n;
+        assert!(rt; n <= 100_000);
+        let counts = swept(alloc, n, globs)?;
+        assert!(rt; counts == *wanted);
+    }
     Ok(())
 }
 
-#[test]
-fn globs_are_of_paths_below_the_root(rt: HostRuntime) -> Result<(), Fail> {
-    let alloc = rt.alloc();
-    // the files 6, 22 and 38 have one line, two and three
-    assert!(rt; swept(alloc, 40, &["d06/*"])? == [3, 3, 12]);
-    assert!(rt; swept(alloc, 40, &["demo/d06/*"])? == [0, 0, 0]);
-    assert!(rt; swept(alloc, 10, &["*"])? == [0, 0, 0]);
-    // the file 8 has three lines, the file 2 has two, and the file 5 is empty
-    assert!(rt; swept(alloc, 10, &["**/*.md"])? == [2, 2, 10]);
-    Ok(())
-}
-
-#[test]
-fn nothing_is_chosen_by_no_globs_or_of_no_files(rt: HostRuntime) -> Result<(), Fail> {
-    let alloc = rt.alloc();
-    assert!(rt; swept(alloc, 10, &[])? == [0, 0, 0]);
-    assert!(rt; swept(alloc, 0, &["**"])? == [0, 0, 0]);
-    Ok(())
-}
-
-#[test]
-fn the_first_invalid_glob_is_told(rt: HostRuntime) -> Result<(), Fail> {
-    let alloc = rt.alloc();
+/// Whether a demo refuses these globs for the one of this number.
+fn is_refused(alloc: Global, globs: &[&str], number: usize) -> Result<bool, Fail> {
     let mut texts = Texts::new(alloc);
-    for glob in ["**", "a\\", "[!]"] {
+    for glob in globs {
         texts.push(glob)?;
     }
     let replacer = Replacer::new(alloc, "one", "1", true, None, 0)?;
     let refused = sweep_demo(alloc, 10, &texts, &replacer);
-    assert!(rt; matches!(refused, Err(SweepFault::BadGlob(1))));
+    Ok(matches!(refused, Err(SweepFault::BadGlob(bad)) if bad == number))
+}
+
+#[test]
+fn the_first_invalid_glob_is_told(rt: HostRuntime) -> Result<(), Fail> {
+    assert!(rt; is_refused(rt.alloc(), &["**", "a\\", "[!]"], 1)?);
     Ok(())
 }

@@ -88,27 +88,28 @@ fn literal_texts_mean_themselves(rt: HostRuntime) -> Result<(), Fail> {
     Ok(())
 }
 
-/// A limit, what becomes of `aaa` where `a` becomes `b`, and how many matches are replaced.
-const LIMITS: &[(u64, &str, u128)] = &[
-    (0, "bbb", 3),
-    (1, "baa", 1),
-    (2, "bba", 2),
-    (3, "bbb", 3),
-    (4, "bbb", 3),
-    (u64::MAX, "bbb", 3),
+/// A limit, a pattern, a replacement text, what becomes of a text, and how many matches are replaced.
+const LIMITS: &[(u64, &str, &str, &str, &str, u128)] = &[
+    (0, "a", "b", "aaa", "bbb", 3),
+    (1, "a", "b", "aaa", "baa", 1),
+    (2, "a", "b", "aaa", "bba", 2),
+    (3, "a", "b", "aaa", "bbb", 3),
+    (4, "a", "b", "aaa", "bbb", 3),
+    (u64::MAX, "a", "b", "aaa", "bbb", 3),
+    (1, "(a)", "$1$1", "a\na", "aa\na", 1),
 ];
 
 #[test]
 fn a_limit_counts_the_first_matches(rt: HostRuntime) -> Result<(), Fail> {
-    for (most, new, count) in LIMITS {
+    for (most, find, with, old, new, count) in LIMITS {
         let case = Case {
-            find: "a",
-            with: "b",
+            find,
+            with,
             kind: Kind::Pattern,
             flags: None,
             limit: Limit::Whole(*most),
         };
-        check(&rt, &case, b"aaa", new.as_bytes(), *count)?;
+        check(&rt, &case, old.as_bytes(), new.as_bytes(), *count)?;
     }
     Ok(())
 }
