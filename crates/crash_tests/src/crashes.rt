@@ -1,7 +1,7 @@
 //! What a crash leaves of a run, and of a disk in memory.
 
 use sd_base::Words;
-use sd_core::{Ended, Why, run};
+use sd_core::run;
 use sd_edge::{Disk, Kind, MemDisk, MemSink, MemSource, RawEntry};
 use std::alloc::Global;
 use std::process::Abort;
@@ -21,13 +21,9 @@ fn two_files(alloc: Global) -> Result<MemDisk, Fail> {
     Ok(disk)
 }
 
-/// Runs the words without input, and gives how the run ended. What is printed has so many bytes of room.
-fn run_in_room(
-    alloc: Global,
-    disk: &mut MemDisk,
-    words: &[&str],
-    room: usize,
-) -> Result<Ended, Fail> {
+/// Runs the words without input, and gives the status. What is printed has so many bytes of room. What the run ends with is let go here, so
+/// that tests are quickly proved.
+fn run_in_room(alloc: Global, disk: &mut MemDisk, words: &[&str], room: usize) -> Result<u8, Fail> {
     let mut list = Words::new(alloc);
     for word in words {
         list.push(word)?;
@@ -35,18 +31,21 @@ fn run_in_room(
     let mut input = MemSource::new(alloc, b"", 1)?;
     let mut out = MemSink::new(alloc, room)?;
     let mut err = MemSink::new(alloc, 1000)?;
-    Ok(run(alloc, &list, disk, &mut input, &mut out, &mut err))
+    let ended = run(alloc, &list, disk, &mut input, &mut out, &mut err);
+    let status = ended.status;
+    drop(ended);
+    Ok(status)
 }
 
 /// Runs the words without input, with room for all that is printed.
-fn run_words(alloc: Global, disk: &mut MemDisk, words: &[&str]) -> Result<Ended, Fail> {
+fn run_words(alloc: Global, disk: &mut MemDisk, words: &[&str]) -> Result<u8, Fail> {
     run_in_room(alloc, disk, words, 1000)
 }
 
 /// How many counted calls the words make on `two_files`.
 fn calls_of(alloc: Global, words: &[&str]) -> Result<u64, Fail> {
     let mut disk = two_files(alloc)?;
-    let _ended = run_words(alloc, &mut disk, words)?;
+    let _status = run_words(alloc, &mut disk, words)?;
     Ok(disk.calls())
 }
 
@@ -134,8 +133,8 @@ fn each_stop_and_crash_leaves_the_file_old_or_new(rt: HostRuntime) -> Result<(),
     for call in 1..=calls {
         let mut disk = two_files(alloc)?;
         disk.stop_at(call);
-        let ended = run_words(alloc, &mut disk, &TREE_COMMAND)?;
-        assert_eq!(rt; ended.status, 1, "call {call}");
+        let status = run_words(alloc, &mut disk, &TREE_COMMAND)?;
+        assert_eq!(rt; status, 1, "call {call}");
         check_images(&rt, &disk, b"one", call)?;
     }
     Ok(())
@@ -149,8 +148,8 @@ fn each_stop_and_crash_leaves_named_files_old_or_new(rt: HostRuntime) -> Result<
     for call in 1..=calls {
         let mut disk = two_files(alloc)?;
         disk.stop_at(call);
-        let ended = run_words(alloc, &mut disk, &FILES)?;
-        assert_eq!(rt; ended.status, 1, "call {call}");
+        let status = run_words(alloc, &mut disk, &FILES)?;
+        assert_eq!(rt; status, 1, "call {call}");
         check_images(&rt, &disk, b"1", call)?;
     }
     Ok(())
@@ -175,16 +174,16 @@ fn check_durable(rt: &(impl Abort + AllocGlobal), disk: &MemDisk) -> Result<(), 
 #[test]
 fn after_a_run_each_crash_leaves_the_new_file_alone(rt: HostRuntime) -> Result<(), Fail> {
     let mut disk = two_files(rt.alloc())?;
-    let ended = run_words(rt.alloc(), &mut disk, &TREE_COMMAND)?;
-    assert_eq!(rt; ended.status, 0);
+    let status = run_words(rt.alloc(), &mut disk, &TREE_COMMAND)?;
+    assert_eq!(rt; status, 0);
     check_durable(&rt, &disk)
 }
 
 #[test]
 fn after_a_report_that_cannot_be_written_too(rt: HostRuntime) -> Result<(), Fail> {
     let mut disk = two_files(rt.alloc())?;
-    let ended = run_in_room(rt.alloc(), &mut disk, &TREE_COMMAND, 3)?;
-    assert!(rt; matches!(ended.why, Why::Print));
+    let status = run_in_room(rt.alloc(), &mut disk, &TREE_COMMAND, 3)?;
+    assert_eq!(rt; status, 1);
     check_durable(&rt, &disk)
 }
 
@@ -193,8 +192,8 @@ fn a_preview_leaves_the_disk_as_it_was(rt: HostRuntime) -> Result<(), Fail> {
     let alloc = rt.alloc();
     let mut disk = two_files(alloc)?;
     let words = ["-p", "one", "1", "/t/a.txt", "/t/b.md"];
-    let ended = run_words(alloc, &mut disk, &words)?;
-    assert_eq!(rt; ended.status, 0);
+    let status = run_words(alloc, &mut disk, &words)?;
+    assert_eq!(rt; status, 0);
     for choice in 0..CHOICES {
         let mut image = disk.crash(alloc, choice)?;
         assert!(rt;
@@ -262,8 +261,8 @@ fn a_file_that_was_written_in_place_may_hold_anything_until_it_is_synced(
     assert!(rt; holds(alloc, &before, "/t/b.md", b"one")?);
     disk.sync("/t/b.md")?;
     let words = ["--root", "/t", "--", "two", "2", "*"];
-    let ended = run_words(alloc, &mut disk, &words)?;
-    assert_eq!(rt; ended.status, 0);
+    let status = run_words(alloc, &mut disk, &words)?;
+    assert_eq!(rt; status, 0);
     for choice in 0..CHOICES {
         let image = disk.crash(alloc, choice)?;
         assert!(rt; holds(alloc, &image, "/t/b.md", b"2")?, "choice {choice}");

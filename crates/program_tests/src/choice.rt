@@ -1,7 +1,6 @@
 //! Which files a run chooses, and in which order it rewrites them.
 
 use crate::running::{holds, run_words};
-use sd_core::{Error, Why};
 use sd_edge::{Disk, MemDisk};
 use std::alloc::Global;
 use std::test::Fail;
@@ -100,10 +99,7 @@ fn a_root_that_leads_to_nothing_is_missing(rt: HostRuntime) -> Result<(), Fail> 
         let mut disk = of_each_kind(alloc)?;
         let words = ["--root", root, "--", "1", "2", "*"];
         let run = run_words(alloc, &mut disk, &words, 1000)?;
-        assert!(rt;
-            matches!(run.ended.why, Why::Fault(Error::RootMissing)),
-            "{root}"
-        );
+        assert_eq!(rt; run.outcome.cause, "RootMissing", "{root}");
     }
     Ok(())
 }

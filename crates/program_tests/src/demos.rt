@@ -1,6 +1,6 @@
 //! Trees in memory that are made from a number.
 
-use crate::running::{cause, check_run, run_words};
+use crate::running::{check_run, run_words};
 use sd_edge::MemDisk;
 use std::process::Abort;
 use std::test::Fail;
@@ -68,6 +68,6 @@ fn a_demo_whose_report_cannot_be_written_is_told(rt: HostRuntime) -> Result<(), 
     let run = run_words(rt.alloc(), &mut disk, &words, 8)?;
     let err = b"error: the report could not be written\n";
     check_run(&rt, &run, &words, (1, b"chosen 6", err));
-    assert_eq!(rt; cause(&run.ended.why), "Print");
+    assert_eq!(rt; run.outcome.cause, "Print");
     Ok(())
 }

@@ -1,7 +1,6 @@
 //! Disks and streams that fail under a command.
 
-use crate::running::{cause, check_files, holds, listed, run_words, two_files};
-use sd_core::{Ended, Error, Why, run};
+use crate::running::{Outcome, check_files, holds, listed, run_to_end, run_words, two_files};
 use sd_edge::{MemDisk, MemSink, MemSource};
 use std::alloc::Global;
 use std::process::Abort;
@@ -9,14 +8,6 @@ use std::test::Fail;
 
 /// A command on two named files.
 const FILES: [&str; 5] = ["--", "one", "1", "/t/a.txt", "/t/b.md"];
-
-/// How many jobs failed, where that ended the run.
-fn failed_jobs(why: &Why) -> usize {
-    match why {
-        Why::Fault(Error::FailedProcessing(jobs)) => jobs.len(),
-        _ => 0,
-    }
-}
 
 /// Whether each of the two files is old or new, at least one of them is new, and no temporary file stands.
 fn are_old_or_new(alloc: Global, disk: &MemDisk) -> Result<bool, Fail> {
@@ -33,8 +24,8 @@ fn check_failing_call(rt: &(impl Abort + AllocGlobal), call: u64) -> Result<(), 
     let mut disk = two_files(rt.alloc())?;
     disk.fail_at(call)?;
     let run = run_words(rt.alloc(), &mut disk, &FILES, 1000)?;
-    assert_eq!(rt; run.ended.status, 1, "call {call}");
-    assert_eq!(rt; failed_jobs(&run.ended.why), 1, "call {call}");
+    assert_eq!(rt; run.outcome.status, 1, "call {call}");
+    assert_eq!(rt; run.outcome.failed_jobs, 1, "call {call}");
     assert!(rt; are_old_or_new(rt.alloc(), &disk)?, "call {call}");
     Ok(())
 }
@@ -63,8 +54,8 @@ fn each_failing_call_ends_a_preview(rt: HostRuntime) -> Result<(), Fail> {
         let mut disk = two_files(alloc)?;
         disk.fail_at(call)?;
         let run = run_words(alloc, &mut disk, &words, 1000)?;
-        assert_eq!(rt; run.ended.status, 1, "call {call}");
-        assert_eq!(rt; cause(&run.ended.why), "File", "call {call}");
+        assert_eq!(rt; run.outcome.status, 1, "call {call}");
+        assert_eq!(rt; run.outcome.cause, "File", "call {call}");
         assert_eq!(rt;
             run.err.bytes(),
             b"error: input or output failed\n".as_slice(),
@@ -89,10 +80,10 @@ fn run_streams(
     input: &mut MemSource,
     out: &mut MemSink,
     err: &mut MemSink,
-) -> Result<Ended, Fail> {
+) -> Result<Outcome, Fail> {
     let list = listed(alloc, &["one", "1"])?;
     let mut disk = MemDisk::new(alloc);
-    Ok(run(alloc, &list, &mut disk, input, out, err))
+    Ok(run_to_end(alloc, &list, &mut disk, input, out, err))
 }
 
 #[test]
@@ -105,7 +96,7 @@ fn an_input_that_cannot_be_read_is_told(rt: HostRuntime) -> Result<(), Fail> {
         let mut err = MemSink::new(alloc, 100)?;
         let ended = run_streams(alloc, &mut input, &mut out, &mut err)?;
         assert_eq!(rt; ended.status, 1, "call {call}");
-        assert_eq!(rt; cause(&ended.why), "File", "call {call}");
+        assert_eq!(rt; ended.cause, "File", "call {call}");
         assert_eq!(rt; out.bytes().len(), 0, "call {call}");
         assert_eq!(rt;
             err.bytes(),
@@ -124,7 +115,7 @@ fn an_output_that_cannot_be_written_is_told(rt: HostRuntime) -> Result<(), Fail>
     let mut err = MemSink::new(alloc, 100)?;
     let ended = run_streams(alloc, &mut input, &mut out, &mut err)?;
     assert_eq!(rt; ended.status, 1);
-    assert_eq!(rt; cause(&ended.why), "File");
+    assert_eq!(rt; ended.cause, "File");
     assert_eq!(rt; out.bytes(), b"1 two".as_slice());
     assert_eq!(rt; out.faults(), 1);
     assert_eq!(rt; err.bytes(), b"error: input or output failed\n".as_slice());
@@ -141,7 +132,7 @@ fn an_error_that_cannot_be_written_is_passed_over(rt: HostRuntime) -> Result<(),
         let mut err = MemSink::new(alloc, room)?;
         let ended = run_streams(alloc, &mut input, &mut out, &mut err)?;
         assert_eq!(rt; ended.status, 1, "{room}");
-        assert_eq!(rt; cause(&ended.why), "File", "{room}");
+        assert_eq!(rt; ended.cause, "File", "{room}");
         assert_eq!(rt; err.bytes(), told, "{room}");
     }
     Ok(())
@@ -151,7 +142,7 @@ fn an_error_that_cannot_be_written_is_passed_over(rt: HostRuntime) -> Result<(),
 fn an_output_that_is_not_needed_is_not_written(rt: HostRuntime) -> Result<(), Fail> {
     let mut disk = two_files(rt.alloc())?;
     let run = run_words(rt.alloc(), &mut disk, &FILES, 0)?;
-    assert_eq!(rt; run.ended.status, 0);
+    assert_eq!(rt; run.outcome.status, 0);
     assert_eq!(rt; run.out.faults(), 0);
     check_files(&rt, &disk, &[("/t/a.txt", b"1 two 1"), ("/t/b.md", b"1")])
 }

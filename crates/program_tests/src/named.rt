@@ -1,6 +1,6 @@
 //! Named files, rewritten and previewed.
 
-use crate::running::{cause, check, check_files, check_run, run_words, two_files};
+use crate::running::{check, check_files, check_run, run_words, two_files};
 use sd_edge::MemDisk;
 use std::alloc::Global;
 use std::process::Abort;
@@ -198,7 +198,7 @@ fn a_preview_that_cannot_be_written_is_told(rt: HostRuntime) -> Result<(), Fail>
     let out = b"----- FILE /t/b.md -----\n1\n---";
     let err = b"error: input or output failed\n";
     check_run(&rt, &run, &words, (1, out, err));
-    assert_eq!(rt; cause(&run.ended.why), "File");
+    assert_eq!(rt; run.outcome.cause, "File");
     check_files(&rt, &disk, &OLD)
 }
 
@@ -212,7 +212,7 @@ fn preview_faults_have_their_causes(rt: HostRuntime) -> Result<(), Fail> {
     ] {
         let mut disk = four_nodes(rt.alloc())?;
         let run = run_words(rt.alloc(), &mut disk, &["-p", "one", "1", path], 100)?;
-        assert_eq!(rt; cause(&run.ended.why), name, "{path}");
+        assert_eq!(rt; run.outcome.cause, name, "{path}");
         assert_eq!(rt; disk.faults(), 0, "{path}");
     }
     Ok(())

@@ -1,7 +1,7 @@
 //! Why a command fails, in which order it is told, and by what text.
 
-use crate::running::{cause, check_files, check_run, run_on_input, run_words, two_files};
-use sd_core::{Error, Why};
+use crate::running::{check_files, check_run, run_on_input, run_words, two_files};
+use sd_core::Error;
 use std::alloc::Global;
 use std::process::Abort;
 use std::test::Fail;
@@ -16,7 +16,7 @@ fn check_refused(rt: &(impl Abort + AllocGlobal), row: Row, calls: u64) -> Resul
     let run = run_words(rt.alloc(), &mut disk, words, 1000)?;
     let status = if name == "Usage" { 2 } else { 1 };
     check_run(rt, &run, words, (status, b"", err));
-    assert_eq!(rt; cause(&run.ended.why), name, "{words:?}");
+    assert_eq!(rt; run.outcome.cause, name, "{words:?}");
     assert!(rt; disk.calls() <= calls, "{words:?}");
     assert!(rt; !run.has_read, "{words:?}");
     check_files(
@@ -185,7 +185,7 @@ fn a_pattern_of_251_nested_groups_is_refused(rt: HostRuntime) -> Result<(), Fail
             pattern.push(')')?;
         }
         let run = run_on_input(alloc, &[pattern.as_str(), "x"], b"a")?;
-        assert_eq!(rt; run.ended.status, status, "{depth}");
+        assert_eq!(rt; run.outcome.status, status, "{depth}");
         let nests = run.err.bytes() == b"error: invalid regex regex nests too deep\n".as_slice();
         assert_eq!(rt; nests, status == 1, "{depth}");
     }
@@ -229,10 +229,7 @@ fn told_of_call(alloc: Global, call: u64) -> Result<String, Fail> {
         &["--root", "/t", "--", "one", "1", "*"],
         1000,
     )?;
-    let name = match &run.ended.why {
-        Why::Fault(Error::Walk(_)) => "Walk",
-        _ => "other",
-    };
+    let name = run.outcome.cause;
     Ok(format!(in alloc; "{name}, {}", str::from_utf8(run.err.bytes())?)?)
 }
 

@@ -25,10 +25,41 @@ pub(crate) fn listed(alloc: Global, words: &[&str]) -> Result<Words, Fail> {
     Ok(list)
 }
 
+/// How a run ended: its status, the name of its cause, and how many jobs failed, where that ended it.
+#[derive(Clone, Copy)]
+pub(crate) struct Outcome {
+    pub(crate) status: u8,
+    pub(crate) cause: &'static str,
+    pub(crate) failed_jobs: usize,
+}
+
+/// Runs the program. What it ends with is let go here, so that tests are quickly proved.
+pub(crate) fn run_to_end(
+    alloc: Global,
+    words: &Words,
+    disk: &mut MemDisk,
+    input: &mut MemSource,
+    out: &mut MemSink,
+    err: &mut MemSink,
+) -> Outcome {
+    let ended = run(alloc, words, disk, input, out, err);
+    let outcome = outcome_of(&ended);
+    drop(ended);
+    outcome
+}
+
+fn outcome_of(ended: &Ended) -> Outcome {
+    Outcome {
+        status: ended.status,
+        cause: cause(&ended.why),
+        failed_jobs: failed_jobs(&ended.why),
+    }
+}
+
 /// A run, with what it printed and whether it read its input.
 #[derive(Drop)]
 pub(crate) struct Run {
-    pub(crate) ended: Ended,
+    pub(crate) outcome: Outcome,
     pub(crate) out: MemSink,
     pub(crate) err: MemSink,
     pub(crate) has_read: bool,
@@ -46,10 +77,10 @@ pub(crate) fn run_words(
     input.fail_at(1);
     let mut out = MemSink::new(alloc, room)?;
     let mut err = MemSink::new(alloc, 1000)?;
-    let ended = run(alloc, &list, disk, &mut input, &mut out, &mut err);
+    let outcome = run_to_end(alloc, &list, disk, &mut input, &mut out, &mut err);
     let has_read = input.faults() > 0;
     Ok(Run {
-        ended,
+        outcome,
         out,
         err,
         has_read,
@@ -63,9 +94,9 @@ pub(crate) fn run_on_input(alloc: Global, words: &[&str], input: &[u8]) -> Resul
     let mut input = MemSource::new(alloc, input, 7)?;
     let mut out = MemSink::new(alloc, 1000)?;
     let mut err = MemSink::new(alloc, 1000)?;
-    let ended = run(alloc, &list, &mut disk, &mut input, &mut out, &mut err);
+    let outcome = run_to_end(alloc, &list, &mut disk, &mut input, &mut out, &mut err);
     Ok(Run {
-        ended,
+        outcome,
         out,
         err,
         has_read: true,
@@ -80,7 +111,7 @@ pub(crate) fn check_run<R: Abort>(rt: &R, run: &Run, words: &[&str], shown: Show
     let (status, out, err) = shown;
     assert_eq!(rt; run.out.bytes(), out, "printed at {words:?}");
     assert_eq!(rt; run.err.bytes(), err, "the error at {words:?}");
-    assert_eq!(rt; run.ended.status, status, "the status at {words:?}");
+    assert_eq!(rt; run.outcome.status, status, "the status at {words:?}");
 }
 
 /// The words show this on a disk, and don't read the input.
@@ -118,8 +149,16 @@ pub(crate) fn check_files(
     Ok(())
 }
 
+/// How many jobs failed, where that ended the run.
+fn failed_jobs(why: &Why) -> usize {
+    match why {
+        Why::Fault(Error::FailedProcessing(jobs)) => jobs.len(),
+        _ => 0,
+    }
+}
+
 /// The name of how a run ended.
-pub(crate) fn cause(why: &Why) -> &'static str {
+fn cause(why: &Why) -> &'static str {
     match why {
         Why::Done => "Done",
         Why::Usage => "Usage",

@@ -1,7 +1,6 @@
 //! Standard input.
 
-use crate::running::{check_run, listed, run_on_input};
-use sd_core::run;
+use crate::running::{check_run, listed, run_on_input, run_to_end};
 use sd_edge::{MemDisk, MemSink, MemSource};
 use std::process::Abort;
 use std::test::Fail;
@@ -127,7 +126,7 @@ fn a_pattern_of_stars_answers_at_once(rt: HostRuntime) -> Result<(), Fail> {
     let mut input = MemSource::new(alloc, &bytes, 4096)?;
     let mut out = MemSink::new(alloc, 200_000)?;
     let mut err = MemSink::new(alloc, 0)?;
-    let ended = run(alloc, &list, &mut disk, &mut input, &mut out, &mut err);
+    let ended = run_to_end(alloc, &list, &mut disk, &mut input, &mut out, &mut err);
     assert_eq!(rt; ended.status, 0);
     assert!(rt; out.bytes() == bytes.as_slice());
     assert_eq!(rt; disk.calls(), 0);

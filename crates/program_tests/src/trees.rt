@@ -1,7 +1,6 @@
 //! Tree commands on disks in memory.
 
-use crate::running::{cause, check, check_files, check_run, holds, run_words, two_files};
-use sd_core::{Error, Why};
+use crate::running::{Outcome, check, check_files, check_run, holds, run_words, two_files};
 use sd_edge::MemDisk;
 use std::alloc::Global;
 use std::process::Abort;
@@ -24,12 +23,8 @@ fn rewrites_chosen_files_and_counts(rt: HostRuntime) -> Result<(), Fail> {
 }
 
 /// Whether a fault of the disk is told: by the walk, or by one job.
-fn is_one_fault(why: &Why) -> bool {
-    match why {
-        Why::Fault(Error::Walk(_)) => true,
-        Why::Fault(Error::FailedProcessing(jobs)) => jobs.len() == 1,
-        _ => false,
-    }
+fn is_one_fault(outcome: Outcome) -> bool {
+    outcome.cause == "Walk" || outcome.failed_jobs == 1
 }
 
 /// A tree command with a failing call tells of it and leaves its file old or new.
@@ -39,8 +34,8 @@ fn check_failing_call(rt: &(impl Abort + AllocGlobal), call: u64) -> Result<(), 
     disk.fail_at(call)?;
     let run = run_words(alloc, &mut disk, &TREE_COMMAND, 1000)?;
     assert_eq!(rt; disk.faults(), 1, "call {call}");
-    assert_eq!(rt; run.ended.status, 1, "call {call}");
-    assert!(rt; is_one_fault(&run.ended.why), "call {call}");
+    assert_eq!(rt; run.outcome.status, 1, "call {call}");
+    assert!(rt; is_one_fault(run.outcome), "call {call}");
     assert_eq!(rt; run.out.bytes().len(), 0, "call {call}");
     let old = holds(alloc, &disk, "/t/a.txt", b"one two one")?;
     let new = holds(alloc, &disk, "/t/a.txt", b"1 two 1")?;
@@ -208,7 +203,7 @@ fn a_report_that_cannot_be_written_is_told(rt: HostRuntime) -> Result<(), Fail> 
     let run = run_words(rt.alloc(), &mut disk, &TREE_COMMAND, 3)?;
     let err = b"error: the report could not be written\n";
     check_run(&rt, &run, &TREE_COMMAND, (1, b"cho", err));
-    assert_eq!(rt; cause(&run.ended.why), "Print");
+    assert_eq!(rt; run.outcome.cause, "Print");
     check_files(&rt, &disk, &[("/t/a.txt", b"1 two 1"), ("/t/b.md", b"one")])
 }
 

@@ -1,7 +1,6 @@
 //! Words that are no command line of the program.
 
 use crate::running::{check_run, run_words, two_files};
-use sd_core::Why;
 use std::process::Abort;
 use std::test::Fail;
 
@@ -14,7 +13,7 @@ fn check_usage(rt: &(impl Abort + AllocGlobal), row: Row) -> Result<(), Fail> {
     let mut disk = two_files(rt.alloc())?;
     let run = run_words(rt.alloc(), &mut disk, words, 1000)?;
     check_run(rt, &run, words, (2, b"", err));
-    assert!(rt; matches!(run.ended.why, Why::Usage), "{words:?}");
+    assert!(rt; run.outcome.cause == "Usage", "{words:?}");
     assert_eq!(rt; disk.calls(), 0, "{words:?}");
     assert!(rt; !run.has_read, "{words:?}");
     Ok(())
@@ -92,8 +91,8 @@ fn help_is_printed_as_an_error(rt: HostRuntime) -> Result<(), Fail> {
     for word in ["-h", "--help"] {
         let mut disk = two_files(rt.alloc())?;
         let run = run_words(rt.alloc(), &mut disk, &[word], 1000)?;
-        assert!(rt; matches!(run.ended.why, Why::Usage), "{word}");
-        assert_eq!(rt; run.ended.status, 2, "{word}");
+        assert!(rt; run.outcome.cause == "Usage", "{word}");
+        assert_eq!(rt; run.outcome.status, 2, "{word}");
         assert_eq!(rt; run.out.bytes().len(), 0, "{word}");
         assert!(rt; run.err.bytes().starts_with(b"error: "), "{word}");
         for part in HELP_PARTS {
