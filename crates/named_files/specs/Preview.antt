@@ -144,8 +144,8 @@ PreviewFails change paths d out (preview.InvalidPath path) = IsNoPath path × St
 PreviewFails change paths d out preview.NoMemory = StopsWithin change paths d out
 
 -- the word is told that it names no file, unless the disk or the sink failed, or there was no memory
-abbrev pub TellsNoPath : Course DiskState → Course SinkState → List ℕ → PreviewFault → Type 0
-TellsNoPath d out path fault =
+abbrev pub AnswersNoPath : Course DiskState → Course SinkState → List ℕ → PreviewFault → Type 0
+AnswersNoPath d out path fault =
     (fault ≡ preview.InvalidPath path) ⊎ (fault ≡ preview.NoMemory) ⊎ ((fault ≡ preview.File disk.Failed) × (DiskFailed d ⊎ SinkFailed out))
 
 -- ---- faults

@@ -12,7 +12,7 @@ ghost use Rattle.file_rewrite.specs.declared.rewrite.Rewrite.{Rewrite};
 ghost use Rattle.file_rewrite.specs.Examples.{OneToDigit};
 ghost use Rattle.named_files.specs.Named.{ReplacesInTurn, TellsNoPath};
 ghost use Rattle.named_files.specs.Clear.{LeadsToFile, IsFirstUnshown};
-ghost use Rattle.named_files.specs.Preview.{header_of, text_with, HasText, are_many, TellsNoPath};
+ghost use Rattle.named_files.specs.Preview.{header_of, text_with, HasText, are_many, AnswersNoPath};
 ghost use Rattle.named_files.specs.declared.fault.PreviewFault.TheVariants as preview;
 ghost use Rattle.named_files.specs.Examples.{a_path, b_path};
 
@@ -30,7 +30,7 @@ pub fn named_files_are_shown_as_in_the_examples()
     ensures one_end_each { (old new : DiskState) → ReplacesInTurn OneToDigit (a_path ∷ []) [] old new → ⊥ }
     ensures told { TellsNoPath [] (Err job.InvalidPath) }
     ensures first_unshown { (tree : Tree) → LeadsToFile tree a_path → IsFirstUnshown (a_path ∷ [] ∷ b_path ∷ []) tree [] }
-    ensures told_in_a_preview { (d : Course DiskState) (out : Course SinkState) → TellsNoPath d out [] (preview.InvalidPath []) }
-    ensures not_told_as_missing { (d : Course DiskState) (out : Course SinkState) → TellsNoPath d out [] (preview.File disk.Absent) → ⊥ }
+    ensures told_in_a_preview { (d : Course DiskState) (out : Course SinkState) → AnswersNoPath d out [] (preview.InvalidPath []) }
+    ensures not_told_as_missing { (d : Course DiskState) (out : Course SinkState) → AnswersNoPath d out [] (preview.File disk.Absent) → ⊥ }
     ensures not_done { (rewrite : Rewrite) → TellsNoPath [] (Ok rewrite) → ⊥ }
 {}

@@ -5,7 +5,7 @@ ghost use Rattle.sd_edge.specs.Disk.{SameTree, SameLists};
 ghost use Rattle.sd_course.specs.Course.{course};
 ghost use Rattle.file_rewrite.specs.Paths.{IsNoPath};
 ghost use Rattle.named_files.specs.Clear.{IsFirstUnshown, IsPreviewClear};
-ghost use Rattle.named_files.specs.Preview.{are_many, have_headers, header_where, HasText, IsUnread, Shows, ShowsNot, DoesPreview, PreviewFails, TellsNoPath};
+ghost use Rattle.named_files.specs.Preview.{are_many, have_headers, header_where, HasText, IsUnread, Shows, ShowsNot, DoesPreview, PreviewFails, AnswersNoPath};
 
 use crate::PreviewFault;
 use file_rewrite::is_no_path;
@@ -38,7 +38,7 @@ pub fn preview_named<D: Disk, O: Sink, R: Replaces>(
     ensures disk_never_falls { (D.state disk.old).faults ≤ (D.state disk.new).faults }
     ensures sink_never_falls { (O.state out.old).faults ≤ (O.state out.new).faults }
     ensures no_path { IsTrue D.tells → (path : List ℕ) → IsFirstUnshown paths.items (D.state disk.old).tree path → IsNoPath path
-        → MatchResult result (λ _. ⊥) (TellsNoPath
+        → MatchResult result (λ _. ⊥) (AnswersNoPath
         (course D.tells (D.state disk.old) (D.state disk.new)) (course O.tells (O.state out.old) (O.state out.new)) path) }
     ensures complete { IsPreviewClear paths.items (course D.tells (D.state disk.old) (D.state disk.new)) (course O.tells (O.state out.old) (O.state out.new))
         → IfErr result (λ fault. fault ≡ PreviewFault.NoMemory) }

@@ -11,7 +11,7 @@ use Rattle.sd_change.specs.Change.{Change}
 use Rattle.sd_course.specs.Course.{Course}
 use Rattle.file_rewrite.specs.Paths.{IsNoPath}
 use Rattle.named_files.specs.Clear.{LeadsToFile, IsFirstUnshown, IsPreviewClear}
-use Rattle.named_files.specs.Preview.{DoesPreview, StopsAt, PreviewFaults, PreviewFails, TellsNoPath}
+use Rattle.named_files.specs.Preview.{DoesPreview, StopsAt, PreviewFaults, PreviewFails, AnswersNoPath}
 use Rattle.named_files.specs.declared.fault.PreviewFault.{PreviewFault}
 use Rattle.named_files.specs.declared.fault.PreviewFault.TheVariants as preview
 use Rattle.named_files.proofs.CutLemmas.{two_cuts, at_cut}
@@ -34,7 +34,7 @@ module _ (change : Change) (paths : List (List ℕ)) (d : Course DiskState) (out
       | inr (inr (more, is)) ↦ absurd (at_cut (λ p. IsNoPath p → ⊥) stops.before first.before path more stops.before_name is no)
     ]
 
-    file_told : (fault : DiskFault) → PreviewFaults change paths d out fault → TellsNoPath d out path (preview.File fault)
+    file_told : (fault : DiskFault) → PreviewFaults change paths d out fault → AnswersNoPath d out path (preview.File fault)
     file_told disk.Failed faults = inr (inr (refl, faults.0))
     file_told disk.Absent faults =
         let none = faults.0 told in
@@ -45,7 +45,7 @@ module _ (change : Change) (paths : List (List ℕ)) (d : Course DiskState) (out
     file_told disk.Taken faults = absurd faults
     file_told disk.NoMemory faults = absurd faults
 
-    pub fault_told : (fault : PreviewFault) → PreviewFails change paths d out fault → TellsNoPath d out path fault
+    pub fault_told : (fault : PreviewFault) → PreviewFails change paths d out fault → AnswersNoPath d out path fault
     fault_told (preview.File fault) fails = file_told fault fails
     fault_told (preview.InvalidPath other) fails = elim (stops_there other fails.1.texts fails.1.stops) [
       | inl same ↦ inl (ap (λ (p : List ℕ). preview.InvalidPath p) same)
@@ -57,7 +57,7 @@ module _ (change : Change) (paths : List (List ℕ)) (d : Course DiskState) (out
     never_done does = at_cut (λ p. IsNoPath p → ⊥) paths first.before path first.after does.paths_name first.paths_are no
 
     pub path_told : (result : Result (Unit {0}) PreviewFault) → OnOk result (DoesPreview change paths d out) → IfErr result (PreviewFails change paths d out)
-        → MatchResult result (λ _. ⊥) (TellsNoPath d out path)
+        → MatchResult result (λ _. ⊥) (AnswersNoPath d out path)
     path_told (Ok done) does fails = never_done does
     path_told (Err fault) does fails = fault_told fault fails
 

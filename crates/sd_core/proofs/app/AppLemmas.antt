@@ -14,7 +14,7 @@ use Rattle.tree_rewrite.specs.Ends.{IsForMemory as FilesIsForMemory}
 use Rattle.tree_rewrite.specs.declared.fault.FilesFault.{FilesFault}
 use Rattle.tree_rewrite.specs.declared.fault.FilesFault.TheVariants as files
 use Rattle.named_files.specs.Named.{NamedFail}
-use Rattle.named_files.specs.Preview.{PreviewFails, TellsNoPath}
+use Rattle.named_files.specs.Preview.{PreviewFails, AnswersNoPath}
 use Rattle.named_files.specs.declared.fault.PreviewFault.{PreviewFault}
 use Rattle.named_files.specs.declared.fault.PreviewFault.TheVariants as preview
 use Rattle.sd_core.specs.Errors.{of_stream, of_files, of_preview}
@@ -70,7 +70,7 @@ files_for_memory tree files.NoMemory h = h
 pub preview_for_memory : (fault : PreviewFault) → fault ≡ preview.NoMemory → why.Fault (of_preview fault) ≡ why.Fault error.NoMemory
 preview_for_memory fault e = ap (λ f. why.Fault (of_preview f)) e
 
-pub told_no_path : (d : Course DiskState) (out : Course SinkState) (path : List ℕ) (fault : PreviewFault) → TellsNoPath d out path fault
+pub told_no_path : (d : Course DiskState) (out : Course SinkState) (path : List ℕ) (fault : PreviewFault) → AnswersNoPath d out path fault
     → IsToldNoPath d out path (why.Fault (of_preview fault))
 told_no_path d out path fault (inl e) = inl (ap (λ f. why.Fault (of_preview f)) e)
 told_no_path d out path fault (inr (inl e)) = inr (inl (ap (λ f. why.Fault (of_preview f)) e))
