@@ -2,6 +2,7 @@
 
 mod disk;
 mod faults;
+mod folders;
 mod new_file;
 mod stream;
 

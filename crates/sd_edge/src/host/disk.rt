@@ -8,12 +8,14 @@ ghost use Rattle.sd_edge.specs.HostDiskState.{host_state};
 ghost use Rattle.sd_edge.specs.OpenLists.{told_list, KeepsTold};
 
 use crate::host::faults::FaultCounter;
+use crate::host::folders::{Folders, Place, ident_of, same_node};
 use crate::host::new_file::{NewFile, create};
 use crate::open_lists::{OpenList, OpenLists};
 use crate::{Disk, DiskFault, Ident, Kind, ListId, Meta, RawEntry, Text};
 use std::alloc::Global;
 use std::fs::{DirEntry, Metadata, OpenFile, OpenOptions, ReadDir};
 use std::io::{ErrorKind, Read, Write};
+use std::os::fd::AsRawFd;
 use std::os::unix::fs::MetadataExt;
 use std::rt::Files;
 use std::{fs, io};
@@ -26,9 +28,12 @@ struct HostList<R: Files + AllocGlobal + Clone + Drop> {
     waiting: Option<DirEntry<R>>,
 }
 
-impl<R: Files + AllocGlobal + Clone + Drop> HostList<R> {
+impl<R: Files + AllocGlobal + Clone + Drop> HostList<R>
+where
+    R::File: AsRawFd,
+{
     /// The next entry, as the host tells it. Where there is no memory for that, it stays the next one.
-    fn next(&mut self, alloc: Global) -> Option<io::Result<RawEntry>> {
+    fn next(&mut self, alloc: Global, folders: &mut Folders<R>) -> Option<io::Result<RawEntry>> {
         let entry = match self.waiting.take() {
             Some(entry) => entry,
             None => match self.entries.next()? {
@@ -36,7 +41,7 @@ impl<R: Files + AllocGlobal + Clone + Drop> HostList<R> {
                 Err(error) => return Some(Err(error)),
             },
         };
-        let told = raw_entry(alloc, &entry);
+        let told = tell(alloc, &entry, folders);
         if is_out_of_memory(&told) {
             self.waiting = Some(entry);
         }
@@ -49,12 +54,16 @@ impl<R: Files + AllocGlobal + Clone + Drop> HostList<R> {
 pub struct HostDisk<R: Files + AllocGlobal + Clone + Drop> {
     rt: R,
     lists: OpenLists<Box<HostList<R>>>,
+    folders: Folders<R>,
     /// The file that was created last, until a file is renamed or removed.
     new_file: Option<NewFile<R::File>>,
     counter: FaultCounter,
 }
 
-impl<R: Files + AllocGlobal + Clone + Drop> HostDisk<R> {
+impl<R: Files + AllocGlobal + Clone + Drop> HostDisk<R>
+where
+    R::File: AsRawFd,
+{
     /// No call was made: there is no fault, nothing is listed, and no list is open.
     pub fn new(rt: R) -> HostDisk<R>
         ensures faults { (host_state result).faults ≡ 0 }
@@ -64,12 +73,23 @@ impl<R: Files + AllocGlobal + Clone + Drop> HostDisk<R> {
         ensures open_most { (host_state result).open_most ≡ 0 }
     {
         let lists = OpenLists::new(rt.alloc());
+        let folders = Folders::new(rt.alloc());
         HostDisk {
             rt,
             lists,
+            folders,
             new_file: None,
             counter: FaultCounter::new(),
         }
+    }
+}
+
+/// What the host tells of a path. A link in the place of its last name is followed where `follow` says so.
+fn metadata<R: Files>(rt: &R, path: &str, follow: bool) -> io::Result<Metadata> {
+    if follow {
+        fs::metadata(rt, path)
+    } else {
+        fs::symlink_metadata(rt, path)
     }
 }
 
@@ -104,35 +124,45 @@ fn raw_entry<R: Files + AllocGlobal + Clone + Drop>(
     })
 }
 
-/// The bytes of a file that is told to be this long. There is room for them at once, and for the read that finds its end.
-fn read<R: Files>(rt: &R, alloc: Global, path: &str, len: u64) -> io::Result<Vec<u8>> {
-    let mut file = fs::open(rt, path)?;
-    let mut bytes = vec![in alloc; 0; (len as usize).saturating_add(1)]?;
-    let filled = file.read(&mut bytes)?;
-    bytes.truncate(filled);
+/// The same, and the folders get to know of it.
+fn tell<R: Files + AllocGlobal + Clone + Drop>(
+    alloc: Global,
+    entry: &DirEntry<R>,
+    folders: &mut Folders<R>,
+) -> io::Result<RawEntry>
+where
+    R::File: AsRawFd,
+{
+    let told = raw_entry(alloc, entry)?;
+    folders.tell(alloc, entry.path().as_str(), told.kind)?;
+    Ok(told)
+}
+
+/// The bytes of the file of which the host told this. There is room for them at once, and for the read that finds its end.
+fn read<R: Files>(rt: &R, alloc: Global, place: &Place, told: &Metadata) -> io::Result<Vec<u8>> {
+    let mut file = fs::open(rt, place.path.as_str())?;
+    same_node(&file, told)?;
+    let room = (told.len() as usize).saturating_add(1);
+    let mut bytes = Vec::with_capacity(alloc, room)?;
     file.read_to_end(&mut bytes)?;
     Ok(bytes)
 }
 
-/// Writes a file anew.
-fn write<R: Files>(rt: &R, path: &str, bytes: &[u8]) -> io::Result<()> {
-    OpenOptions::new()
+/// Writes the file of which the host told this anew.
+fn write<R: Files>(rt: &R, place: &Place, told: &Metadata, bytes: &[u8]) -> io::Result<()> {
+    let mut file = OpenOptions::new()
         .write(true)
-        .truncate(true)
-        .open(rt, path)?
-        .write_all(bytes)
+        .open(rt, place.path.as_str())?;
+    same_node(&file, told)?;
+    file.set_len(0)?;
+    file.write_all(bytes)
 }
 
-/// Puts a file's bytes on the medium, or a directory's names.
-fn sync<R: Files>(rt: &R, path: &str) -> io::Result<()> {
-    fs::open(rt, path)?.sync_all()
-}
-
-/// Puts a directory's names on the medium. The slash behind its path lets the host refuse where something else stands.
-fn sync_directory<R: Files>(rt: &R, alloc: Global, path: &str) -> io::Result<()> {
-    let slash = if path.is_empty() { "" } else { "/" };
-    let directory = format!(in alloc; "{path}{slash}")?;
-    sync(rt, directory.as_str())
+/// Puts the bytes of the file of which the host told this on the medium.
+fn sync<R: Files>(rt: &R, place: &Place, told: &Metadata) -> io::Result<()> {
+    let file = fs::open(rt, place.path.as_str())?;
+    same_node(&file, told)?;
+    file.sync_all()
 }
 
 /// Whether memory alone was wanting.
@@ -149,11 +179,14 @@ fn is_out_of_memory<T>(answer: &io::Result<T>) -> bool
 fn next_of<R: Files + AllocGlobal + Clone + Drop>(
     alloc: Global,
     list: &mut OpenList<Box<HostList<R>>>,
+    folders: &mut Folders<R>,
 ) -> Option<io::Result<RawEntry>>
+where
+    R::File: AsRawFd,
     ensures { told_list (λ _. []) list.new ≡ told_list (λ _. []) list.old }
 {
     match list {
-        OpenList::Unfinished(entries) => entries.next(alloc),
+        OpenList::Unfinished(entries) => entries.next(alloc, folders),
         OpenList::AtEnd => None,
     }
 }
@@ -163,10 +196,13 @@ fn next_in<R: Files + AllocGlobal + Clone + Drop>(
     alloc: Global,
     lists: &mut OpenLists<Box<HostList<R>>>,
     number: u64,
+    folders: &mut Folders<R>,
 ) -> Option<io::Result<RawEntry>>
+where
+    R::File: AsRawFd,
     ensures { KeepsTold (λ _. []) lists.old lists.new }
 {
-    next_of(alloc, lists.open.get_mut(&number)?)
+    next_of(alloc, lists.open.get_mut(&number)?, folders)
 }
 
 /// Whether a path is that of the file that was just created.
@@ -176,7 +212,10 @@ fn is_new<F: OpenFile + Write + Drop>(new_file: &Option<NewFile<F>>, path: &str)
     new_file.as_ref().is_some_and(|new| new.is_at(path))
 }
 
-impl<R: Files + AllocGlobal + Clone + Drop> Disk for HostDisk<R> {
+impl<R: Files + AllocGlobal + Clone + Drop> Disk for HostDisk<R>
+where
+    R::File: AsRawFd,
+{
     ghost use Rattle.std.specs.Prelude.{false};
     ghost use Rattle.std.proofs.lemmas.Bool.{false≢true};
     ghost use Rattle.sd_edge.specs.HostDiskState.{host_state};
@@ -190,12 +229,7 @@ impl<R: Files + AllocGlobal + Clone + Drop> Disk for HostDisk<R> {
     ghost holds_present = { λ disk told. absurd (false≢true told) };
 
     fn stat(&mut self, path: &str, follow: bool) -> Result<Meta, DiskFault> {
-        let answer = if follow {
-            fs::metadata(&self.rt, path)
-        } else {
-            fs::symlink_metadata(&self.rt, path)
-        };
-        let metadata = self.counter.counted(answer)?;
+        let metadata = self.counter.counted(metadata(&self.rt, path, follow))?;
         let kind = kind_of(&metadata);
         let len = if metadata.is_file() {
             metadata.len()
@@ -207,10 +241,7 @@ impl<R: Files + AllocGlobal + Clone + Drop> Disk for HostDisk<R> {
 
     fn ident(&mut self, path: &str) -> Result<Ident, DiskFault> {
         let metadata = self.counter.counted(fs::metadata(&self.rt, path))?;
-        Ok(Ident {
-            dev: metadata.dev(),
-            ino: metadata.ino(),
-        })
+        Ok(ident_of(&metadata))
     }
 
     fn resolve(&mut self, alloc: Global, path: &str) -> Result<Text, DiskFault> {
@@ -219,6 +250,7 @@ impl<R: Files + AllocGlobal + Clone + Drop> Disk for HostDisk<R> {
     }
 
     fn open_dir(&mut self, path: &str) -> Result<ListId, DiskFault> {
+        self.counter.counted(self.folders.list(&self.rt, path))?;
         let entries = self.counter.counted(fs::read_dir(&self.rt, path))?;
         let list = HostList {
             entries,
@@ -236,7 +268,7 @@ impl<R: Files + AllocGlobal + Clone + Drop> Disk for HostDisk<R> {
             self.lists.end(list.number);
             return Err(self.counter.refusal(DiskFault::Failed));
         }
-        match next_in(alloc, &mut self.lists, list.number) {
+        match next_in(alloc, &mut self.lists, list.number, &mut self.folders) {
             None => {
                 self.lists.end(list.number);
                 Ok(None)
@@ -260,15 +292,17 @@ impl<R: Files + AllocGlobal + Clone + Drop> Disk for HostDisk<R> {
     }
 
     fn read_file(&mut self, alloc: Global, path: &str) -> Result<Vec<u8>, DiskFault> {
-        let metadata = self.counter.regular(fs::metadata(&self.rt, path))?;
-        self.counter
-            .counted(read(&self.rt, alloc, path, metadata.len()))
+        let place = self.counter.counted(self.folders.place(&self.rt, path))?;
+        let told = self.counter.regular(place.metadata(&self.rt))?;
+        self.counter.counted(read(&self.rt, alloc, &place, &told))
     }
 
     fn create_like(&mut self, path: &str, like: &str) -> Result<(), DiskFault> {
-        let metadata = self.counter.regular(fs::metadata(&self.rt, like))?;
+        let like = self.counter.counted(self.folders.place(&self.rt, like))?;
+        let told = self.counter.regular(like.metadata(&self.rt))?;
+        let place = self.counter.counted(self.folders.place(&self.rt, path))?;
         let path = Text::new(self.rt.alloc(), path)?;
-        match create(&self.rt, path, metadata.mode()) {
+        match create(&self.rt, path, place.path.as_str(), told.mode()) {
             Ok(new) => {
                 self.new_file = Some(new);
                 Ok(())
@@ -284,8 +318,9 @@ impl<R: Files + AllocGlobal + Clone + Drop> Disk for HostDisk<R> {
         match &mut self.new_file {
             Some(new) if new.is_empty_at(path) => self.counter.counted(new.fill(bytes)),
             _ => {
-                self.counter.regular(fs::metadata(&self.rt, path))?;
-                self.counter.counted(write(&self.rt, path, bytes))
+                let place = self.counter.counted(self.folders.place(&self.rt, path))?;
+                let told = self.counter.regular(place.metadata(&self.rt))?;
+                self.counter.counted(write(&self.rt, &place, &told, bytes))
             }
         }
     }
@@ -294,36 +329,44 @@ impl<R: Files + AllocGlobal + Clone + Drop> Disk for HostDisk<R> {
         match &self.new_file {
             Some(new) if new.is_at(path) => self.counter.counted(new.sync()),
             _ => {
-                self.counter.regular(fs::metadata(&self.rt, path))?;
-                self.counter.counted(sync(&self.rt, path))
+                let place = self.counter.counted(self.folders.place(&self.rt, path))?;
+                let told = self.counter.regular(place.metadata(&self.rt))?;
+                self.counter.counted(sync(&self.rt, &place, &told))
             }
         }
     }
 
     fn rename(&mut self, from: &str, to: &str) -> Result<(), DiskFault> {
+        let (old, new) = self
+            .counter
+            .counted(self.folders.places(&self.rt, from, to))?;
         if !is_new(&self.new_file, from) {
-            self.counter.regular(fs::symlink_metadata(&self.rt, from))?;
+            self.counter
+                .regular(fs::symlink_metadata(&self.rt, old.path.as_str()))?;
         }
-        match fs::symlink_metadata(&self.rt, to) {
+        match fs::symlink_metadata(&self.rt, new.path.as_str()) {
             Ok(metadata) if !metadata.is_file() => {
                 return Err(self.counter.refusal(DiskFault::Absent));
             }
             _ => {}
         }
         self.new_file = None;
-        self.counter.counted(fs::rename(&self.rt, from, to))
+        self.counter
+            .counted(fs::rename(&self.rt, old.path.as_str(), new.path.as_str()))
     }
 
     fn remove(&mut self, path: &str) -> Result<(), DiskFault> {
+        let place = self.counter.counted(self.folders.place(&self.rt, path))?;
         if !is_new(&self.new_file, path) {
-            self.counter.regular(fs::symlink_metadata(&self.rt, path))?;
+            self.counter
+                .regular(fs::symlink_metadata(&self.rt, place.path.as_str()))?;
         }
         self.new_file = None;
-        self.counter.counted(fs::remove_file(&self.rt, path))
+        self.counter
+            .counted(fs::remove_file(&self.rt, place.path.as_str()))
     }
 
     fn sync_dir(&mut self, path: &str) -> Result<(), DiskFault> {
-        let alloc = self.rt.alloc();
-        self.counter.counted(sync_directory(&self.rt, alloc, path))
+        self.counter.counted(self.folders.sync(&self.rt, path))
     }
 }

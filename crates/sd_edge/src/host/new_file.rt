@@ -22,8 +22,8 @@ pub struct NewFile<F: Drop> {
     is_empty: bool,
 }
 
-/// Creates a file with this mode where nothing stands.
-pub fn create<R: Files>(rt: &R, path: Text, mode: u32) -> io::Result<NewFile<R::File>>
+/// Creates a file with this mode where nothing stands. The host is asked for its path by that place.
+pub fn create<R: Files>(rt: &R, path: Text, place: &str, mode: u32) -> io::Result<NewFile<R::File>>
     ensures path { IfOk result (λ new. new.path ≡ path) }
     ensures mode { IfOk result (λ new. new.mode ≡ mode) }
     ensures empty { IfOk result (λ new. new.is_empty ≡ true) }
@@ -32,9 +32,9 @@ pub fn create<R: Files>(rt: &R, path: Text, mode: u32) -> io::Result<NewFile<R::
         .write(true)
         .create_new(true)
         .mode(0o600)
-        .open(rt, path.as_str())?;
+        .open(rt, place)?;
     if let Err(error) = file.set_permissions(Permissions::from_mode(mode)) {
-        let _removed = fs::remove_file(rt, path.as_str());
+        let _removed = fs::remove_file(rt, place);
         return Err(error);
     }
     Ok(NewFile {

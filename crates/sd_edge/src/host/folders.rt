@@ -1,0 +1,223 @@
+//! The folders of the host that were listed. What is asked of a name in one of them is asked of the very folder that was
+//! listed, by a handle of it, also where another process moves that folder or puts a link in its place meanwhile.
+
+use crate::{Ident, Kind};
+use std::alloc::{AllocError, Global};
+use std::collections::{BTreeMap, BTreeSet};
+use std::fs::{Metadata, OpenFile};
+use std::io::ErrorKind;
+use std::os::fd::{AsRawFd, RawFd};
+use std::os::unix::fs::MetadataExt;
+use std::rt::Files;
+use std::{fs, io};
+
+/// A path by which the host is asked.
+#[derive(Drop)]
+pub struct Place {
+    pub path: String,
+    /// A link that stands there is followed.
+    is_followed: bool,
+}
+
+impl Place {
+    /// What the host tells of it.
+    pub fn metadata<R: Files>(&self, rt: &R) -> io::Result<Metadata> {
+        if self.is_followed {
+            fs::metadata(rt, self.path.as_str())
+        } else {
+            fs::symlink_metadata(rt, self.path.as_str())
+        }
+    }
+}
+
+/// A folder that is open.
+#[derive(Drop)]
+struct OpenFolder<F: Drop> {
+    path: String,
+    ident: Ident,
+    handle: F,
+    /// The number under which `/proc/self/fd` shows it, if it does.
+    number: Option<RawFd>,
+}
+
+/// The folders that were listed, by their paths without a slash at the end.
+#[derive(Drop)]
+pub struct Folders<R: Files + AllocGlobal + Clone + Drop> {
+    /// What stood at each path when it was listed last.
+    listed: BTreeMap<String, Ident>,
+    /// The links that their lists told. These are followed where they are asked for, and no other name in a listed folder is.
+    links: BTreeSet<String>,
+    /// The one that was asked for last.
+    open: Option<OpenFolder<R::File>>,
+}
+
+/// What tells a node from every other.
+pub fn ident_of(metadata: &Metadata) -> Ident {
+    Ident {
+        dev: metadata.dev(),
+        ino: metadata.ino(),
+    }
+}
+
+/// Refuses where an open file isn't the node of which the host told this.
+pub fn same_node<F: OpenFile>(file: &F, told: &Metadata) -> io::Result<()> {
+    if ident_of(&file.metadata()?) == ident_of(told) {
+        Ok(())
+    } else {
+        Err(is_another())
+    }
+}
+
+/// Another node stands there than the one that was asked for, which stands there no longer.
+fn is_another() -> io::Error {
+    io::Error::from(ErrorKind::NotFound)
+}
+
+/// A path without the slashes at its end.
+fn without_slash(path: &str) -> &str {
+    path.trim_end_matches('/')
+}
+
+/// The folder of a path, without a slash at its end, and the name in it. `None` where the path doesn't end with a name.
+fn folder_and_name(path: &str) -> Option<(&str, &str)> {
+    let (folder, name) = path.rsplit_once('/')?;
+    match name {
+        "" | "." | ".." => None,
+        _ => Some((without_slash(folder), name)),
+    }
+}
+
+/// A path as it was given.
+fn given(alloc: Global, path: &str) -> io::Result<Place> {
+    Ok(Place {
+        path: String::from_str(alloc, path)?,
+        is_followed: true,
+    })
+}
+
+/// Opens a folder. Refuses where another node than this stands at its path.
+fn open_folder<R: Files + AllocGlobal>(
+    rt: &R,
+    path: &str,
+    ident: Ident,
+) -> io::Result<OpenFolder<R::File>>
+where
+    R::File: AsRawFd,
+{
+    let alloc = rt.alloc();
+    let handle = fs::open(rt, format!(in alloc; "{path}/")?.as_str())?;
+    if ident_of(&handle.metadata()?) != ident {
+        return Err(is_another());
+    }
+    let number = shown_number(rt, handle.as_raw_fd(), ident)?;
+    Ok(OpenFolder {
+        path: String::from_str(alloc, path)?,
+        ident,
+        handle,
+        number,
+    })
+}
+
+/// The number of a handle of a node, if `/proc/self/fd` shows that node under it.
+fn shown_number<R: Files + AllocGlobal>(
+    rt: &R,
+    number: RawFd,
+    ident: Ident,
+) -> Result<Option<RawFd>, AllocError> {
+    let path = format!(in rt.alloc(); "/proc/self/fd/{number}")?;
+    match fs::metadata(rt, path.as_str()) {
+        Ok(metadata) if ident_of(&metadata) == ident => Ok(Some(number)),
+        _ => Ok(None),
+    }
+}
+
+impl<R: Files + AllocGlobal + Clone + Drop> Folders<R>
+where
+    R::File: AsRawFd,
+{
+    /// No folder was listed.
+    pub fn new(alloc: Global) -> Folders<R> {
+        Folders {
+            listed: BTreeMap::new(alloc),
+            links: BTreeSet::new(alloc),
+            open: None,
+        }
+    }
+
+    /// Notes that a folder is listed now. Refuses where its path leads to none.
+    pub fn list(&mut self, rt: &R, path: &str) -> io::Result<()> {
+        let metadata = self.place(rt, path)?.metadata(rt)?;
+        if !metadata.is_dir() {
+            return Err(io::Error::from(ErrorKind::NotADirectory));
+        }
+        let key = String::from_str(rt.alloc(), without_slash(path))?;
+        self.listed.insert(key, ident_of(&metadata))?;
+        Ok(())
+    }
+
+    /// Notes what a list told of the entry with this path.
+    pub fn tell(&mut self, alloc: Global, path: &str, kind: Kind) -> io::Result<()> {
+        if kind == Kind::Link {
+            self.links.insert(String::from_str(alloc, path)?)?;
+        }
+        Ok(())
+    }
+
+    /// By which path the host is asked for one that was given: where its folder was listed, by the name in that folder. It holds until
+    /// the next call. Refuses where another folder stands there now.
+    pub fn place(&mut self, rt: &R, path: &str) -> io::Result<Place> {
+        let alloc = rt.alloc();
+        let Some((folder, name)) = folder_and_name(path) else {
+            return given(alloc, path);
+        };
+        if !self.open(rt, folder)? {
+            return given(alloc, path);
+        }
+        let is_followed = self.links.contains(path);
+        let path = match self.open.as_ref().and_then(|open| open.number) {
+            Some(number) => format!(in alloc; "/proc/self/fd/{number}/{name}")?,
+            None => String::from_str(alloc, path)?,
+        };
+        Ok(Place { path, is_followed })
+    }
+
+    /// The same of two paths at once. Where they aren't in one folder, both are as they were given.
+    pub fn places(&mut self, rt: &R, from: &str, to: &str) -> io::Result<(Place, Place)> {
+        match (folder_and_name(from), folder_and_name(to)) {
+            (Some((old, _)), Some((new, _))) if old == new => {
+                Ok((self.place(rt, from)?, self.place(rt, to)?))
+            }
+            _ => Ok((given(rt.alloc(), from)?, given(rt.alloc(), to)?)),
+        }
+    }
+
+    /// Puts a folder's names on the medium. The slash behind its path lets the host refuse where something else stands.
+    pub fn sync(&mut self, rt: &R, path: &str) -> io::Result<()> {
+        let folder = without_slash(path);
+        self.open(rt, folder)?;
+        match &self.open {
+            Some(open) if open.path.as_str() == folder => open.handle.sync_all(),
+            _ => {
+                let slash = if path.is_empty() { "" } else { "/" };
+                let path = format!(in rt.alloc(); "{path}{slash}")?;
+                fs::open(rt, path.as_str())?.sync_all()
+            }
+        }
+    }
+
+    /// Opens a folder, if it was listed; answers whether it was. Refuses where another stands at its path now.
+    fn open(&mut self, rt: &R, folder: &str) -> io::Result<bool> {
+        let Some(&ident) = self.listed.get(folder) else {
+            return Ok(false);
+        };
+        let is_open = match &self.open {
+            Some(open) => open.path.as_str() == folder && open.ident == ident,
+            None => false,
+        };
+        if !is_open {
+            self.open = None;
+            self.open = Some(open_folder(rt, folder, ident)?);
+        }
+        Ok(true)
+    }
+}
