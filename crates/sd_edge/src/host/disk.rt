@@ -245,7 +245,7 @@ where
     }
 
     fn resolve(&mut self, alloc: Global, path: &str) -> Result<Text, DiskFault> {
-        let resolved = self.counter.counted(fs::canonicalize(&self.rt, path))?;
+        let resolved = self.counter.counted(self.folders.resolve(&self.rt, path))?;
         Ok(Text::new(alloc, resolved.as_str())?)
     }
 

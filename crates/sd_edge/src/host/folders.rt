@@ -38,6 +38,8 @@ struct OpenFolder<F: Drop> {
     handle: F,
     /// The number under which `/proc/self/fd` shows it, if it does.
     number: Option<RawFd>,
+    /// Its path without links, once it was asked for.
+    resolved: Option<String>,
 }
 
 /// The folders that were listed, by their paths without a slash at the end.
@@ -115,6 +117,7 @@ where
         ident,
         handle,
         number,
+        resolved: None,
     })
 }
 
@@ -189,6 +192,38 @@ where
             }
             _ => Ok((given(rt.alloc(), from)?, given(rt.alloc(), to)?)),
         }
+    }
+
+    /// A path without links. A name in a folder that was listed stands in that folder still, and is a link only where its list told one.
+    pub fn resolve(&mut self, rt: &R, path: &str) -> io::Result<String> {
+        let place = self.place(rt, path)?;
+        if !place.is_followed {
+            if place.metadata(rt)?.is_symlink() {
+                return Err(is_another());
+            }
+            if let Some((_, name)) = folder_and_name(path)
+                && let Some(folder) = self.resolved_folder(rt)?
+            {
+                return Ok(format!(in rt.alloc(); "{folder}/{name}")?);
+            }
+        }
+        let resolved = fs::canonicalize(rt, path)?;
+        Ok(String::from_str(rt.alloc(), resolved.as_str())?)
+    }
+
+    /// The path without links of the folder that is open. What stands there is that folder, or later calls refuse it.
+    fn resolved_folder(&mut self, rt: &R) -> io::Result<Option<&str>> {
+        let Some(open) = &mut self.open else {
+            return Ok(None);
+        };
+        if open.resolved.is_none() {
+            let path = fs::canonicalize(rt, format!(in rt.alloc(); "{}/", open.path)?.as_str())?;
+            let folder = String::from_str(rt.alloc(), without_slash(path.as_str()))?;
+            let key = String::from_str(rt.alloc(), without_slash(path.as_str()))?;
+            self.listed.insert(key, open.ident)?;
+            open.resolved = Some(folder);
+        }
+        Ok(open.resolved.as_ref().map(|folder| folder.as_str()))
     }
 
     /// Puts a folder's names on the medium. The slash behind its path lets the host refuse where something else stands.
