@@ -42,6 +42,13 @@ struct OpenFolder<F: Drop> {
     resolved: Option<String>,
 }
 
+/// A folder by the path that was given, and by the one without links. Neither has a slash at its end.
+#[derive(Drop)]
+struct Root {
+    given: String,
+    resolved: String,
+}
+
 /// The folders that were listed, by their paths without a slash at the end.
 #[derive(Drop)]
 pub struct Folders<R: Files + AllocGlobal + Clone + Drop> {
@@ -51,6 +58,10 @@ pub struct Folders<R: Files + AllocGlobal + Clone + Drop> {
     links: BTreeSet<String>,
     /// The one that was asked for last.
     open: Option<OpenFolder<R::File>>,
+    /// What was resolved last.
+    resolved: Option<Root>,
+    /// The one that was resolved and then listed.
+    root: Option<Root>,
 }
 
 /// What tells a node from every other.
@@ -144,6 +155,8 @@ where
             listed: BTreeMap::new(alloc),
             links: BTreeSet::new(alloc),
             open: None,
+            resolved: None,
+            root: None,
         }
     }
 
@@ -154,6 +167,10 @@ where
             return Err(io::Error::from(ErrorKind::NotADirectory));
         }
         let key = String::from_str(rt.alloc(), without_slash(path))?;
+        match &self.resolved {
+            Some(root) if root.resolved == key => self.root = self.resolved.take(),
+            _ => {}
+        }
         self.listed.insert(key, ident_of(&metadata))?;
         Ok(())
     }
@@ -196,6 +213,9 @@ where
 
     /// A path without links. A name in a folder that was listed stands in that folder still, and is a link only where its list told one.
     pub fn resolve(&mut self, rt: &R, path: &str) -> io::Result<String> {
+        let alloc = rt.alloc();
+        let path = self.from_root(alloc, path)?;
+        let path = path.as_str();
         let place = self.place(rt, path)?;
         if !place.is_followed {
             if place.metadata(rt)?.is_symlink() {
@@ -204,11 +224,26 @@ where
             if let Some((_, name)) = folder_and_name(path)
                 && let Some(folder) = self.resolved_folder(rt)?
             {
-                return Ok(format!(in rt.alloc(); "{folder}/{name}")?);
+                return Ok(format!(in alloc; "{folder}/{name}")?);
             }
         }
         let resolved = fs::canonicalize(rt, path)?;
-        Ok(String::from_str(rt.alloc(), resolved.as_str())?)
+        self.resolved = Some(Root {
+            given: String::from_str(alloc, without_slash(path))?,
+            resolved: String::from_str(alloc, without_slash(resolved.as_str()))?,
+        });
+        Ok(String::from_str(alloc, resolved.as_str())?)
+    }
+
+    /// A path below the root as that path from the root's path without links.
+    fn from_root(&self, alloc: Global, path: &str) -> Result<String, AllocError> {
+        if let Some(root) = &self.root
+            && let Some(names) = path.strip_prefix(root.given.as_str())
+            && names.starts_with('/')
+        {
+            return format!(in alloc; "{}{names}", root.resolved);
+        }
+        String::from_str(alloc, path)
     }
 
     /// The path without links of the folder that is open. What stands there is that folder, or later calls refuse it.
