@@ -14,7 +14,7 @@ use std::alloc::Global;
 use std::marker::Model;
 
 /// Builds matchers of patterns. Contracts see the options.
-#[derive(Drop)]
+#[derive(Clone, Debug, Drop)]
 pub struct RegexMatcherBuilder {
     options: Options,
 }

@@ -9,6 +9,7 @@ mod assembling;
 mod builder;
 mod building;
 mod captures;
+mod clones;
 mod error;
 mod examples;
 mod fitting;
@@ -23,6 +24,7 @@ mod stripping;
 
 pub use builder::RegexMatcherBuilder;
 pub use captures::RegexCaptures;
+pub use clones::{clones_are_always_made, clones_are_their_values};
 pub use error::{Error, ErrorKind, RegexFault};
 pub use examples::{
     bytes_are_in_no_match_as_in_the_examples, classes_are_stripped_as_in_the_examples,

@@ -163,3 +163,13 @@ fn patterns_that_nest_to_their_limit(rt: HostRuntime) -> Result<(), Fail> {
     let one = builder(&[Setting::NestLimit(1)]);
     check_refused(&rt, &one, "((a))", ErrorKind::Regex(RegexFault::Nest))
 }
+
+#[test]
+fn a_cloned_builder_has_the_same_options(rt: HostRuntime) -> Result<(), Fail> {
+    let first = builder(&[Setting::CaseInsensitive(true), Setting::Word(true)]);
+    let mut copy = first.clone()?;
+    check(&rt, &copy, "b", b"ab B", Some((3, 4)))?;
+    copy.word(false);
+    check(&rt, &copy, "b", b"ab B", Some((1, 2)))?;
+    check(&rt, &first, "b", b"ab B", Some((3, 4)))
+}
