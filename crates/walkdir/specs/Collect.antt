@@ -1,11 +1,14 @@
 -- Steps one after another, and what collecting them gives.
-use Rattle.std.specs.Prelude.{◌≡◌, ◌+◌, ◌⊎◌, ℕ, nat_lt, List, [], ◌∷◌, map, Some, Ok, Err, if◌then◌else◌}
+use Rattle.std.specs.Prelude.{◌≡◌, ◌+◌, ◌⊎◌, ℕ, nat_lt, Bool, List, [], ◌∷◌, map, Some, Ok, Err, if◌then◌else◌}
+use Rattle.sd_edge.specs.Disk.{DiskState}
 use Rattle.sd_edge.specs.declared.meta.Ident.{Ident}
 use Rattle.walk_rest.specs.declared.entry.DirEntry.{DirEntry}
 use Rattle.walk_rest.specs.declared.error.Error.{Error}
 use Rattle.walk_rest.specs.declared.error.Error.TheVariants as error
-use Rattle.walk_rest.specs.Plan.{Item}
+use Rattle.walk_rest.specs.Plan.{Comparison, Item}
 use Rattle.walk_rest.specs.Rest.{Rest, HasNoFaults, IsStep, due_in}
+use Rattle.walk_steps.specs.declared.inside.Inside.{Inside}
+use Rattle.walkdir.specs.Steps.{GivesNext}
 
 abbrev pub entry_item : DirEntry → Item
 entry_item entry = Ok entry
@@ -50,3 +53,18 @@ IsNoLoop failed = (path : List ℕ) (depth : ℕ) (ancestor : List ℕ) (ident :
 -- why not all entries were collected
 abbrev pub WhyNotAll : Rest → ℕ → Error → Type 0
 WhyNotAll rest cap failed = (failed ≡ error.NoMemory) ⊎ (FirstFails rest failed ⊎ ((failed ≡ error.TooMany) × GivesAsMany rest cap))
+
+-- ---- on any disk
+
+module _ {S : Type 0} (tells : Bool) (sorts : S → Bool) (compares_by : S → Comparison → Type 0) where
+  -- The walk's first error: `next` gives it, by its causes, after entries alone.
+  pub data IsFirstError : DiskState → Inside S → Error → Type 0 where
+    at_once : {old new : DiskState} {before now : Inside S} {failed : Error}
+        → GivesNext tells (sorts before.order) (compares_by before.order) old before (Some (Err failed)) new now → IsFirstError old before failed
+    later : {old mid : DiskState} {before between : Inside S} {entry : DirEntry} {failed : Error}
+        → GivesNext tells (sorts before.order) (compares_by before.order) old before (Some (Ok entry)) mid between
+        → IsFirstError mid between failed → IsFirstError old before failed
+
+  -- why a walk isn't collected, on any disk: for want of memory, at the cap, or by its first error
+  abbrev pub WhyNotCollected : DiskState → Inside S → Error → Type 0
+  WhyNotCollected old before failed = (failed ≡ error.NoMemory) ⊎ ((failed ≡ error.TooMany) ⊎ IsFirstError old before failed)

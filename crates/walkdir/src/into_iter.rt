@@ -11,8 +11,9 @@ ghost use Rattle.walk_steps.specs.Causes.{CountsFaults, FitsTree, faults_told};
 ghost use Rattle.walk_steps.specs.Inside.{HasRest, levels_of};
 ghost use Rattle.walk_steps.specs.Listed.{waits_in};
 ghost use Rattle.walk_steps.specs.Sound.{AreSound, IsSound, SameOthers, StaysWithin, open_limit};
+ghost use Rattle.walk_steps.specs.Steps.{ByEachRest};
 ghost use Rattle.walk_steps.specs.Work.{left_to_do};
-ghost use Rattle.walkdir.specs.Collect.{IsAll, IsNoLoop, WhyNotAll, below_root};
+ghost use Rattle.walkdir.specs.Collect.{IsAll, IsNoLoop, WhyNotAll, WhyNotCollected, below_root};
 ghost use Rattle.walkdir.specs.Steps.{ClosesAll, GivesNext, SkipsTop, is_directory_item, lies_unread, still_compares, still_sound};
 
 use crate::collect::collect;
@@ -68,7 +69,8 @@ impl<'d, D: Disk, S: Order + Drop> IntoIter<'d, D, S, Inside<S>> {
     pub fn skip_current_dir(&mut self)
         requires { IsSound (D.state self.old.disk.now) (S.sorts self.old.inside.order) self.old.inside }
         ensures same_reference { self.new.disk.ghost_name ≡ self.old.disk.ghost_name }
-        ensures skips { SkipsTop D.tells (S.sorts self.old.inside.order) (D.state self.old.disk.now) self.old.inside (D.state self.new.disk.now) self.new.inside }
+        ensures skips { SkipsTop D.tells (S.sorts self.old.inside.order) (D.state self.old.disk.now) self.old.inside
+            (D.state self.new.disk.now) self.new.inside }
         ensures left { self.new.gave_directory ≡ false }
     {
         skip(self.disk, &mut self.inside, &mut self.gave_directory);
@@ -90,7 +92,8 @@ impl<'d, D: Disk, S: Order + Drop> IntoIter<'d, D, S, Inside<S>> {
         ensures tree { SameTree (D.state self.old.disk.now) (D.state self.new.disk.now) }
         ensures lists { SameLists (D.state self.old.disk.now) (D.state self.new.disk.now) }
         ensures same { (self.new.inside ≡ self.old.inside) × (self.new.gave_directory ≡ self.old.gave_directory) }
-        ensures sound { (sorts : Bool) → IsSound (D.state self.old.disk.now) sorts self.old.inside → IsSound (D.state self.new.disk.now) sorts self.new.inside }
+        ensures sound { (sorts : Bool) → IsSound (D.state self.old.disk.now) sorts self.old.inside
+            → IsSound (D.state self.new.disk.now) sorts self.new.inside }
         ensures rest { (sorts : Bool) (by : Comparison) (rest : Rest) → HasRest (D.state self.old.disk.now) sorts by self.old.inside rest
             → HasRest (D.state self.new.disk.now) sorts by self.new.inside rest }
     {
@@ -116,18 +119,21 @@ impl<'d, D: Disk, S: Order + Drop> IntoIter<'d, D, S, Inside<S>> {
         requires sound { IsSound (D.state self.disk.now) (S.sorts self.inside.order) self.inside }
         requires order { S.can_compare self.inside.order }
         requires cap { 0 < cap }
-        ensures all { IsTrue D.tells → (by : Comparison) (rest : Rest) → S.compares_by self.entry.inside.order by
-            → HasRest (D.state self.entry.disk.now) (S.sorts self.entry.inside.order) by self.entry.inside rest → IfOk result (λ entries. IsAll rest entries.items) }
+        ensures all { ByEachRest D.tells S.compares_by (D.state self.entry.disk.now) (S.sorts self.entry.inside.order) self.entry.inside (λ by rest.
+            IfOk result (λ entries. IsAll rest entries.items)) }
         ensures few { IfOk result (λ entries. below_root entries.items < cap) }
         ensures capped { IsErrOf result Error.TooMany → cap + (D.state self.entry.disk.now).listed
             ≤ waits_in (levels_of self.entry.inside) + (D.state self.exit.0.now).listed }
-        ensures failed { IsTrue D.tells → (by : Comparison) (rest : Rest) → S.compares_by self.entry.inside.order by
-            → HasRest (D.state self.entry.disk.now) (S.sorts self.entry.inside.order) by self.entry.inside rest → IfErr result (WhyNotAll rest cap) }
+        ensures failed { ByEachRest D.tells S.compares_by (D.state self.entry.disk.now) (S.sorts self.entry.inside.order) self.entry.inside (λ by rest.
+            IfErr result (WhyNotAll rest cap)) }
+        ensures first_error { IfErr result (WhyNotCollected D.tells S.sorts S.compares_by (D.state self.entry.disk.now) self.entry.inside) }
         ensures unlooped { self.entry.inside.options.follow_links ≡ false → IfErr result IsNoLoop }
-        ensures counted { FitsTree D.tells S.compares_by (D.state self.entry.disk.now) (S.sorts self.entry.inside.order) self.entry.inside → IfErr result (λ failed.
+        ensures counted { FitsTree D.tells S.compares_by (D.state self.entry.disk.now) (S.sorts self.entry.inside.order) self.entry.inside
+            → IfErr result (λ failed.
             CountsFaults (faults_told D.tells (Some (Err failed))) (D.state self.entry.disk.now) (levels_of self.entry.inside) (D.state self.exit.0.now) []) }
         ensures others { SameOthers (D.state self.entry.disk.now) (levels_of self.entry.inside) (D.state self.exit.0.now) [] }
-        ensures closed { StaysWithin (open_limit self.entry.inside.options) (D.state self.entry.disk.now) (levels_of self.entry.inside) (D.state self.exit.0.now) [] }
+        ensures closed { StaysWithin (open_limit self.entry.inside.options) (D.state self.entry.disk.now) (levels_of self.entry.inside)
+            (D.state self.exit.0.now) [] }
         ensures tree { SameTree (D.state self.entry.disk.now) (D.state self.exit.0.now) }
         ensures faults { (D.state self.entry.disk.now).faults ≤ (D.state self.exit.0.now).faults }
     {
@@ -176,10 +182,14 @@ impl<'d, D: Disk, S: Order + Drop> Walk for IntoIter<'d, D, S, Inside<S>> {
     ghost has_entered = { λ s. s.gave_directory && lies_unread s.inside.top };
 
     ghost goes_on = { λ old answer new can ends gives.
-        ((still_sound S.sorts (D.state new.disk.now) old.inside new.inside gives.1.same gives.1.sound, still_compares S.can_compare old.inside new.inside gives.1.same can.1), tt) };
+        let sound = still_sound S.sorts (D.state new.disk.now) old.inside new.inside gives.1.same gives.1.sound in
+        let compares = still_compares S.can_compare old.inside new.inside gives.1.same can.1 in
+        ((sound, compares), tt) };
 
     ghost skips_on = { λ old new can ends skips.
-        ((still_sound S.sorts (D.state new.disk.now) old.inside new.inside skips.1.same skips.1.sound, still_compares S.can_compare old.inside new.inside skips.1.same can.1), tt) };
+        let sound = still_sound S.sorts (D.state new.disk.now) old.inside new.inside skips.1.same skips.1.sound in
+        let compares = still_compares S.can_compare old.inside new.inside skips.1.same can.1 in
+        ((sound, compares), tt) };
 
     ghost fused = { λ old mid answer new ended gives. gives.1.over ended.1.ended };
 
@@ -205,7 +215,7 @@ impl<'d, D: Disk, S: Order + Drop> Walk for IntoIter<'d, D, S, Inside<S>> {
     }
 }
 
-/// The next item of a walk, or `None` where nothing is left.
+/// The next item of a walk, and whether it is an entry of kind `Directory`.
 fn step<D: Disk, S: Order>(
     disk: &mut D,
     inside: &mut Inside<S>,
@@ -213,17 +223,31 @@ fn step<D: Disk, S: Order>(
 ) -> Option<Result<DirEntry, Error>>
     requires sound { IsSound (D.state disk.old) (S.sorts inside.old.order) inside.old }
     requires order { S.can_compare inside.old.order }
-    ensures gives { GivesNext D.tells (S.sorts inside.old.order) (S.compares_by inside.old.order) (D.state disk.old) inside.old result (D.state disk.new) inside.new }
+    ensures gives { GivesNext D.tells (S.sorts inside.old.order) (S.compares_by inside.old.order) (D.state disk.old) inside.old result
+        (D.state disk.new) inside.new }
     ensures directory { gave_directory.new ≡ is_directory_item result }
     ensures less { OnSome result (left_to_do (D.state disk.new) inside.new < left_to_do (D.state disk.old) inside.old) }
 {
-    *gave_directory = false;
+    let item = give_next(disk, inside);
+    *gave_directory = is_directory(&item);
+    item
+}
+
+/// The next item of a walk, or `None` where nothing is left.
+pub(crate) fn give_next<D: Disk, S: Order>(
+    disk: &mut D,
+    inside: &mut Inside<S>,
+) -> Option<Result<DirEntry, Error>>
+    requires sound { IsSound (D.state disk.old) (S.sorts inside.old.order) inside.old }
+    requires order { S.can_compare inside.old.order }
+    ensures gives { GivesNext D.tells (S.sorts inside.old.order) (S.compares_by inside.old.order) (D.state disk.old) inside.old result
+        (D.state disk.new) inside.new }
+    ensures less { OnSome result (left_to_do (D.state disk.new) inside.new < left_to_do (D.state disk.old) inside.old) }
+{
     if inside.top.is_none() {
         return None;
     }
-    let item = next_item(disk, inside);
-    *gave_directory = is_directory(&item);
-    item
+    next_item(disk, inside)
 }
 
 /// Leaves the directory that was entered last.

@@ -1,6 +1,6 @@
 use Rattle.std.proofs.Common.{rules}
 use Rattle.walkdir.proofs.WalkLemmas.{none_is, over_gives}
-use Rattle.walkdir.proofs.into_iter.step.Goals as goal
+use Rattle.walkdir.proofs.into_iter.give_next.Goals as goal
 
 pub returns-then-is_none-clause-gives : goal.returns-then-is_none-clause-gives
 returns-then-is_none-clause-gives g c =
