@@ -7,6 +7,7 @@ use Rattle.hir_tree.specs.Looks.{holds}
 use Rattle.hir_tree.specs.Runs.{begin, in_set}
 use Rattle.hir_tree.specs.declared.look.Look.{Look}
 use Rattle.hir_core.specs.Program.{Way, way, spot_at, gives_within, gives}
+use Rattle.hir_core.specs.declared.scan.bits.Moves.{Moves}
 use Rattle.hir_core.specs.declared.spot.Spot.{Spot}
 use Rattle.hir_core.specs.declared.spot.Spot.TheVariants as spot
 
@@ -148,3 +149,15 @@ SaysWhatFollows spots of look rows =
 -- the bit of each spot is set that may take a character beyond ASCII
 abbrev pub SaysWhichAreWide : List Spot → List ℕ → ℕ → Type 0
 SaysWhichAreWide spots of mask = (i : ℕ) → i < length of → is_wide (spot_at spots (slice_index of i)) ≡ true → HasBit mask i
+
+-- After the spot of bit i at most those of the mask may be tried: the one of the next bit, which is then among those that are moved on to, and
+-- itself, which is then among those that stay.
+pub record IsMoved (mask on stay i : ℕ) : Type 0 where
+  pub goes : HasBit mask (i + 1) → HasBit on (i + 1)
+  pub stays : HasBit mask i → HasBit stay i
+  pub alone : (j : ℕ) → HasBit mask j → (j ≡ i → ⊥) → j ≡ i + 1
+
+-- so many spots move on as the rows say, unless they are odd
+abbrev pub AreMoved : List ℕ → ℕ → Moves → Type 0
+AreMoved rows count m =
+    (i : ℕ) → i < count → (HasBit m.odd i → ⊥) → IsMoved (slice_index rows (256 * (i / 8) + 2 ^ (i % 8))) m.on m.stay i

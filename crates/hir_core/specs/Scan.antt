@@ -2,9 +2,10 @@
 use Rattle.std.specs.Prelude.{◌≡◌, ℕ, ◌<◌, ◌≤◌, false, List, length, Option, IfSome}
 use Rattle.hir_tree.specs.Looks.{holds}
 use Rattle.hir_tree.specs.declared.look.Look.{Look}
-use Rattle.hir_core.specs.Masks.{Covers, AreTakers, SaysWhatTakes, SaysWhatFollows, SaysWhichAreWide, IsDead, IsShut, HasBit, match_bit, sure_bit}
+use Rattle.hir_core.specs.Masks.{Covers, AreTakers, SaysWhatTakes, SaysWhatFollows, SaysWhichAreWide, AreMoved, AreDead, IsDead, IsShut, HasBit, match_bit, sure_bit}
 use Rattle.hir_core.specs.declared.spot.Spot.{Spot}
 use Rattle.hir_core.specs.declared.scan.Scan.{Scan}
+use Rattle.hir_core.specs.declared.scan.Sight.{Sight}
 
 -- each run of the program asks the look, if there is one, before its first byte, so none begins where it doesn't hold
 abbrev pub IsAskedFirst : List Spot → Option Look → Type 0
@@ -21,6 +22,7 @@ pub record IsFilterOf (spots : List Spot) (s : Scan) : Type 0 where
   pub takers : AreTakers spots s.of.items
   pub takes : SaysWhatTakes spots s.of.items s.takes.items
   pub follows : SaysWhatFollows spots s.of.items s.last_look s.after.items
+  pub moves : AreMoved s.after.items (length s.of.items) s.moves
   pub wide : SaysWhichAreWide spots s.of.items s.wide
   pub start : Covers spots s.of.items s.last_look s.start 0
   pub first : IsAskedFirst spots s.first_look
@@ -29,3 +31,14 @@ pub record IsFilterOf (spots : List Spot) (s : Scan) : Type 0 where
 abbrev pub NoneBegins : List ℕ → Scan → ℕ → ℕ → Type 0
 NoneBegins text s from until =
     (spots : List Spot) → IsFilterOf spots s → (q : ℕ) → from ≤ q → q < until → IsDead text spots q 0
+
+-- What the filter has looked at from a place on: no run begins before `from`, and none that begins from there on, unless a spot of the
+-- state gives something at the place.
+pub record Looked (text : List ℕ) (s : Scan) (at : ℕ) (k : Sight) : Type 0 where
+  pub after : at ≤ k.from
+  pub before : k.from ≤ k.place
+  pub within : k.place ≤ length text
+  pub unmatched : NoEnd text k.place s.last_look k.state
+  pub quiet : NoneBegins text s at k.from
+  pub held : (spots : List Spot) → IsFilterOf spots s → AreDead text spots s.of.items s.last_look k.place k.state → (q : ℕ) → k.from ≤ q → q < k.place
+      → IsDead text spots q 0

@@ -9,7 +9,7 @@ mod takes;
 
 use crate::spot::Spot;
 use crate::{Look, holds};
-use bits::{SURE, joined};
+use bits::{Moves, SURE, joined, moves_in};
 use sd_base::NoMemory;
 use std::alloc::Global;
 
@@ -23,7 +23,9 @@ pub struct Scan {
     /// The spots that may be tried after some took bytes, MATCH if a match may end there where the last look holds, and SURE
     /// if one may also end where it doesn't: row r has a mask for each choice of the eight bits from 8 r on.
     after: Vec<u64>,
-    /// The same for the start of the program.
+    /// How the spots move on by a byte, where the rows needn't be asked.
+    moves: Moves,
+    /// The same as the rows have for the start of the program.
     start: u64,
     /// The spots that may take a character beyond ASCII.
     wide: u64,
@@ -31,8 +33,23 @@ pub struct Scan {
     first_look: Option<Look>,
     /// A look that may be asked before the end of a match, if there is one.
     last_look: Option<Look>,
+    /// Whether runs begin only by bytes that are rare in texts, so that places are passed over up to the next one.
+    strides: bool,
     ghost all_bytes: { vec_len takes ≡ 256 },
     ghost all_rows: { vec_len after ≡ 2048 },
+    ghost few_on: { moves.on < 2 ^ 62 },
+    ghost few_stay: { moves.stay < 2 ^ 62 },
+}
+
+/// How far the filter has looked.
+#[derive(Clone, Copy)]
+struct Sight {
+    /// The least place where a run may begin.
+    from: usize,
+    /// The place that it has come to.
+    place: usize,
+    /// The spots that may be tried there, of the runs that began before.
+    state: u64,
 }
 
 /// Places that may have a match: none before `from` has one. A run that begins there may end at `until`, or go on in a
@@ -49,7 +66,7 @@ impl Scan {
     ghost use Rattle.hir_core.specs.declared.spot.Spot.{Spot};
     ghost use Rattle.hir_core.specs.Masks.{NoRun};
     ghost use Rattle.hir_core.specs.Masks.{IsPart};
-    ghost use Rattle.hir_core.specs.Scan.{IsFilterOf, NoEnd, NoneBegins};
+    ghost use Rattle.hir_core.specs.Scan.{IsFilterOf, Looked, NoEnd, NoneBegins};
 
     /// The filter of a program; None where more than 62 spots take bytes. Refuses for want of memory alone.
     pub fn new(alloc: Global, spots: &[Spot]) -> Result<Option<Scan>, NoMemory>
@@ -64,15 +81,19 @@ impl Scan {
         let takes = takes::takes(alloc, spots, of.as_slice())?;
         let after = reach::after(alloc, spots, of.as_slice(), last_look)?;
         let start = reach::mask_from(alloc, spots, of.as_slice(), 0, last_look)?;
+        let moves = moves_in(after.as_slice(), of.len());
         let wide = takes::wide(spots, of.as_slice());
+        let strides = first_look.is_some() || takes::is_rare(takes.as_slice(), start);
         Ok(Some(Scan {
             of,
             takes,
             after,
+            moves,
             start,
             wide,
             first_look,
             last_look,
+            strides,
         }))
     }
 
@@ -150,6 +171,61 @@ impl Scan {
         state | self.start
     }
 
+    /// The same, but where no spot may be tried, places are passed over by whose byte no run may begin, if that is worth while.
+    fn rested(&self, text: &[u8], sight: Sight) -> Sight
+        requires { sight.place ≤ length text.now }
+        ensures looked { (at : ℕ) → Looked text.now self.now at sight → Looked text.now self.now at result }
+        ensures after { sight.place ≤ result.place }
+        ensures within { result.place ≤ length text.now }
+    {
+        let Sight { from, place, state } = sight;
+        if self.strides && state == 0 {
+            let next = self.stride(text, place);
+            return Sight {
+                from: next,
+                place: next,
+                state,
+            };
+        }
+        let least = if state == 0 { place } else { from };
+        Sight {
+            from: least,
+            place,
+            state,
+        }
+    }
+
+    /// Goes on by shifts, up to a byte that an odd spot takes, or that may begin a character beyond ASCII.
+    fn glide(&self, text: &[u8], begin: Sight) -> Sight
+        requires { begin.place ≤ length text.now }
+        ensures looked { (at : ℕ) → Looked text.now self.now at begin → Looked text.now self.now at result }
+        ensures after { begin.place ≤ result.place }
+        ensures within { result.place ≤ length text.now }
+    {
+        let mut sight = self.rested(text, begin);
+        if self.first_look.is_some() || self.start >= SURE {
+            return sight;
+        }
+        while sight.place < text.len() {
+            let tried = sight.state | self.start;
+            let byte = text[sight.place];
+            if byte >= 128 && tried & self.wide != 0 {
+                return sight;
+            }
+            let live = tried & self.takes[byte as usize];
+            if live & self.moves.odd != 0 {
+                return sight;
+            }
+            let next = Sight {
+                from: sight.from,
+                place: sight.place + 1,
+                state: self.moves.shifted(live),
+            };
+            sight = self.rested(text, next);
+        }
+        sight
+    }
+
     /// The next places of a text, from one on, that may have a match. None where no place from there on has one.
     pub fn next(&self, text: &[u8], at: usize) -> Option<Candidate>
         requires { at ≤ length text.now }
@@ -157,10 +233,14 @@ impl Scan {
         ensures some { IfSome result (λ c. (spots : List Spot) → IsFilterOf spots self.now → NoRun text.now spots at c.from) }
         ensures order { IfSome result (λ c. (at ≤ c.from) × (c.from ≤ c.until) × (c.until ≤ length text.now)) }
     {
-        let mut from = self.stride(text, at);
-        let mut place = from;
-        let mut state = 0;
-        while place < text.len() {
+        let begin = Sight {
+            from: at,
+            place: at,
+            state: 0,
+        };
+        let mut sight = self.glide(text, begin);
+        while sight.place < text.len() {
+            let Sight { from, place, state } = sight;
             let tried = self.tried(state, text, place);
             let byte = text[place];
             if byte >= 128 && tried & self.wide != 0 {
@@ -169,18 +249,23 @@ impl Scan {
             if self.may_be_empty(text, place) {
                 return Some(Candidate { from, until: place });
             }
-            state = joined(self.after.as_slice(), tried & self.takes[byte as usize]);
-            place += 1;
-            if self.may_end(state, text, place) {
-                return Some(Candidate { from, until: place });
+            let next = joined(self.after.as_slice(), tried & self.takes[byte as usize]);
+            let until = place + 1;
+            if self.may_end(next, text, until) {
+                return Some(Candidate { from, until });
             }
-            if state == 0 {
-                place = self.stride(text, place);
-                from = place;
-            }
+            let on = Sight {
+                from,
+                place: until,
+                state: next,
+            };
+            sight = self.glide(text, on);
         }
-        if self.may_be_empty(text, place) {
-            return Some(Candidate { from, until: place });
+        if self.may_be_empty(text, sight.place) {
+            return Some(Candidate {
+                from: sight.from,
+                until: sight.place,
+            });
         }
         None
     }

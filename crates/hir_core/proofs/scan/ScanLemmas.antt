@@ -1,26 +1,47 @@
 -- What a filter has looked at of a text.
 use Rattle.std.proofs.Common.{◌≡◌, ℕ, ◌+◌, ◌*◌, ◌/◌, ◌%◌, ◌^◌, ◌<◌, ◌≤◌, Bool, true, false, ◌⊎◌, inl, inr, List, Option, length, slice_index, slice_index_or, bit_and, refl, sym, subst, arith}
 use Rattle.std.proofs.lemmas.Bool.{cases_lt}
+use Rattle.std.proofs.lemmas.Nat.{pow_below}
+use Rattle.std.proofs.lemmas.Nat.Bits.{bit_at-pow_same}
 use Rattle.std.proofs.lemmas.Option.{slice_get_read, get_or_from_slice_get}
 use Rattle.hir_tree.specs.declared.look.Look.{Look}
 use Rattle.hir_core.specs.Program.{spot_at}
-use Rattle.hir_core.specs.Masks.{HasBit, IsPart, match_bit, sure_bit, row_place, next_of, is_wide, IsDead, AreDead, NoRun}
-use Rattle.hir_core.specs.Scan.{IsFilterOf, NoEnd, NoneBegins}
+use Rattle.hir_core.specs.Masks.{HasBit, IsPart, match_bit, sure_bit, row_place, next_of, is_wide, Covers, IsMoved, IsDead, AreDead, NoRun}
+use Rattle.hir_core.specs.Scan.{IsFilterOf, Looked, NoEnd, NoneBegins}
 use Rattle.hir_core.specs.declared.spot.Spot.{Spot}
 use Rattle.hir_core.specs.declared.scan.Scan.{Scan}
-use Rattle.hir_core.proofs.scan.bits.MaskLemmas.{HasBit-none, HasBit-above, HasBit-and, HasBit-eight}
-use Rattle.hir_core.proofs.scan.reach.DeadLemmas.{AreDead-none, AreDead-part, IsDead-taker, spot_size-within, one_byte, NoRun-dead}
+use Rattle.hir_core.specs.declared.scan.Sight.{Sight}
+use Rattle.hir_core.proofs.scan.bits.MaskLemmas.{HasBit-none, HasBit-above, HasBit-apart, HasBit-and, HasBit-eight}
+use Rattle.hir_core.proofs.scan.reach.DeadLemmas.{AreDead-none, Covers-part, IsDead-taker, spot_size-within, one_byte, NoRun-dead}
 
--- What the filter has looked at: no run begins before `from`, and none that begins from there on, unless a spot of the state
--- gives something at the place.
-pub record Looked (text : List ℕ) (s : Scan) (at from place state : ℕ) : Type 0 where
-  pub after : at ≤ from
-  pub before : from ≤ place
-  pub within : place ≤ length text
-  pub unmatched : NoEnd text place s.last_look state
-  pub quiet : NoneBegins text s at from
-  pub held : (spots : List Spot) → IsFilterOf spots s → AreDead text spots s.of.items s.last_look place state → (q : ℕ) → from ≤ q → q < place
-      → IsDead text spots q 0
+-- the mask covers what comes after each spot that is live
+abbrev pub CoversAfter : Scan → ℕ → ℕ → Type 0
+CoversAfter s live mask =
+    (spots : List Spot) → IsFilterOf spots s → (i : ℕ) → i < length s.of.items → HasBit live i
+    → Covers spots s.of.items s.last_look mask (next_of (spot_at spots (slice_index s.of.items i)))
+
+-- a power of two has its bit
+HasBit-pow : (k : ℕ) → HasBit (2 ^ k) k
+unfolding HasBit
+HasBit-pow k = bit_at-pow_same k
+
+-- so does what the rows have
+pub CoversAfter-rows : (s : Scan) (live mask : ℕ)
+    → ((i : ℕ) → i < 64 → HasBit live i → IsPart (slice_index s.after.items (row_place live i)) mask) → CoversAfter s live mask
+CoversAfter-rows s live mask parts spots filter i lt has =
+    Covers-part spots s.of.items s.last_look (slice_index s.after.items (row_place live i)) mask (next_of (spot_at spots (slice_index s.of.items i)))
+    (parts i (omega (arith, filter.few)) has)
+    (filter.follows i (live / 2 ^ (8 * (i / 8)) % 256) lt (omega arith) (HasBit-eight live i has))
+
+-- and what is moved on to, where no spot is odd
+pub CoversAfter-shift : (s : Scan) (live mask : ℕ) → bit_and live s.moves.odd ≡ 0
+    → ((i m : ℕ) → i < 62 → HasBit live i → IsMoved m s.moves.on s.moves.stay i → IsPart m mask) → CoversAfter s live mask
+CoversAfter-shift s live mask even parts spots filter i lt has =
+    let small : 2 ^ (i % 8) < 2 ^ 8 = pow_below (i % 8) 8 (omega arith) in
+    let row : ℕ = slice_index s.after.items (256 * (i / 8) + 2 ^ (i % 8)) in
+    Covers-part spots s.of.items s.last_look row mask (next_of (spot_at spots (slice_index s.of.items i)))
+    (parts i row (omega (arith, filter.few)) has (filter.moves i lt (λ odd. HasBit-apart live s.moves.odd i even has odd)))
+    (filter.follows i (2 ^ (i % 8)) lt (omega arith) (HasBit-pow (i % 8)))
 
 -- What the filter does at a byte: the spots that are tried are those of the state, and those of the start unless no run begins there,
 -- and these are the spots that may be tried after it.
@@ -30,16 +51,14 @@ pub record Steps (text : List ℕ) (s : Scan) (place state tried next : ℕ) : T
   pub kept : IsPart state tried
   pub begun : IsPart s.start tried ⊎ NoneBegins text s place (place + 1)
   pub narrow : (slice_index text place < 128) ⊎ (bit_and tried s.wide ≡ 0)
-  pub follows : (i : ℕ) → i < 64 → HasBit (bit_and tried (slice_index s.takes.items (slice_index text place))) i
-      → IsPart (slice_index s.after.items (row_place (bit_and tried (slice_index s.takes.items (slice_index text place))) i)) next
+  pub follows : CoversAfter s (bit_and tried (slice_index s.takes.items (slice_index text place))) next
 
 -- what the filter does, from what it reads of its lists
-pub Steps-read : (text : List ℕ) (s : Scan) (place state tried next read : ℕ) (rows : List ℕ) → place < length text → slice_index text place < length s.takes.items
+pub Steps-read : (text : List ℕ) (s : Scan) (place state tried next read : ℕ) → place < length text → slice_index text place < length s.takes.items
     → slice_index text place < 256 → IsPart state tried → IsPart s.start tried ⊎ NoneBegins text s place (place + 1)
-    → (slice_index text place < 128) ⊎ (bit_and tried s.wide ≡ 0) → read ≡ slice_index_or s.takes.items (slice_index text place) read → rows ≡ s.after.items
-    → ((i : ℕ) → i < 64 → HasBit (bit_and tried read) i → IsPart (slice_index rows (row_place (bit_and tried read) i)) next)
-    → Steps text s place state tried next
-Steps-read text s place state tried next read rows more within byte kept begun narrow is same follows =
+    → (slice_index text place < 128) ⊎ (bit_and tried s.wide ≡ 0) → read ≡ slice_index_or s.takes.items (slice_index text place) read
+    → CoversAfter s (bit_and tried read) next → Steps text s place state tried next
+Steps-read text s place state tried next read more within byte kept begun narrow is follows =
     let takes : read ≡ slice_index s.takes.items (slice_index text place) =
     sym (get_or_from_slice_get s.takes.items (slice_index text place) read 0 (slice_get_read s.takes.items (length s.takes.items) (slice_index text place) read refl within is)) in
     record {
@@ -48,9 +67,7 @@ Steps-read text s place state tried next read rows more within byte kept begun n
       kept = kept;
       begun = begun;
       narrow = narrow;
-      follows =
-          subst (λ (live : ℕ). (i : ℕ) → i < 64 → HasBit (bit_and tried live) i → IsPart (slice_index s.after.items (row_place (bit_and tried live) i)) next) takes
-          (subst (λ (list : List ℕ). (i : ℕ) → i < 64 → HasBit (bit_and tried read) i → IsPart (slice_index list (row_place (bit_and tried read) i)) next) same follows);
+      follows = subst (λ (live : ℕ). CoversAfter s (bit_and tried live) next) takes follows;
     }
 
 module _ (text : List ℕ) (spots : List Spot) (s : Scan) (filter : IsFilterOf spots s) where
@@ -75,20 +92,12 @@ module _ (text : List ℕ) (spots : List Spot) (s : Scan) (filter : IsFilterOf s
         (λ k sized.
         let one = one_byte text spots (taker i) place k (narrow i lt (part i has)) sized in
         let live_bit = HasBit-and tried (slice_index s.takes.items byte) i (part i has) (filter.takes i byte lt steps.byte one.1) in
-        let least : i < 64 = omega (arith, filter.few) in
         subst (λ (j : ℕ). IsDead text spots (place + j) (next_of (taker i))) (sym one.0)
-        (filter.follows i (eight i) lt (omega arith) (HasBit-eight live i live_bit) text (place + 1)
-        (AreDead-part text spots s.of.items s.last_look (place + 1) (slice_index s.after.items (row_place live i)) next (steps.follows i least live_bit) later)));
+        (steps.follows spots filter i lt live_bit text (place + 1) later));
   }
     where
       byte : ℕ
       byte = slice_index text place
-
-      live : ℕ
-      live = bit_and tried (slice_index s.takes.items byte)
-
-      eight : ℕ → ℕ
-      eight i = live / 2 ^ (8 * (i / 8)) % 256
 
       taker : ℕ → Spot
       taker i = spot_at spots (slice_index s.of.items i)
@@ -122,7 +131,7 @@ module _ (text : List ℕ) (s : Scan) where
         kept = λ i has. has;
         begun = inl (λ i has. has);
         narrow = narrow;
-        follows = λ i least has. absurd (HasBit-none i (subst (λ (m : ℕ). HasBit m i) nothing has));
+        follows = λ spots filter i lt has. absurd (HasBit-none i (subst (λ (m : ℕ). HasBit m i) nothing has));
       }
 
   -- more places
@@ -130,9 +139,13 @@ module _ (text : List ℕ) (s : Scan) where
   NoneBegins-more from mid until before after spots filter q low high =
       elim (cases_lt q mid) [ inl left ↦ before spots filter q low left | inr right ↦ after spots filter q right high ]
 
+-- how far the filter has looked
+abbrev pub sight : ℕ → ℕ → ℕ → Sight
+sight from place state = record { from = from; place = place; state = state }
+
 module _ (text : List ℕ) (s : Scan) (at : ℕ) where
   -- at first nothing was looked at
-  pub Looked-begin : at ≤ length text → Looked text s at at at 0
+  pub Looked-begin : at ≤ length text → Looked text s at (sight at at 0)
   Looked-begin within = record {
     after = omega arith;
     before = omega arith;
@@ -144,7 +157,8 @@ module _ (text : List ℕ) (s : Scan) (at : ℕ) where
 
   -- a byte more, at a place where no match without a byte is
   pub Looked-next : (from place state tried next : ℕ) → NoEnd text place s.last_look s.start ⊎ NoneBegins text s place (place + 1)
-      → NoEnd text (place + 1) s.last_look next → Looked text s at from place state → Steps text s place state tried next → Looked text s at from (place + 1) next
+      → NoEnd text (place + 1) s.last_look next → Looked text s at (sight from place state) → Steps text s place state tried next
+      → Looked text s at (sight from (place + 1) next)
   Looked-next from place state tried next empty none h steps = record {
     after = h.after;
     before = omega (arith, h.before);
@@ -167,8 +181,14 @@ module _ (text : List ℕ) (s : Scan) (at : ℕ) where
         ]
       ]
 
+  -- a byte more, by a shift
+  pub Looked-shift : (from place state tried next : ℕ) → s.start < 2 ^ 62 → next < 2 ^ 62 → Looked text s at (sight from place state)
+      → Steps text s place state tried next → Looked text s at (sight from (place + 1) next)
+  Looked-shift from place state tried next low small h steps =
+      Looked-next from place state tried next (inl (NoEnd-small text place s.last_look s.start low)) (NoEnd-small text (place + 1) s.last_look next small) h steps
+
   -- where no spot may be tried, all before is over
-  pub Looked-over : (from place : ℕ) → Looked text s at from place 0 → Looked text s at place place 0
+  pub Looked-over : (from place : ℕ) → Looked text s at (sight from place 0) → Looked text s at (sight place place 0)
   Looked-over from place h = record {
     after = omega (arith, h.after, h.before);
     before = omega arith;
@@ -182,7 +202,8 @@ module _ (text : List ℕ) (s : Scan) (at : ℕ) where
   }
 
   -- places are passed over that begin no run
-  pub Looked-stride : (from to : ℕ) → NoneBegins text s from to → from ≤ to → to ≤ length text → Looked text s at from from 0 → Looked text s at to to 0
+  pub Looked-stride : (from to : ℕ) → NoneBegins text s from to → from ≤ to → to ≤ length text → Looked text s at (sight from from 0)
+      → Looked text s at (sight to to 0)
   Looked-stride from to none forward end h = record {
     after = omega (arith, h.after, forward);
     before = omega arith;
@@ -193,12 +214,12 @@ module _ (text : List ℕ) (s : Scan) (at : ℕ) where
   }
 
   -- no run begins before `from`
-  pub Looked-quiet : (from place state : ℕ) → Looked text s at from place state → (spots : List Spot) → IsFilterOf spots s → NoRun text spots at from
-  Looked-quiet from place state h spots filter = NoRun-dead text spots at from (h.quiet spots filter)
+  pub Looked-quiet : (k : Sight) → Looked text s at k → (spots : List Spot) → IsFilterOf spots s → NoRun text spots at k.from
+  Looked-quiet k h spots filter = NoRun-dead text spots at k.from (h.quiet spots filter)
 
   -- at the end of the text, where no match without a byte is, no run begins at all
   pub Looked-end : (from place state : ℕ) → NoEnd text place s.last_look s.start ⊎ NoneBegins text s place (place + 1) → length text ≤ place
-      → Looked text s at from place state → (spots : List Spot) → IsFilterOf spots s → NoRun text spots at (length text + 1)
+      → Looked text s at (sight from place state) → (spots : List Spot) → IsFilterOf spots s → NoRun text spots at (length text + 1)
   Looked-end from place state empty over h spots filter =
       NoRun-dead text spots at (length text + 1)
       (λ q low high. elim (cases_lt q from) [

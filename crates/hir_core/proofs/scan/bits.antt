@@ -1,1 +1,2 @@
 pub mod MaskLemmas
+pub mod MoveLemmas

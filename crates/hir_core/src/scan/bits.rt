@@ -1,7 +1,7 @@
 //! Sets of spots as bits of a number.
 
-ghost use Rattle.std.specs.Prelude.{◌≡◌, ◌+◌, ◌*◌, ◌<◌, ℕ, length, slice_index, IfOk, vec_len};
-ghost use Rattle.hir_core.specs.Masks.{HasBit, IsPart, Grows, row_place};
+ghost use Rattle.std.specs.Prelude.{◌≡◌, ◌+◌, ◌*◌, ◌^◌, ◌<◌, ◌≤◌, ℕ, length, slice_index, IfOk, vec_len};
+ghost use Rattle.hir_core.specs.Masks.{HasBit, IsPart, Grows, IsMoved, AreMoved, row_place};
 
 use sd_base::NoMemory;
 use std::alloc::Global;
@@ -61,4 +61,70 @@ pub fn joined(rows: &[u64], live: u64) -> u64
         }
     }
     joined
+}
+
+/// How spots move on by a byte: to the spot of the next bit, by a shift, or not at all, or in other ways.
+#[derive(Clone, Copy)]
+pub struct Moves {
+    /// The spots that may be tried after the one of the bit before.
+    pub on: u64,
+    /// The spots that may be tried after themselves.
+    pub stay: u64,
+    /// The spots after which more may be tried, or a match may end: these the rows tell.
+    pub odd: u64,
+}
+
+impl Moves {
+    /// The same with a spot more, after which those of a mask may be tried.
+    fn with(self, bit: usize, mask: u64) -> Moves
+        requires { bit < 62 }
+        ensures on { IsPart self.on result.on }
+        ensures stay { IsPart self.stay result.stay }
+        ensures odd { IsPart self.odd result.odd }
+        ensures moved { (HasBit result.odd bit → ⊥) → IsMoved mask result.on result.stay bit }
+        ensures few_on { self.on < 2 ^ 62 → result.on < 2 ^ 62 }
+        ensures few_stay { self.stay < 2 ^ 62 → result.stay < 2 ^ 62 }
+    {
+        let stays = mask & (1 << bit);
+        let goes = mask & (1 << (bit + 1));
+        if mask >= SURE || stays | goes != mask {
+            return Moves {
+                on: self.on,
+                stay: self.stay,
+                odd: with_bit(self.odd, bit),
+            };
+        }
+        Moves {
+            on: self.on | goes,
+            stay: self.stay | stays,
+            odd: self.odd,
+        }
+    }
+
+    /// The spots that may be tried after these took a byte, of which none is odd.
+    pub fn shifted(self, live: u64) -> u64
+        ensures moved { (i mask : ℕ) → i < 62 → HasBit live i → IsMoved mask self.on self.stay i → IsPart mask result }
+        ensures few { self.on < 2 ^ 62 → self.stay < 2 ^ 62 → result < 2 ^ 62 }
+    {
+        ((live << 1) & self.on) | (live & self.stay)
+    }
+}
+
+/// How so many spots move on, as the rows tell.
+pub fn moves_in(after: &[u64], count: usize) -> Moves
+    requires room { length after.now ≡ 2048 }
+    requires few { count ≤ 62 }
+    ensures moved { AreMoved after.now count result }
+    ensures few_on { result.on < 2 ^ 62 }
+    ensures few_stay { result.stay < 2 ^ 62 }
+{
+    let mut moves = Moves {
+        on: 0,
+        stay: 0,
+        odd: 0,
+    };
+    for bit in 0..count {
+        moves = moves.with(bit, after[256 * (bit / 8) + (1 << (bit % 8))]);
+    }
+    moves
 }
