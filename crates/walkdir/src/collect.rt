@@ -1,11 +1,9 @@
 //! Collecting the entries of a walk.
 
-ghost use Rattle.std.specs.Prelude.{◌≡◌, ◌+◌, ◌<◌, ◌≤◌, [], IsTrue, false, Some, Err, IfOk, IfErr, IsErrOf};
+ghost use Rattle.std.specs.Prelude.{◌≡◌, ◌+◌, ◌<◌, ◌≤◌, [], false, Some, Err, IfOk, IfErr, IsErrOf};
 ghost use Rattle.sd_edge.specs.Disk.{SameTree};
-ghost use Rattle.walk_rest.specs.Plan.{Comparison};
-ghost use Rattle.walk_rest.specs.Rest.{Rest};
 ghost use Rattle.walk_steps.specs.Causes.{CountsFaults, FitsTree, faults_told};
-ghost use Rattle.walk_steps.specs.Inside.{HasRest, SameWalk, levels_of};
+ghost use Rattle.walk_steps.specs.Inside.{SameWalk, levels_of};
 ghost use Rattle.walk_steps.specs.Listed.{waits_in};
 ghost use Rattle.walk_steps.specs.Sound.{IsSound, SameOthers, StaysWithin, open_limit};
 ghost use Rattle.walk_steps.specs.Steps.{ByEachRest};

@@ -1,4 +1,4 @@
-use Rattle.std.proofs.Common.{◌≡◌, Option, Some, Ok, Err, inl, inr, refl, subst, ◌∙◌, ap, arith, true, false}
+use Rattle.std.proofs.Common.{◌≡◌, Option, Some, Ok, Err, inr, subst, ◌∙◌, ap, arith, true, false}
 use Rattle.std.proofs.lemmas.Bool.{lt-ltb}
 use Rattle.walk_rest.specs.declared.error.Error.TheVariants as error
 use Rattle.walk_rest.specs.declared.options.Options.{Options}
