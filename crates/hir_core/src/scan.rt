@@ -35,8 +35,6 @@ pub struct Scan {
     last_look: Option<Look>,
     /// Whether runs begin only by bytes that are rare in texts, so that places are passed over up to the next one.
     strides: bool,
-    /// Whether shifts wouldn't pay: where a match may end after each byte, or a look is asked before it.
-    stepwise: bool,
     ghost all_bytes: { vec_len takes ≡ 256 },
     ghost all_rows: { vec_len after ≡ 2048 },
     ghost few_on: { moves.on < 2 ^ 62 },
@@ -85,8 +83,7 @@ impl Scan {
         let start = reach::mask_from(alloc, spots, of.as_slice(), 0, last_look)?;
         let moves = moves_in(after.as_slice(), of.len());
         let wide = takes::wide(spots, of.as_slice());
-        let stepwise = first_look.is_some() || joined(after.as_slice(), start) >= SURE;
-        let strides = stepwise || takes::is_rare(takes.as_slice(), start);
+        let strides = first_look.is_some() || takes::is_rare(takes.as_slice(), start);
         Ok(Some(Scan {
             of,
             takes,
@@ -97,7 +94,6 @@ impl Scan {
             first_look,
             last_look,
             strides,
-            stepwise,
         }))
     }
 
@@ -207,7 +203,7 @@ impl Scan {
         ensures within { result.place ≤ length text.now }
     {
         let mut sight = self.rested(text, begin);
-        if self.stepwise || self.start >= SURE {
+        if self.first_look.is_some() || self.start >= SURE {
             return sight;
         }
         while sight.place < text.len() {
