@@ -1,14 +1,15 @@
-//! Matchers of short patterns, and what they find.
+//! Matchers of short patterns, and what they answer.
+//!
+//! A matcher is let go where it is asked, and answers with plain values, so that tests are quickly proved.
 
-use grep_matcher::{Captures, Matcher};
+use grep_matcher::{Captures, LineMatchKind, LineTerminator, Match, Matcher};
 use grep_regex::{Error, ErrorKind, RegexMatcher, RegexMatcherBuilder, fit_together};
 use sd_base::{NoMemory, Patterns};
 use std::alloc::Global;
 use std::process::Abort;
-use std::test::Fail;
 
 /// An option with its value.
-#[derive(Clone, Copy, Debug)]
+#[derive(Clone, Copy)]
 pub(crate) enum Setting {
     CaseInsensitive(bool),
     CaseSmart(bool),
@@ -54,9 +55,8 @@ fn set(builder: &mut RegexMatcherBuilder, setting: Setting) {
     };
 }
 
-/// A builder with the defaults but for these options, set one after the other. Callers are told nothing of it, so that a test is
-/// quickly proved.
-pub(crate) fn builder(settings: &[Setting]) -> RegexMatcherBuilder {
+/// A builder with the defaults but for these options, set one after the other. Callers are told nothing of it.
+fn builder(settings: &[Setting]) -> RegexMatcherBuilder {
     let mut builder = RegexMatcherBuilder::new();
     for setting in settings {
         set(&mut builder, *setting);
@@ -64,112 +64,211 @@ pub(crate) fn builder(settings: &[Setting]) -> RegexMatcherBuilder {
     builder
 }
 
-/// A matcher of a pattern.
-pub(crate) fn build(
-    alloc: Global,
-    builder: &RegexMatcherBuilder,
-    pattern: &str,
-) -> Result<Result<RegexMatcher, Error>, Fail> {
-    if pattern.len() > u32::MAX as usize {
-        return Err("a long pattern".into());
+/// A call that makes a matcher, and what it is given.
+#[derive(Clone, Copy)]
+pub(crate) enum Make<'a> {
+    Build(&'a [Setting], &'a str),
+    BuildMany(&'a [Setting], &'a [&'a str]),
+    New(&'a str),
+    NewLineMatcher(&'a str),
+}
+
+/// How many bytes a pattern may have.
+const MOST_BYTES: usize = u32::MAX as usize;
+
+/// Makes a matcher. A long pattern is refused as for want of memory.
+pub(crate) fn made(alloc: Global, make: Make<'_>) -> Result<RegexMatcher, Error> {
+    match make {
+        Make::Build(settings, pattern) if pattern.len() <= MOST_BYTES => {
+            builder(settings).build(alloc, pattern)
+        }
+        Make::BuildMany(settings, patterns) => built_of_many(alloc, settings, patterns),
+        Make::New(pattern) if pattern.len() <= MOST_BYTES => RegexMatcher::new(alloc, pattern),
+        Make::NewLineMatcher(pattern) if pattern.len() <= MOST_BYTES => {
+            RegexMatcher::new_line_matcher(alloc, pattern)
+        }
+        _ => Err(NoMemory.into()),
     }
-    Ok(builder.build(alloc, pattern))
 }
 
 /// A matcher of several patterns.
-pub(crate) fn build_many(
+fn built_of_many(
     alloc: Global,
-    builder: &RegexMatcherBuilder,
+    settings: &[Setting],
     patterns: &[&str],
-) -> Result<Result<RegexMatcher, Error>, Fail> {
+) -> Result<RegexMatcher, Error> {
+    let list = listed(alloc, patterns)?;
+    if fit_together(&list) {
+        builder(settings).build_many(alloc, &list)
+    } else {
+        Err(NoMemory.into())
+    }
+}
+
+fn listed(alloc: Global, patterns: &[&str]) -> Result<Patterns, NoMemory> {
     let mut list = Patterns::new(alloc);
     for pattern in patterns {
         list.push(pattern)?;
     }
-    if !fit_together(&list) {
-        return Err("long patterns".into());
+    Ok(list)
+}
+
+/// What a matcher is asked.
+#[derive(Clone, Copy)]
+pub(crate) enum Question<'a> {
+    /// Whether it is built.
+    IsBuilt,
+    /// Where it first finds something in a text.
+    First(&'a [u8]),
+    /// Whether it finds something in a text.
+    Finds(&'a [u8]),
+    /// Where a group of the first match is.
+    Group(&'a [u8], usize),
+    /// Where a group of the first match from a place on is.
+    GroupFrom(&'a [u8], usize, usize),
+    /// The number of a group's name.
+    Number(&'a str),
+    /// How many groups a match has, the whole one among them.
+    Count,
+    /// Whether a byte is told to be in no match.
+    Skips(u8),
+    /// The first byte of which it is told otherwise than that these, and no others, are in no match.
+    SkipsOtherThan(&'a [u8]),
+    /// The last byte of the terminator that is told of.
+    Terminator,
+    /// Whether a line is confirmed at a place.
+    Confirms(&'a [u8], usize),
+}
+
+/// What a matcher answers.
+#[derive(Clone, Copy, Debug, Eq, PartialEq)]
+pub(crate) enum Answer {
+    Yes(bool),
+    Span(Option<(usize, usize)>),
+    Number(Option<usize>),
+    Byte(Option<u8>),
+    Refused(ErrorKind),
+}
+
+/// Makes a matcher and asks it.
+pub(crate) fn ask(alloc: Global, make: Make<'_>, question: Question<'_>) -> Answer {
+    match made(alloc, make) {
+        Err(error) => Answer::Refused(*error.kind()),
+        Ok(matcher) => {
+            let answer = answer_of(&matcher, question);
+            drop(matcher);
+            answer.unwrap_or(Answer::Refused(ErrorKind::NoMemory))
+        }
     }
-    Ok(builder.build_many(alloc, &list))
 }
 
-/// Where a matcher first finds something.
-pub(crate) fn first(
-    matcher: &RegexMatcher,
-    text: &[u8],
-) -> Result<Option<(usize, usize)>, NoMemory> {
-    Ok(matcher.find(text)?.map(|span| (span.start(), span.end())))
+fn answer_of(matcher: &RegexMatcher, question: Question<'_>) -> Result<Answer, NoMemory> {
+    Ok(match question {
+        Question::IsBuilt => Answer::Yes(true),
+        Question::First(text) => Answer::Span(matcher.find(text)?.map(ends)),
+        Question::Finds(text) => Answer::Yes(matcher.is_match(text)?),
+        Question::Group(text, index) => Answer::Span(group(matcher, text, index)?),
+        Question::GroupFrom(text, at, index) => Answer::Span(group_from(matcher, text, at, index)?),
+        Question::Number(name) => Answer::Number(matcher.capture_index(name)),
+        Question::Count => Answer::Number(Some(matcher.capture_count())),
+        Question::Skips(byte) => Answer::Yes(skips(matcher, byte)),
+        Question::SkipsOtherThan(bytes) => Answer::Byte(skips_other_than(matcher, bytes)),
+        Question::Terminator => Answer::Byte(matcher.line_terminator().map(last_byte)),
+        Question::Confirms(text, end) => Answer::Yes(confirms(matcher, text, end)?),
+    })
 }
 
-/// A pattern first finds this in a text.
-pub(crate) fn check(
-    rt: &(impl Abort + AllocGlobal),
-    builder: &RegexMatcherBuilder,
-    pattern: &str,
-    text: &[u8],
-    found: Option<(usize, usize)>,
-) -> Result<(), Fail> {
-    match build(rt.alloc(), builder, pattern)? {
-        Ok(matcher) => assert_eq!(rt; first(&matcher, text)?, found, "{pattern}"),
-        Err(error) => assert!(rt; false, "{pattern}: {error}"),
-    }
-    Ok(())
+fn ends(span: Match) -> (usize, usize) {
+    (span.start(), span.end())
 }
 
-/// A pattern is refused so.
-pub(crate) fn check_refused(
-    rt: &(impl Abort + AllocGlobal),
-    builder: &RegexMatcherBuilder,
-    pattern: &str,
-    kind: ErrorKind,
-) -> Result<(), Fail> {
-    match build(rt.alloc(), builder, pattern)? {
-        Ok(_) => assert!(rt; false, "{pattern} is built"),
-        Err(error) => assert_eq!(rt; *error.kind(), kind, "{pattern}"),
-    }
-    Ok(())
+fn last_byte(end: LineTerminator) -> u8 {
+    end.as_byte()
 }
 
-/// A matcher of patterns with the defaults.
-pub(crate) fn plain(alloc: Global, patterns: &[&str]) -> Result<RegexMatcher, Fail> {
-    Ok(build_many(alloc, &builder(&[]), patterns)??)
-}
-
-/// The span of a group of the first match, if there is one and the group is set.
-pub(crate) fn group(
+fn group(
     matcher: &RegexMatcher,
     text: &[u8],
     index: usize,
 ) -> Result<Option<(usize, usize)>, NoMemory> {
     let mut caps = matcher.new_captures()?;
-    if !matcher.captures(text, &mut caps)? {
+    let is_found = matcher.captures(text, &mut caps);
+    let span = caps.get(index);
+    drop(caps);
+    Ok(if is_found? { span.map(ends) } else { None })
+}
+
+fn group_from(
+    matcher: &RegexMatcher,
+    text: &[u8],
+    at: usize,
+    index: usize,
+) -> Result<Option<(usize, usize)>, NoMemory> {
+    if at > text.len() {
         return Ok(None);
     }
-    Ok(caps.get(index).map(|span| (span.start(), span.end())))
+    let mut caps = matcher.new_captures()?;
+    let is_found = matcher.captures_at(text, at, &mut caps);
+    let span = caps.get(index);
+    drop(caps);
+    Ok(if is_found? { span.map(ends) } else { None })
 }
 
-/// The number of a group's name.
-pub(crate) fn number(matcher: &RegexMatcher, name: &str) -> Option<usize> {
-    matcher.capture_index(name)
-}
-
-/// How many groups a match has, the whole one among them.
-pub(crate) fn count(matcher: &RegexMatcher) -> usize {
-    matcher.capture_count()
-}
-
-/// Whether something is found.
-pub(crate) fn finds(matcher: &RegexMatcher, text: &[u8]) -> Result<bool, NoMemory> {
-    matcher.is_match(text)
-}
-
-/// Whether a byte is told to be in no match.
-pub(crate) fn skips(matcher: &RegexMatcher, byte: u8) -> bool {
+fn skips(matcher: &RegexMatcher, byte: u8) -> bool {
     matcher
         .non_matching_bytes()
         .is_some_and(|set| set.contains(byte))
 }
 
-/// The last byte of the terminator that is told of.
-pub(crate) fn told(matcher: &RegexMatcher) -> Option<u8> {
-    matcher.line_terminator().map(|end| end.as_byte())
+fn skips_other_than(matcher: &RegexMatcher, bytes: &[u8]) -> Option<u8> {
+    (0..=u8::MAX).find(|byte| skips(matcher, *byte) != bytes.contains(byte))
+}
+
+fn confirms(matcher: &RegexMatcher, text: &[u8], end: usize) -> Result<bool, NoMemory> {
+    let line = matcher.find_candidate_line(text)?;
+    Ok(matches!(line, Some(LineMatchKind::Confirmed(place)) if place == end))
+}
+
+/// The first pattern.
+fn first_of<'a>(make: Make<'a>) -> &'a str {
+    match make {
+        Make::Build(_, pattern) | Make::New(pattern) | Make::NewLineMatcher(pattern) => pattern,
+        Make::BuildMany(_, [first, ..]) => first,
+        Make::BuildMany(_, []) => "",
+    }
+}
+
+/// A matcher answers so.
+pub(crate) fn check(
+    rt: &(impl Abort + AllocGlobal),
+    make: Make<'_>,
+    question: Question<'_>,
+    wanted: Answer,
+) {
+    let answer = ask(rt.alloc(), make, question);
+    let pattern = first_of(make);
+    assert_eq!(rt; answer, wanted, "{pattern}");
+}
+
+/// With some options a pattern first finds this in a text.
+pub(crate) fn check_found(
+    rt: &(impl Abort + AllocGlobal),
+    settings: &[Setting],
+    pattern: &str,
+    text: &[u8],
+    found: Option<(usize, usize)>,
+) {
+    let make = Make::Build(settings, pattern);
+    check(rt, make, Question::First(text), Answer::Span(found));
+}
+
+/// With some options a pattern is refused so.
+pub(crate) fn check_refused(
+    rt: &(impl Abort + AllocGlobal),
+    settings: &[Setting],
+    pattern: &str,
+    kind: ErrorKind,
+) {
+    let make = Make::Build(settings, pattern);
+    check(rt, make, Question::IsBuilt, Answer::Refused(kind));
 }

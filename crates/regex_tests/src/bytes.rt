@@ -1,26 +1,7 @@
 //! Bytes that are in no match, and bytes that no pattern may ask for.
 
-use crate::building::{Setting, build, builder, check_refused, skips};
+use crate::building::{Answer, Make, Question, Setting, check, check_refused};
 use grep_regex::ErrorKind;
-use std::process::Abort;
-use std::test::Fail;
-
-/// These bytes, and no others, are in no match of a pattern.
-fn check_skipped(
-    rt: &(impl Abort + AllocGlobal),
-    pattern: &str,
-    skipped: &[u8],
-) -> Result<(), Fail> {
-    let matcher = build(rt.alloc(), &builder(&[]), pattern)??;
-    for byte in 0..=u8::MAX {
-        assert_eq!(rt;
-            skips(&matcher, byte),
-            skipped.contains(&byte),
-            "{pattern}: {byte}"
-        );
-    }
-    Ok(())
-}
 
 /// The bytes of no encoding of a character.
 const NEVER: &[u8] = &[
@@ -33,22 +14,15 @@ const NEVER_IN_A_LINE: &[u8] = &[
 ];
 
 #[test]
-fn a_dot_takes_no_line_feed(rt: HostRuntime) -> Result<(), Fail> {
-    check_skipped(&rt, ".", NEVER_IN_A_LINE)?;
-    check_skipped(&rt, "(?s).", NEVER)?;
-    check_skipped(&rt, r"(?s).|\xC0", NEVER)
-}
-
-/// Whether a byte is told to be in no match of a pattern.
-fn check_one(
-    rt: &(impl Abort + AllocGlobal),
-    pattern: &str,
-    byte: u8,
-    skipped: bool,
-) -> Result<(), Fail> {
-    let matcher = build(rt.alloc(), &builder(&[]), pattern)??;
-    assert_eq!(rt; skips(&matcher, byte), skipped, "{pattern}: {byte}");
-    Ok(())
+fn a_dot_takes_no_line_feed(rt: HostRuntime) {
+    for (pattern, skipped) in [
+        (".", NEVER_IN_A_LINE),
+        ("(?s).", NEVER),
+        (r"(?s).|\xC0", NEVER),
+    ] {
+        let question = Question::SkipsOtherThan(skipped);
+        check(&rt, Make::Build(&[], pattern), question, Answer::Byte(None));
+    }
 }
 
 /// A pattern, a byte, and whether that is told to be in no match.
@@ -64,16 +38,24 @@ const SKIPPED: &[(&str, u8, bool)] = &[
 ];
 
 #[test]
-fn anchors_keep_the_ends_of_lines(rt: HostRuntime) -> Result<(), Fail> {
+fn anchors_keep_the_ends_of_lines(rt: HostRuntime) {
     for (pattern, byte, skipped) in SKIPPED {
-        check_one(&rt, pattern, *byte, *skipped)?;
+        let question = Question::Skips(*byte);
+        check(
+            &rt,
+            Make::Build(&[], pattern),
+            question,
+            Answer::Yes(*skipped),
+        );
     }
-    Ok(())
 }
 
+const BANNED: &[Setting] = &[Setting::BanByte(Some(0))];
+
+const FREE: &[Setting] = &[Setting::BanByte(Some(0)), Setting::BanByte(None)];
+
 #[test]
-fn a_banned_byte(rt: HostRuntime) -> Result<(), Fail> {
-    let banned = builder(&[Setting::BanByte(Some(0))]);
+fn a_banned_byte(rt: HostRuntime) {
     for pattern in [
         r"[^[^\x00]]",
         r"\x00",
@@ -82,12 +64,18 @@ fn a_banned_byte(rt: HostRuntime) -> Result<(), Fail> {
         r"(?-u)\x00",
         r"(a|(b\x00)*)",
     ] {
-        check_refused(&rt, &banned, pattern, ErrorKind::Banned(0))?;
+        check_refused(&rt, BANNED, pattern, ErrorKind::Banned(0));
     }
-    for pattern in [r"[\x00a]", "a", ".", r"[^\x00]", "", r"\x01"] {
-        assert!(rt; build(rt.alloc(), &banned, pattern)?.is_ok(), "{pattern}");
+    for (settings, pattern) in [
+        (BANNED, r"[\x00a]"),
+        (BANNED, "a"),
+        (BANNED, "."),
+        (BANNED, r"[^\x00]"),
+        (BANNED, ""),
+        (BANNED, r"\x01"),
+        (FREE, r"\x00"),
+    ] {
+        let make = Make::Build(settings, pattern);
+        check(&rt, make, Question::IsBuilt, Answer::Yes(true));
     }
-    let free = builder(&[Setting::BanByte(Some(0)), Setting::BanByte(None)]);
-    assert!(rt; build(rt.alloc(), &free, r"\x00")?.is_ok());
-    Ok(())
 }

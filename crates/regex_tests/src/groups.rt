@@ -1,10 +1,7 @@
 //! Groups of one pattern and of several.
 
-use crate::building::{build_many, builder, count, finds, first, group, number, plain};
+use crate::building::{Answer, Make, Question, check};
 use grep_regex::{ErrorKind, RegexFault};
-use std::alloc::Global;
-use std::process::Abort;
-use std::test::Fail;
 
 const DATES: &[&str] = &[r"(?P<year>\d+)-(\d+)|(?P<none>x)"];
 
@@ -27,25 +24,17 @@ const GROUPS: &[(&[&str], &[u8], usize, Option<(usize, usize)>)] = &[
     (SEVERAL, b"d", 3, Some((0, 1))),
 ];
 
-/// A group is at this place.
-fn check_group(
-    rt: &(impl Abort + AllocGlobal),
-    patterns: &[&str],
-    text: &[u8],
-    index: usize,
-    wanted: Option<(usize, usize)>,
-) -> Result<(), Fail> {
-    let matcher = plain(rt.alloc(), patterns)?;
-    assert_eq!(rt; group(&matcher, text, index)?, wanted, "{index}");
-    Ok(())
-}
-
 #[test]
-fn groups_are_numbered_on_over_all_patterns(rt: HostRuntime) -> Result<(), Fail> {
+fn groups_are_numbered_on_over_all_patterns(rt: HostRuntime) {
     for (patterns, text, index, wanted) in GROUPS {
-        check_group(&rt, patterns, text, *index, *wanted)?;
+        let question = Question::Group(text, *index);
+        check(
+            &rt,
+            Make::BuildMany(&[], patterns),
+            question,
+            Answer::Span(*wanted),
+        );
     }
-    Ok(())
 }
 
 /// Patterns, a name, and the number of its group.
@@ -59,81 +48,66 @@ const NAMES: &[(&[&str], &str, Option<usize>)] = &[
     (SEVERAL, "e", None),
 ];
 
-/// A name is of this group.
-fn check_name(
-    rt: &(impl Abort + AllocGlobal),
-    patterns: &[&str],
-    name: &str,
-    wanted: Option<usize>,
-) -> Result<(), Fail> {
-    let matcher = plain(rt.alloc(), patterns)?;
-    assert_eq!(rt; number(&matcher, name), wanted, "{name}");
-    Ok(())
-}
-
 #[test]
-fn names_tell_the_numbers_of_groups(rt: HostRuntime) -> Result<(), Fail> {
+fn names_tell_the_numbers_of_groups(rt: HostRuntime) {
     for (patterns, name, wanted) in NAMES {
-        check_name(&rt, patterns, name, *wanted)?;
+        let question = Question::Number(name);
+        check(
+            &rt,
+            Make::BuildMany(&[], patterns),
+            question,
+            Answer::Number(*wanted),
+        );
     }
-    Ok(())
 }
 
-/// How many groups patterns have.
-fn count_of(alloc: Global, patterns: &[&str]) -> Result<usize, Fail> {
-    Ok(count(&plain(alloc, patterns)?))
-}
+/// Patterns, and how many groups they have.
+const COUNTS: &[(&[&str], usize)] = &[(DATES, 4), (SEVERAL, 5), (&["a"], 1), (&[], 1)];
 
 #[test]
-fn groups_are_counted_over_all_patterns(rt: HostRuntime) -> Result<(), Fail> {
-    assert_eq!(rt; count_of(rt.alloc(), DATES)?, 4);
-    assert_eq!(rt; count_of(rt.alloc(), SEVERAL)?, 5);
-    assert_eq!(rt; count_of(rt.alloc(), &["a"])?, 1);
-    assert_eq!(rt; count_of(rt.alloc(), &[])?, 1);
-    Ok(())
-}
-
-/// What patterns first find.
-fn first_of(alloc: Global, patterns: &[&str], text: &[u8]) -> Result<Option<(usize, usize)>, Fail> {
-    Ok(first(&plain(alloc, patterns)?, text)?)
-}
-
-#[test]
-fn the_first_pattern_is_preferred(rt: HostRuntime) -> Result<(), Fail> {
-    let alloc = rt.alloc();
-    assert_eq!(rt; first_of(alloc, &["a", "ab"], b"ab")?, Some((0, 1)));
-    assert_eq!(rt; first_of(alloc, &["ab", "a"], b"ab")?, Some((0, 2)));
-    Ok(())
-}
-
-/// Whether no patterns find something.
-fn nothing_finds(alloc: Global, text: &[u8]) -> Result<bool, Fail> {
-    Ok(finds(&plain(alloc, &[])?, text)?)
-}
-
-#[test]
-fn no_patterns_match_nothing(rt: HostRuntime) -> Result<(), Fail> {
-    assert!(rt; !nothing_finds(rt.alloc(), b"")?);
-    assert!(rt; !nothing_finds(rt.alloc(), b"a")?);
-    Ok(())
-}
-
-/// The kind of the refusal of several patterns.
-fn refusal(alloc: Global, patterns: &[&str]) -> Result<Option<ErrorKind>, Fail> {
-    match build_many(alloc, &builder(&[]), patterns)? {
-        Ok(_) => Ok(None),
-        Err(error) => Ok(Some(*error.kind())),
+fn groups_are_counted_over_all_patterns(rt: HostRuntime) {
+    for (patterns, count) in COUNTS {
+        let make = Make::BuildMany(&[], patterns);
+        check(&rt, make, Question::Count, Answer::Number(Some(*count)));
     }
 }
 
 #[test]
-fn names_stand_once_over_all_patterns(rt: HostRuntime) -> Result<(), Fail> {
-    let alloc = rt.alloc();
-    let double = Some(ErrorKind::Regex(RegexFault::DoubleName));
-    let grammar = Some(ErrorKind::Regex(RegexFault::Grammar));
-    assert_eq!(rt; refusal(alloc, &["(?P<n>a)", "(?P<n>b)"])?, double);
-    assert_eq!(rt; refusal(alloc, &["(?P<n>a)(?P<n>b)"])?, double);
-    assert_eq!(rt; refusal(alloc, &["(?P<n>a)", "(?P<m>b)"])?, None);
-    assert_eq!(rt; refusal(alloc, &["(?P<n>a)(?P<n>b)", "("])?, grammar);
-    Ok(())
+fn the_first_pattern_is_preferred(rt: HostRuntime) {
+    for (patterns, span) in [(["a", "ab"], (0, 1)), (["ab", "a"], (0, 2))] {
+        let make = Make::BuildMany(&[], &patterns);
+        check(&rt, make, Question::First(b"ab"), Answer::Span(Some(span)));
+    }
+}
+
+#[test]
+fn no_patterns_match_nothing(rt: HostRuntime) {
+    for text in ["", "a"] {
+        let question = Question::Finds(text.as_bytes());
+        check(&rt, Make::BuildMany(&[], &[]), question, Answer::Yes(false));
+    }
+}
+
+const DOUBLE: Answer = Answer::Refused(ErrorKind::Regex(RegexFault::DoubleName));
+
+const GRAMMAR: Answer = Answer::Refused(ErrorKind::Regex(RegexFault::Grammar));
+
+/// Patterns, and whether they are built.
+const NAMED: &[(&[&str], Answer)] = &[
+    (&["(?P<n>a)", "(?P<n>b)"], DOUBLE),
+    (&["(?P<n>a)(?P<n>b)"], DOUBLE),
+    (&["(?P<n>a)", "(?P<m>b)"], Answer::Yes(true)),
+    (&["(?P<n>a)(?P<n>b)", "("], GRAMMAR),
+];
+
+#[test]
+fn names_stand_once_over_all_patterns(rt: HostRuntime) {
+    for (patterns, answer) in NAMED {
+        check(
+            &rt,
+            Make::BuildMany(&[], patterns),
+            Question::IsBuilt,
+            *answer,
+        );
+    }
 }

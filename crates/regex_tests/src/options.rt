@@ -1,9 +1,8 @@
 //! Each option on and off.
 
-use crate::building::{Setting, build, build_many, builder, check, check_refused, first};
+use crate::building::{Answer, Make, Question, Setting, check, check_found, check_refused};
 use grep_regex::{ErrorKind, RegexFault};
 use std::process::Abort;
-use std::test::Fail;
 
 /// An option, a pattern, a text, and what is first found there.
 type Row = (Setting, &'static str, &'static str, Option<(usize, usize)>);
@@ -79,89 +78,93 @@ const OFF: &[Row] = &[
 ];
 
 /// Each row says what is found.
-fn check_all(rt: &(impl Abort + AllocGlobal), rows: &[Row]) -> Result<(), Fail> {
+fn check_all(rt: &(impl Abort + AllocGlobal), rows: &[Row]) {
     for (setting, pattern, text, found) in rows {
-        check(rt, &builder(&[*setting]), pattern, text.as_bytes(), *found)?;
+        check_found(rt, &[*setting], pattern, text.as_bytes(), *found);
     }
-    Ok(())
 }
 
 #[test]
-fn options_on(rt: HostRuntime) -> Result<(), Fail> {
-    check_all(&rt, ON)
+fn options_on(rt: HostRuntime) {
+    check_all(&rt, ON);
 }
 
 #[test]
-fn options_off(rt: HostRuntime) -> Result<(), Fail> {
-    check_all(&rt, OFF)?;
+fn options_off(rt: HostRuntime) {
+    check_all(&rt, OFF);
     let grammar = ErrorKind::Regex(RegexFault::Grammar);
-    check_refused(&rt, &builder(&[Setting::Octal(false)]), r"\141", grammar)?;
-    check_refused(&rt, &builder(&[Setting::FixedStrings(false)]), "(", grammar)
+    check_refused(&rt, &[Setting::Octal(false)], r"\141", grammar);
+    check_refused(&rt, &[Setting::FixedStrings(false)], "(", grammar);
+}
+
+const EDGES: &[Setting] = &[Setting::WordEdges(true)];
+
+const WORDS: &[Setting] = &[Setting::WordEdges(true), Setting::Word(true)];
+
+const LINES: &[Setting] = &[
+    Setting::WordEdges(true),
+    Setting::Word(true),
+    Setting::WholeLine(true),
+];
+
+#[test]
+fn whole_lines_come_before_words_and_these_before_edges(rt: HostRuntime) {
+    for (settings, text, found) in [
+        (EDGES, "a-b", Some((1, 2))),
+        (WORDS, "a-b", None),
+        (WORDS, "a - b", Some((2, 3))),
+        (LINES, "a - b", None),
+        (LINES, "a\n-\nb", Some((2, 3))),
+    ] {
+        check_found(&rt, settings, "-", text.as_bytes(), found);
+    }
 }
 
 #[test]
-fn whole_lines_come_before_words_and_these_before_edges(rt: HostRuntime) -> Result<(), Fail> {
-    let edges = builder(&[Setting::WordEdges(true)]);
-    check(&rt, &edges, "-", b"a-b", Some((1, 2)))?;
-    let words = builder(&[Setting::WordEdges(true), Setting::Word(true)]);
-    check(&rt, &words, "-", b"a-b", None)?;
-    check(&rt, &words, "-", b"a - b", Some((2, 3)))?;
-    let lines = builder(&[
-        Setting::WordEdges(true),
-        Setting::Word(true),
-        Setting::WholeLine(true),
-    ]);
-    check(&rt, &lines, "-", b"a - b", None)?;
-    check(&rt, &lines, "-", b"a\n-\nb", Some((2, 3)))
+fn letters_are_folded_by_all_patterns_together(rt: HostRuntime) {
+    for (patterns, text, found) in [
+        (["abc", "d"], "ABC", Some((0, 3))),
+        (["abc", "d"], "D", Some((0, 1))),
+        (["abc", "D"], "ABC", None),
+        (["D", "abc"], "ABC", None),
+        (["abc", "D"], "d", None),
+        (["abc", "D"], "D", Some((0, 1))),
+    ] {
+        let make = Make::BuildMany(&[Setting::CaseSmart(true)], &patterns);
+        check(
+            &rt,
+            make,
+            Question::First(text.as_bytes()),
+            Answer::Span(found),
+        );
+    }
 }
 
-/// What several patterns with smart case first find.
-fn first_of(
-    rt: &impl AllocGlobal,
-    patterns: &[&str],
-    text: &[u8],
-) -> Result<Option<(usize, usize)>, Fail> {
-    let smart = builder(&[Setting::CaseSmart(true)]);
-    let matcher = build_many(rt.alloc(), &smart, patterns)??;
-    Ok(first(&matcher, text)?)
+const TEXTS: &[Setting] = &[Setting::FixedStrings(true), Setting::IgnoreWhitespace(true)];
+
+const FOLDED_TEXTS: &[Setting] = &[Setting::FixedStrings(true), Setting::CaseInsensitive(true)];
+
+#[test]
+fn fixed_strings_keep_white_space(rt: HostRuntime) {
+    check_found(&rt, TEXTS, "a b#", b"ab a b#", Some((3, 7)));
+    check_found(&rt, FOLDED_TEXTS, "a.B", b"aXb A.b", Some((4, 7)));
 }
 
 #[test]
-fn letters_are_folded_by_all_patterns_together(rt: HostRuntime) -> Result<(), Fail> {
-    assert_eq!(rt; first_of(&rt, &["abc", "d"], b"ABC")?, Some((0, 3)));
-    assert_eq!(rt; first_of(&rt, &["abc", "d"], b"D")?, Some((0, 1)));
-    assert_eq!(rt; first_of(&rt, &["abc", "D"], b"ABC")?, None);
-    assert_eq!(rt; first_of(&rt, &["D", "abc"], b"ABC")?, None);
-    assert_eq!(rt; first_of(&rt, &["abc", "D"], b"d")?, None);
-    assert_eq!(rt; first_of(&rt, &["abc", "D"], b"D")?, Some((0, 1)));
-    Ok(())
-}
-
-#[test]
-fn fixed_strings_keep_white_space(rt: HostRuntime) -> Result<(), Fail> {
-    let texts = builder(&[Setting::FixedStrings(true), Setting::IgnoreWhitespace(true)]);
-    check(&rt, &texts, "a b#", b"ab a b#", Some((3, 7)))?;
-    let folded = builder(&[Setting::FixedStrings(true), Setting::CaseInsensitive(true)]);
-    check(&rt, &folded, "a.B", b"aXb A.b", Some((4, 7)))
-}
-
-#[test]
-fn patterns_as_large_as_their_limit(rt: HostRuntime) -> Result<(), Fail> {
-    let fits = builder(&[Setting::SizeLimit(32_000)]);
-    assert!(rt; build(rt.alloc(), &fits, "a{1000}")?.is_ok());
-    let small = builder(&[Setting::SizeLimit(31_999)]);
+fn patterns_as_large_as_their_limit(rt: HostRuntime) {
+    let fits = Make::Build(&[Setting::SizeLimit(32_000)], "a{1000}");
+    check(&rt, fits, Question::IsBuilt, Answer::Yes(true));
     let large = ErrorKind::Regex(RegexFault::Size(31_999));
-    check_refused(&rt, &small, "a{1000}", large)?;
-    let none = builder(&[Setting::SizeLimit(0)]);
-    check_refused(&rt, &none, "a", ErrorKind::Regex(RegexFault::Size(0)))
+    check_refused(&rt, &[Setting::SizeLimit(31_999)], "a{1000}", large);
+    let none = ErrorKind::Regex(RegexFault::Size(0));
+    check_refused(&rt, &[Setting::SizeLimit(0)], "a", none);
 }
 
 #[test]
-fn patterns_that_nest_to_their_limit(rt: HostRuntime) -> Result<(), Fail> {
-    let two = builder(&[Setting::NestLimit(2)]);
-    check(&rt, &two, "((a))", b"a", Some((0, 1)))?;
-    let one = builder(&[Setting::NestLimit(1)]);
-    check_refused(&rt, &one, "((a))", ErrorKind::Regex(RegexFault::Nest))
+fn patterns_that_nest_to_their_limit(rt: HostRuntime) {
+    check_found(&rt, &[Setting::NestLimit(2)], "((a))", b"a", Some((0, 1)));
+    let nest = ErrorKind::Regex(RegexFault::Nest);
+    check_refused(&rt, &[Setting::NestLimit(1)], "((a))", nest);
 }
 
 #[test]

@@ -3,8 +3,8 @@
 ghost use Rattle.grep_matcher.specs.References.{LieIn};
 ghost use Rattle.grep_matcher.specs.Replaced.{Extends};
 
-use crate::building::{builder, check, plain};
-use grep_matcher::{Captures, LineMatchKind, Match, Matcher};
+use crate::building::{Answer, Make, Question, check, check_found, made};
+use grep_matcher::{Captures, Match, Matcher};
 use grep_regex::{RegexCaptures, RegexMatcher};
 use sd_base::NoMemory;
 use std::alloc::Global;
@@ -24,19 +24,51 @@ const FOUND: &[(&str, &str, Option<(usize, usize)>)] = &[
 ];
 
 #[test]
-fn first_matches(rt: HostRuntime) -> Result<(), Fail> {
-    let defaults = builder(&[]);
+fn first_matches(rt: HostRuntime) {
     for (pattern, text, found) in FOUND {
-        check(&rt, &defaults, pattern, text.as_bytes(), *found)?;
+        check_found(&rt, &[], pattern, text.as_bytes(), *found);
     }
-    Ok(())
 }
 
-/// All that a matcher finds.
-fn all_spans(alloc: Global, matcher: &RegexMatcher, text: &[u8]) -> Result<Vec<Match>, NoMemory> {
+const TEXT: &[u8] = b"x@y z@w";
+
+/// A matcher of an address.
+const ADDRESS: Make<'_> = Make::BuildMany(&[], &[r"(\w+)@(\w+)"]);
+
+#[test]
+fn a_line_is_confirmed_where_a_match_ends(rt: HostRuntime) {
+    check(&rt, ADDRESS, Question::Confirms(TEXT, 3), Answer::Yes(true));
+}
+
+#[test]
+fn groups_of_a_match_from_a_place_on(rt: HostRuntime) {
+    let second = Question::GroupFrom(TEXT, 4, 2);
+    check(&rt, ADDRESS, second, Answer::Span(Some((6, 7))));
+}
+
+/// All that a matcher finds, if there is memory for it.
+fn all_spans(alloc: Global, matcher: &RegexMatcher, text: &[u8]) -> Option<Vec<Match>> {
     let mut spans = Vec::new(alloc);
-    matcher.find_iter(text, |span| spans.push(span).is_ok())?;
-    Ok(spans)
+    let done = matcher.find_iter(text, |span| spans.push(span).is_ok());
+    done.is_ok().then_some(spans)
+}
+
+/// All addresses.
+fn all_addresses(alloc: Global) -> Result<Vec<Match>, Fail> {
+    let matcher = made(alloc, ADDRESS)?;
+    let spans = all_spans(alloc, &matcher, TEXT);
+    drop(matcher);
+    Ok(spans.ok_or("no memory")?)
+}
+
+#[test]
+fn each_match_of_a_pattern(rt: HostRuntime) -> Result<(), Fail> {
+    let spans = all_addresses(rt.alloc())?;
+    assert_eq!(rt;
+        spans.as_slice(),
+        [Match::new(0, 3), Match::new(4, 7)].as_slice()
+    );
+    Ok(())
 }
 
 /// A text with a dash in the place of each match, if there is memory for it.
@@ -49,26 +81,19 @@ fn dashed(alloc: Global, matcher: &RegexMatcher, text: &[u8]) -> Option<Vec<u8>>
     done.is_ok().then_some(dashes)
 }
 
-/// Whether a line is confirmed at a place.
-fn is_confirmed(matcher: &RegexMatcher, text: &[u8], end: usize) -> Result<bool, NoMemory> {
-    let line = matcher.find_candidate_line(text)?;
-    Ok(matches!(line, Some(LineMatchKind::Confirmed(place)) if place == end))
+/// The text with a dash in the place of each address.
+fn dashed_addresses(alloc: Global) -> Result<Vec<u8>, Fail> {
+    let matcher = made(alloc, ADDRESS)?;
+    let dashes = dashed(alloc, &matcher, TEXT);
+    drop(matcher);
+    Ok(dashes.ok_or("no memory")?)
 }
 
-/// Where group 2 of the first match from a place on is.
-fn second_group(
-    matcher: &RegexMatcher,
-    text: &[u8],
-    at: usize,
-) -> Result<Option<(usize, usize)>, NoMemory> {
-    if at > text.len() {
-        return Ok(None);
-    }
-    let mut caps = matcher.new_captures()?;
-    if !matcher.captures_at(text, at, &mut caps)? {
-        return Ok(None);
-    }
-    Ok(caps.get(2).map(|span| (span.start(), span.end())))
+#[test]
+fn a_text_in_the_place_of_each_match(rt: HostRuntime) -> Result<(), Fail> {
+    let dashes = dashed_addresses(rt.alloc())?;
+    assert_eq!(rt; dashes.as_slice(), b"- -".as_slice());
+    Ok(())
 }
 
 /// A text from a place on, with a replacement text in the place of each match, whose references are numbers.
@@ -100,57 +125,32 @@ fn replaced_from(
     done.is_ok().then_some(new)
 }
 
-const TEXT: &[u8] = b"x@y z@w";
-
-/// A matcher of an address.
-fn address(alloc: Global) -> Result<RegexMatcher, Fail> {
-    plain(alloc, &[r"(\w+)@(\w+)"])
-}
-
-#[test]
-fn each_match_of_a_pattern(rt: HostRuntime) -> Result<(), Fail> {
-    let alloc = rt.alloc();
-    let spans = all_spans(alloc, &address(alloc)?, TEXT)?;
-    assert_eq!(rt;
-        spans.as_slice(),
-        [Match::new(0, 3), Match::new(4, 7)].as_slice()
-    );
-    Ok(())
-}
-
-#[test]
-fn a_line_is_confirmed_where_a_match_ends(rt: HostRuntime) -> Result<(), Fail> {
-    assert!(rt; is_confirmed(&address(rt.alloc())?, TEXT, 3)?);
-    Ok(())
-}
-
-#[test]
-fn a_text_in_the_place_of_each_match(rt: HostRuntime) -> Result<(), Fail> {
-    let alloc = rt.alloc();
-    let dashes = dashed(alloc, &address(alloc)?, TEXT).ok_or("no memory")?;
-    assert_eq!(rt; dashes.as_slice(), b"- -".as_slice());
-    Ok(())
-}
-
-#[test]
-fn groups_of_a_match_from_a_place_on(rt: HostRuntime) -> Result<(), Fail> {
-    assert_eq!(rt; second_group(&address(rt.alloc())?, TEXT, 4)?, Some((6, 7)));
-    Ok(())
+/// The text from the second address on, with a replacement text in the place of that.
+fn second_replaced(alloc: Global, replacement: &[u8]) -> Result<Vec<u8>, Fail> {
+    let matcher = made(alloc, ADDRESS)?;
+    let new = replaced_from(alloc, &matcher, TEXT, 4, replacement);
+    drop(matcher);
+    Ok(new.ok_or("no memory")?)
 }
 
 #[test]
 fn a_group_in_the_place_of_matches_from_a_place_on(rt: HostRuntime) -> Result<(), Fail> {
-    let alloc = rt.alloc();
-    let new = replaced_from(alloc, &address(alloc)?, TEXT, 4, b"$2").ok_or("no memory")?;
+    let new = second_replaced(rt.alloc(), b"$2")?;
     assert_eq!(rt; new.as_slice(), b"w".as_slice());
     Ok(())
 }
 
+/// A pattern, a text, and what is first found there.
+const BYTES: &[(&str, &[u8], Option<(usize, usize)>)] = &[
+    ("a.b", b"a\xFFb a-b", Some((4, 7))),
+    (r"(?-u)a\xFFb", b"-a\xFFb", Some((1, 4))),
+    ("b$", b"\xC3b", Some((1, 2))),
+    ("[^a]", b"\xE2\x82", None),
+];
+
 #[test]
-fn haystacks_that_are_not_utf_8(rt: HostRuntime) -> Result<(), Fail> {
-    let defaults = builder(&[]);
-    check(&rt, &defaults, "a.b", b"a\xFFb a-b", Some((4, 7)))?;
-    check(&rt, &defaults, r"(?-u)a\xFFb", b"-a\xFFb", Some((1, 4)))?;
-    check(&rt, &defaults, "b$", b"\xC3b", Some((1, 2)))?;
-    check(&rt, &defaults, "[^a]", b"\xE2\x82", None)
+fn haystacks_that_are_not_utf_8(rt: HostRuntime) {
+    for (pattern, text, found) in BYTES {
+        check_found(&rt, &[], pattern, text, *found);
+    }
 }

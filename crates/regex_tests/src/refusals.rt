@@ -1,9 +1,8 @@
 //! Patterns that are refused, and what is said of them.
 
-use crate::building::{Setting, build, build_many, builder, check_refused};
+use crate::building::{Answer, Make, Question, Setting, check, check_refused, made};
 use grep_regex::{Error, ErrorKind, RegexFault};
 use std::alloc::Global;
-use std::process::Abort;
 use std::test::Fail;
 
 const UNREAD: &[&str] = &[
@@ -33,17 +32,16 @@ const UNREAD: &[&str] = &[
 ];
 
 #[test]
-fn patterns_that_are_not_read(rt: HostRuntime) -> Result<(), Fail> {
-    let plain = builder(&[]);
+fn patterns_that_are_not_read(rt: HostRuntime) {
     for pattern in UNREAD {
-        check_refused(&rt, &plain, pattern, ErrorKind::Regex(RegexFault::Grammar))?;
+        check_refused(&rt, &[], pattern, ErrorKind::Regex(RegexFault::Grammar));
     }
-    Ok(())
 }
 
+const SMALL: &[Setting] = &[Setting::NestLimit(1), Setting::SizeLimit(0)];
+
 #[test]
-fn the_first_pattern_that_is_not_read_is_told(rt: HostRuntime) -> Result<(), Fail> {
-    let small = builder(&[Setting::NestLimit(1), Setting::SizeLimit(0)]);
+fn the_first_pattern_that_is_not_read_is_told(rt: HostRuntime) {
     for (patterns, fault) in [
         (["a", "((b))", "("], RegexFault::Nest),
         (["a", "(", "((b))"], RegexFault::Grammar),
@@ -51,44 +49,44 @@ fn the_first_pattern_that_is_not_read_is_told(rt: HostRuntime) -> Result<(), Fai
         (["(?P<n>a)", "(?P<n>b)", "c"], RegexFault::DoubleName),
         (["a", "b", "c"], RegexFault::Size(0)),
     ] {
-        match build_many(rt.alloc(), &small, &patterns)? {
-            Ok(_) => assert!(rt; false, "built"),
-            Err(error) => assert_eq!(rt; *error.kind(), ErrorKind::Regex(fault)),
-        }
+        let answer = Answer::Refused(ErrorKind::Regex(fault));
+        check(
+            &rt,
+            Make::BuildMany(SMALL, &patterns),
+            Question::IsBuilt,
+            answer,
+        );
     }
-    Ok(())
 }
 
+const BOTH: &[Setting] = &[
+    Setting::LineTerminator(Some(b'\n')),
+    Setting::BanByte(Some(0)),
+    Setting::SizeLimit(0),
+];
+
 #[test]
-fn the_ban_comes_before_the_terminator(rt: HostRuntime) -> Result<(), Fail> {
-    let both = builder(&[
-        Setting::LineTerminator(Some(b'\n')),
-        Setting::BanByte(Some(0)),
-        Setting::SizeLimit(0),
-    ]);
-    check_refused(&rt, &both, r"\n\x00", ErrorKind::Banned(0))?;
-    check_refused(&rt, &both, r"\n", ErrorKind::NotAllowed(10))
+fn the_ban_comes_before_the_terminator(rt: HostRuntime) {
+    check_refused(&rt, BOTH, r"\n\x00", ErrorKind::Banned(0));
+    check_refused(&rt, BOTH, r"\n", ErrorKind::NotAllowed(10));
+}
+
+/// Why no matcher is made, if so.
+fn refusal(alloc: Global, make: Make<'_>) -> Option<Error> {
+    match made(alloc, make) {
+        Ok(matcher) => {
+            drop(matcher);
+            None
+        }
+        Err(error) => Some(error),
+    }
 }
 
 /// What an error says.
-fn written(alloc: Global, error: &Error) -> Result<String, Fail> {
+fn written(alloc: Global, error: Error) -> Result<String, Fail> {
     let mut text = String::new(alloc);
     write!(text, "{error}")?;
     Ok(text)
-}
-
-/// What is said of a pattern that is refused.
-fn check_text(
-    rt: &(impl Abort + AllocGlobal),
-    setting: Setting,
-    pattern: &str,
-    wanted: &str,
-) -> Result<(), Fail> {
-    match build(rt.alloc(), &builder(&[setting]), pattern)? {
-        Ok(_) => assert!(rt; false, "{pattern} is built"),
-        Err(error) => assert_eq!(rt; written(rt.alloc(), &error)?.as_str(), wanted),
-    }
-    Ok(())
 }
 
 /// An option, a pattern, and what is said of it.
@@ -124,8 +122,10 @@ const TEXTS: &[(Setting, &str, &str)] = &[
 
 #[test]
 fn what_refusals_say(rt: HostRuntime) -> Result<(), Fail> {
+    let alloc = rt.alloc();
     for (setting, pattern, wanted) in TEXTS {
-        check_text(&rt, *setting, pattern, wanted)?;
+        let error = refusal(alloc, Make::Build(&[*setting], pattern)).ok_or(*pattern)?;
+        assert_eq!(rt; written(alloc, error)?.as_str(), *wanted);
     }
     Ok(())
 }
