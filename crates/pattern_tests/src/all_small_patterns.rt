@@ -1,7 +1,7 @@
 //! All small patterns on all short texts: the searches in one pass find what the search by a stack of alternatives finds.
 
 use crate::patterns::pattern;
-use crate::searches::{Way, search};
+use crate::searches::{Way, search, searcher_of};
 use hir_core::{Searcher, Slots, group_count};
 use sd_base::NoMemory;
 use std::alloc::Global;
@@ -59,16 +59,38 @@ fn are_same(one: &Slots, other: &Slots) -> bool {
     one.len() == other.len() && (0..one.len()).all(|group| one.get(group) == other.get(group))
 }
 
+/// A searcher, with slots for the search by the stack and for another.
+#[derive(Drop)]
+struct Comparison {
+    searcher: Searcher,
+    wanted: Slots,
+    slots: Slots,
+}
+
+/// What searches for a pattern are compared with.
+fn comparison_for(alloc: Global, signs: &[u8]) -> Result<Comparison, NoMemory> {
+    let searcher = searcher_of(alloc, pattern(alloc, signs)?)?;
+    let groups = group_count(searcher.hir());
+    let wanted = Slots::new(alloc, groups)?;
+    let slots = Slots::new(alloc, groups)?;
+    Ok(Comparison {
+        searcher,
+        wanted,
+        slots,
+    })
+}
+
 /// Compares the searches in these ways from a place of a text. Gives whether there is a match.
 fn compare_at(
     rt: &impl Abort,
-    searcher: &Searcher,
+    comparison: &mut Comparison,
     ways: &[Way],
     text: &[u8],
     at: usize,
-    wanted: &mut Slots,
-    slots: &mut Slots,
-) -> Result<bool, Fail> {
+) -> Result<bool, NoMemory> {
+    let searcher = &comparison.searcher;
+    let wanted = &mut comparison.wanted;
+    let slots = &mut comparison.slots;
     let count = group_count(searcher.hir()) as usize + 1;
     assert!(rt; at <= text.len() && wanted.len() == count && slots.len() == count);
     let is_found = search(searcher, Way::ByStack, text, at, wanted)?;
@@ -80,32 +102,66 @@ fn compare_at(
     Ok(is_found)
 }
 
+/// How many comparisons find a match, and how many do not.
+#[derive(Clone, Copy, Default)]
+struct Counts {
+    matching: usize,
+    others: usize,
+}
+
+/// Compares the searches in these ways from each place of these texts up to a last one.
+fn compare_texts(
+    rt: &impl Abort,
+    comparison: &mut Comparison,
+    ways: &[Way],
+    texts: &[Vec<u8>],
+    last: usize,
+    counts: &mut Counts,
+) -> Result<(), NoMemory> {
+    for text in texts {
+        for at in 0..text.len().min(last).saturating_add(1) {
+            if compare_at(rt, comparison, ways, text, at)? {
+                counts.matching = counts.matching.saturating_add(1);
+            } else {
+                counts.others = counts.others.saturating_add(1);
+            }
+        }
+    }
+    Ok(())
+}
+
 /// Compares the searches for a pattern in these ways from each place of these texts, or, for a pattern of five nodes, from the first.
-/// Gives how many find a match, and how many do not.
+/// What is searched with is let go here, so that tests are quickly proved.
 fn compare(
     rt: &(impl Abort + AllocGlobal),
     signs: &[u8],
     ways: &[Way],
     texts: &[Vec<u8>],
-) -> Result<(usize, usize), Fail> {
-    let alloc = rt.alloc();
-    let searcher = Searcher::new(alloc, &pattern(alloc, signs)?)?;
-    let groups = group_count(searcher.hir());
-    let mut wanted = Slots::new(alloc, groups)?;
-    let mut slots = Slots::new(alloc, groups)?;
-    let mut matching: usize = 0;
-    let mut others: usize = 0;
-    for text in texts {
-        let last = if signs.len() < 5 { text.len() } else { 0 };
-        for at in 0..last + 1 {
-            if compare_at(rt, &searcher, ways, text, at, &mut wanted, &mut slots)? {
-                matching = matching.saturating_add(1);
-            } else {
-                others = others.saturating_add(1);
-            }
+    counts: &mut Counts,
+) -> Result<(), NoMemory> {
+    let mut comparison = comparison_for(rt.alloc(), signs)?;
+    let last = if signs.len() < 5 { usize::MAX } else { 0 };
+    let done = compare_texts(rt, &mut comparison, ways, texts, last, counts);
+    drop(comparison);
+    done
+}
+
+/// Compares the searches in these ways for all patterns among so many words over some signs on these texts.
+fn compare_words(
+    rt: &(impl Abort + AllocGlobal),
+    signs: &[u8],
+    numbers: usize,
+    texts: &[Vec<u8>],
+    ways: &[Way],
+) -> Result<Counts, NoMemory> {
+    let mut counts = Counts::default();
+    for number in 0..numbers {
+        let word = word(rt.alloc(), signs, number)?;
+        if is_pattern(&word) {
+            compare(rt, &word, ways, texts, &mut counts)?;
         }
     }
-    Ok((matching, others))
+    Ok(counts)
 }
 
 /// Compares the searches in these ways for all patterns among so many words over some signs, on the 31 texts over two letters with at
@@ -116,19 +172,9 @@ fn compare_all(
     numbers: usize,
     letters: &[u8],
     ways: &[Way],
-) -> Result<usize, Fail> {
-    let alloc = rt.alloc();
-    let texts = words(alloc, letters, 31)?;
-    let mut matching: usize = 0;
-    let mut others: usize = 0;
-    for number in 0..numbers {
-        let word = word(alloc, signs, number)?;
-        if is_pattern(&word) {
-            let (more, less) = compare(rt, &word, ways, &texts)?;
-            matching = matching.saturating_add(more);
-            others = others.saturating_add(less);
-        }
-    }
+) -> Result<usize, NoMemory> {
+    let texts = words(rt.alloc(), letters, 31)?;
+    let Counts { matching, others } = compare_words(rt, signs, numbers, &texts, ways)?;
     assert!(rt; matching > 0 && others > 0);
     Ok(matching.saturating_add(others))
 }

@@ -1,6 +1,7 @@
 //! What the lists of a pattern's tree hold after some calls.
 
 use hir_tree::{ByteRanges, Bytes, CharRanges};
+use sd_base::NoMemory;
 use std::process::Abort;
 use std::test::Fail;
 
@@ -24,23 +25,32 @@ fn check_bytes(rt: &impl Abort, set: &ByteRanges, ranges: &[(u8, u8)]) {
     }
 }
 
+/// Adds ranges to a set of bytes.
+fn add_bytes(rt: &impl Abort, set: &mut ByteRanges, ranges: &[(u8, u8)]) -> Result<(), NoMemory> {
+    for (start, end) in ranges {
+        assert!(rt; *start <= *end);
+        set.add(*start, *end)?;
+    }
+    Ok(())
+}
+
+/// Ranges that are added to a set one step after the other, and the ranges that it then has.
+const BYTES: &[(&[(u8, u8)], &[(u8, u8)])] = &[
+    (&[], &[]),
+    (&[(2, 2), (255, 255), (0, 0)], &[(0, 0), (2, 2), (255, 255)]),
+    (&[(1, 1)], &[(0, 2), (255, 255)]),
+    (&[(100, 120), (105, 110)], &[(0, 2), (100, 120), (255, 255)]),
+    (&[(121, 253)], &[(0, 2), (100, 253), (255, 255)]),
+    (&[(0, 255)], &[(0, 255)]),
+];
+
 #[test]
 fn ranges_of_bytes_are_united(rt: HostRuntime) -> Result<(), Fail> {
     let mut set = ByteRanges::new(rt.alloc());
-    check_bytes(&rt, &set, &[]);
-    set.add(2, 2)?;
-    set.add(255, 255)?;
-    set.add(0, 0)?;
-    check_bytes(&rt, &set, &[(0, 0), (2, 2), (255, 255)]);
-    set.add(1, 1)?;
-    check_bytes(&rt, &set, &[(0, 2), (255, 255)]);
-    set.add(100, 120)?;
-    set.add(105, 110)?;
-    check_bytes(&rt, &set, &[(0, 2), (100, 120), (255, 255)]);
-    set.add(121, 253)?;
-    check_bytes(&rt, &set, &[(0, 2), (100, 253), (255, 255)]);
-    set.add(0, 255)?;
-    check_bytes(&rt, &set, &[(0, 255)]);
+    for (added, ranges) in BYTES {
+        add_bytes(&rt, &mut set, added)?;
+        check_bytes(&rt, &set, ranges);
+    }
     Ok(())
 }
 
@@ -52,44 +62,63 @@ fn check_chars(rt: &impl Abort, set: &CharRanges, ranges: &[(char, char)]) {
     }
 }
 
-#[test]
-fn ranges_of_characters_are_united(rt: HostRuntime) -> Result<(), Fail> {
-    let mut set = CharRanges::new(rt.alloc());
-    set.add('x', 'z')?;
-    set.add('a', 'c')?;
-    check_chars(&rt, &set, &[('a', 'c'), ('x', 'z')]);
-    set.add('d', 'e')?;
-    check_chars(&rt, &set, &[('a', 'e'), ('x', 'z')]);
-    set.add('é', 'ü')?;
-    set.add('c', 'w')?;
-    check_chars(&rt, &set, &[('a', 'z'), ('é', 'ü')]);
-    set.add('\u{0}', '\u{10FFFF}')?;
-    check_chars(&rt, &set, &[('\u{0}', '\u{10FFFF}')]);
+/// Adds ranges to a set of characters.
+fn add_chars(
+    rt: &impl Abort,
+    set: &mut CharRanges,
+    ranges: &[(char, char)],
+) -> Result<(), NoMemory> {
+    for (start, end) in ranges {
+        assert!(rt; *start <= *end);
+        set.add(*start, *end)?;
+    }
     Ok(())
 }
 
+/// Ranges that are added to a set one step after the other, and the ranges that it then has.
+const CHARS: &[(&[(char, char)], &[(char, char)])] = &[
+    (&[('x', 'z'), ('a', 'c')], &[('a', 'c'), ('x', 'z')]),
+    (&[('d', 'e')], &[('a', 'e'), ('x', 'z')]),
+    (&[('é', 'ü'), ('c', 'w')], &[('a', 'z'), ('é', 'ü')]),
+    (&[('\u{0}', '\u{10FFFF}')], &[('\u{0}', '\u{10FFFF}')]),
+];
+
+#[test]
+fn ranges_of_characters_are_united(rt: HostRuntime) -> Result<(), Fail> {
+    let mut set = CharRanges::new(rt.alloc());
+    for (added, ranges) in CHARS {
+        add_chars(&rt, &mut set, added)?;
+        check_chars(&rt, &set, ranges);
+    }
+    Ok(())
+}
+
+/// Characters that are added to an empty set, and the ranges that it then has.
+const GAP: &[(&[(char, char)], &[(char, char)])] = &[
+    (
+        &[('\u{E000}', '\u{E000}'), ('\u{D7FF}', '\u{D7FF}')],
+        &[('\u{D7FF}', '\u{E000}')],
+    ),
+    (
+        &[('\u{E001}', '\u{E001}'), ('\u{D7FF}', '\u{D7FF}')],
+        &[('\u{D7FF}', '\u{D7FF}'), ('\u{E001}', '\u{E001}')],
+    ),
+];
+
 #[test]
 fn the_characters_round_the_gap_are_neighbours(rt: HostRuntime) -> Result<(), Fail> {
-    let mut set = CharRanges::new(rt.alloc());
-    set.add('\u{E000}', '\u{E000}')?;
-    set.add('\u{D7FF}', '\u{D7FF}')?;
-    check_chars(&rt, &set, &[('\u{D7FF}', '\u{E000}')]);
-    let mut apart = CharRanges::new(rt.alloc());
-    apart.add('\u{E001}', '\u{E001}')?;
-    apart.add('\u{D7FF}', '\u{D7FF}')?;
-    check_chars(
-        &rt,
-        &apart,
-        &[('\u{D7FF}', '\u{D7FF}'), ('\u{E001}', '\u{E001}')],
-    );
+    for (added, ranges) in GAP {
+        let mut set = CharRanges::new(rt.alloc());
+        add_chars(&rt, &mut set, added)?;
+        check_chars(&rt, &set, ranges);
+    }
     Ok(())
 }
 
 #[test]
 fn members_of_a_set_of_bytes(rt: HostRuntime) -> Result<(), Fail> {
     let mut set = ByteRanges::new(rt.alloc());
-    set.add(b'a', b'f')?;
-    set.add(b'0', b'9')?;
+    add_bytes(&rt, &mut set, &[(b'a', b'f'), (b'0', b'9')])?;
     assert!(rt; b"059acf".iter().all(|byte| set.contains(*byte)));
     assert!(rt; !b"/:`g\xff".iter().any(|byte| set.contains(*byte)));
     let copy = set.try_clone(rt.alloc())?;
@@ -102,9 +131,11 @@ fn members_of_a_set_of_bytes(rt: HostRuntime) -> Result<(), Fail> {
 #[test]
 fn members_of_a_set_of_characters(rt: HostRuntime) -> Result<(), Fail> {
     let mut set = CharRanges::new(rt.alloc());
-    set.add('à', 'é')?;
-    set.add('x', 'z')?;
-    set.add('\u{D7FF}', '\u{E000}')?;
+    add_chars(
+        &rt,
+        &mut set,
+        &[('à', 'é'), ('x', 'z'), ('\u{D7FF}', '\u{E000}')],
+    )?;
     assert!(rt; "xzàé\u{D7FF}\u{E000}".chars().all(|c| set.contains(c)));
     assert!(rt; !"w{ßê\u{E001}".chars().any(|c| set.contains(c)));
     let copy = set.try_clone(rt.alloc())?;

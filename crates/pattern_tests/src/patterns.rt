@@ -13,13 +13,25 @@ use std::alloc::Global;
 ///   `%` 62 times;
 /// - `1` and `2` make the last part a group with this index;
 /// - `.` is one after the other of the last two parts, and `|` one or the other.
+///
+/// Trees have few ways out of the functions that hold them, so that these are quickly proved.
 pub fn pattern(alloc: Global, signs: &[u8]) -> Result<Hir, NoMemory> {
     let mut parts = Vec::new(alloc);
+    let whole = match add_parts(alloc, signs, &mut parts) {
+        Ok(()) => Ok(last(&mut parts)),
+        Err(error) => Err(error),
+    };
+    drop(parts);
+    whole
+}
+
+/// Adds the part of each sign, and takes its parts off.
+fn add_parts(alloc: Global, signs: &[u8], parts: &mut Vec<Hir>) -> Result<(), NoMemory> {
     for sign in signs {
-        let next = node(alloc, *sign, &mut parts)?;
+        let next = node(alloc, *sign, parts)?;
         parts.push(next)?;
     }
-    Ok(last(&mut parts))
+    Ok(())
 }
 
 /// The last part, taken off.
@@ -51,22 +63,31 @@ fn leaf(alloc: Global, sign: u8) -> Result<Hir, NoMemory> {
         b'<' => Hir::Look(Look::StartLF),
         b'>' => Hir::Look(Look::EndLF),
         b':' => Hir::Look(Look::WordAscii),
-        b'[' => {
-            let mut letters = ByteRanges::new(alloc);
-            letters.add(b'a', b'z')?;
-            Hir::ClassBytes(letters)
-        }
-        b'{' | b'}' => {
-            let mut letters = CharRanges::new(alloc);
-            letters.add('x', if sign == b'{' { 'é' } else { 'z' })?;
-            Hir::ClassChars(letters)
-        }
-        _ => {
-            let mut bytes = Bytes::new(alloc);
-            bytes.push(sign)?;
-            Hir::Literal(bytes)
-        }
+        b'[' => Hir::ClassBytes(letters(alloc)?),
+        b'{' | b'}' => Hir::ClassChars(characters(alloc, sign)?),
+        _ => Hir::Literal(one_byte(alloc, sign)?),
     })
+}
+
+/// `[a-z]`.
+fn letters(alloc: Global) -> Result<ByteRanges, NoMemory> {
+    let mut letters = ByteRanges::new(alloc);
+    letters.add(b'a', b'z')?;
+    Ok(letters)
+}
+
+/// `[x-é]` or `[x-z]`.
+fn characters(alloc: Global, sign: u8) -> Result<CharRanges, NoMemory> {
+    let mut characters = CharRanges::new(alloc);
+    characters.add('x', if sign == b'{' { 'é' } else { 'z' })?;
+    Ok(characters)
+}
+
+/// One byte as a text.
+pub fn one_byte(alloc: Global, byte: u8) -> Result<Bytes, NoMemory> {
+    let mut bytes = Bytes::new(alloc);
+    bytes.push(byte)?;
+    Ok(bytes)
 }
 
 /// A part, several times.
@@ -97,12 +118,16 @@ fn group(alloc: Global, index: u32, part: Hir) -> Result<Hir, NoMemory> {
 
 /// One part after the other, or one or the other.
 fn joined(alloc: Global, sign: u8, first: Hir, second: Hir) -> Result<Hir, NoMemory> {
-    let mut parts = Hirs::new(alloc);
-    parts.push(first)?;
-    parts.push(second)?;
+    let parts = two(alloc, first, second)?;
     Ok(if sign == b'.' {
         Hir::Concat(parts)
     } else {
         Hir::Alternation(parts)
     })
+}
+
+/// Two parts.
+pub fn two(alloc: Global, first: Hir, second: Hir) -> Result<Hirs, NoMemory> {
+    let parts = Vec::from_array(alloc, [first, second])?;
+    Ok(Hirs::from(parts))
 }

@@ -4,8 +4,9 @@ ghost use Rattle.std.specs.Prelude.{◌≡◌, ◌+◌, ◌≤◌, length};
 ghost use Rattle.hir_tree.specs.Spots.{groups_of};
 
 use crate::patterns::pattern;
-use hir_core::{Searcher, Slots, group_count};
+use hir_core::{Hir, Searcher, Slots, group_count};
 use sd_base::{NoMemory, Silent, Steps, Tally};
+use std::alloc::Global;
 use std::process::Abort;
 use std::test::Fail;
 
@@ -92,9 +93,16 @@ pub fn search(
     }
 }
 
+/// The searcher of a tree, which is let go.
+pub fn searcher_of(alloc: Global, hir: Hir) -> Result<Searcher, NoMemory> {
+    let searcher = Searcher::new(alloc, &hir);
+    drop(hir);
+    searcher
+}
+
 /// The ends of each group, as `1-3`, or `-` where it is unset.
-fn shown(rt: &impl AllocGlobal, slots: &Slots) -> Result<String, Fail> {
-    let mut out = String::new(rt.alloc());
+fn shown(alloc: Global, slots: &Slots) -> Result<String, Fail> {
+    let mut out = String::new(alloc);
     for group in 0..slots.len() {
         if group > 0 {
             out.push('/')?;
@@ -107,7 +115,22 @@ fn shown(rt: &impl AllocGlobal, slots: &Slots) -> Result<String, Fail> {
     Ok(out)
 }
 
-/// Each search for a pattern from a place of a text finds these groups.
+/// A searcher, with slots for its groups.
+#[derive(Drop)]
+struct Equipped {
+    searcher: Searcher,
+    slots: Slots,
+}
+
+/// The searcher of a pattern, with its slots.
+fn equipped_for(alloc: Global, signs: &[u8]) -> Result<Equipped, NoMemory> {
+    let searcher = searcher_of(alloc, pattern(alloc, signs)?)?;
+    let slots = Slots::new(alloc, group_count(searcher.hir()))?;
+    Ok(Equipped { searcher, slots })
+}
+
+/// Each search for a pattern from a place of a text finds these groups. What is searched with is let go here, and used below, so that
+/// tests are quickly proved.
 fn check(
     rt: &(impl Abort + AllocGlobal),
     signs: &str,
@@ -115,16 +138,29 @@ fn check(
     at: usize,
     groups: &str,
 ) -> Result<(), Fail> {
-    let alloc = rt.alloc();
-    let searcher = Searcher::new(alloc, &pattern(alloc, signs.as_bytes())?)?;
+    let mut with_slots = equipped_for(rt.alloc(), signs.as_bytes())?;
+    let checked = check_ways(rt, &mut with_slots, text, at, groups);
+    drop(with_slots);
+    checked
+}
+
+/// Each search from a place of a text finds these groups.
+fn check_ways(
+    rt: &(impl Abort + AllocGlobal),
+    with_slots: &mut Equipped,
+    text: &[u8],
+    at: usize,
+    groups: &str,
+) -> Result<(), Fail> {
+    let searcher = &with_slots.searcher;
+    let slots = &mut with_slots.slots;
     let count = group_count(searcher.hir()) as usize;
-    let mut slots = Slots::new(alloc, group_count(searcher.hir()))?;
     for way in [Way::InOnePass, Way::WithCountedSteps, Way::ByStack] {
         assert!(rt; at <= text.len() && slots.len() == count + 1);
-        let is_found = search(&searcher, way, text, at, &mut slots)?;
-        assert!(rt; is_found == slots.get(0).is_some(), "{signs} from {at}");
-        let found = shown(rt, &slots)?;
-        assert_eq!(rt; found.as_str(), groups, "{signs} from {at}");
+        let is_found = search(searcher, way, text, at, slots)?;
+        assert!(rt; is_found == slots.get(0).is_some(), "{groups} from {at}");
+        let found = shown(rt.alloc(), slots)?;
+        assert_eq!(rt; found.as_str(), groups, "{groups} from {at}");
     }
     Ok(())
 }
@@ -166,23 +202,30 @@ fn more_spots_than_the_filter_takes(rt: HostRuntime) -> Result<(), Fail> {
     check(&rt, "[%[.", &text, 2, "-")
 }
 
+/// A pattern, a place, and the groups that are found from there.
+const LOOKS: &[(&str, usize, &str)] = &[
+    ("<>.", 0, "3-3"),
+    ("<>.", 4, "8-8"),
+    ("<[*.>.", 0, "0-2"),
+    ("<[*.>.", 1, "3-3"),
+    ("<[+.>.", 1, "-"),
+    ("b>.", 0, "1-2"),
+    ("b>.", 2, "6-7"),
+    ("a>.b|", 0, "1-2"),
+    (":b.", 0, "4-5"),
+    ("[+:.", 1, "1-2"),
+    (">", 5, "7-7"),
+    (">a?.", 8, "8-8"),
+];
+
 // Looks on two words in two lines, `ab` and `b b`, and an empty line between them: what they ask rules out places before the first
 // byte and at the last one.
 #[test]
 fn looks_at_lines_and_words(rt: HostRuntime) -> Result<(), Fail> {
-    let text = b"ab\n\nb b\n".as_slice();
-    check(&rt, "<>.", text, 0, "3-3")?;
-    check(&rt, "<>.", text, 4, "8-8")?;
-    check(&rt, "<[*.>.", text, 0, "0-2")?;
-    check(&rt, "<[*.>.", text, 1, "3-3")?;
-    check(&rt, "<[+.>.", text, 1, "-")?;
-    check(&rt, "b>.", text, 0, "1-2")?;
-    check(&rt, "b>.", text, 2, "6-7")?;
-    check(&rt, "a>.b|", text, 0, "1-2")?;
-    check(&rt, ":b.", text, 0, "4-5")?;
-    check(&rt, "[+:.", text, 1, "1-2")?;
-    check(&rt, ">", text, 5, "7-7")?;
-    check(&rt, ">a?.", text, 8, "8-8")
+    for (signs, at, groups) in LOOKS {
+        check(&rt, signs, b"ab\n\nb b\n", *at, groups)?;
+    }
+    Ok(())
 }
 
 /// Searches again with slots that another search used.
@@ -194,46 +237,71 @@ fn check_again(
     groups: &str,
 ) -> Result<(), Fail> {
     let alloc = rt.alloc();
-    let searcher = Searcher::new(alloc, &pattern(alloc, signs)?)?;
-    let text = b"user_i, user_id, a_id".as_slice();
-    assert!(rt; at <= text.len() && slots.len() == group_count(searcher.hir()) as usize + 1);
-    search(&searcher, Way::InOnePass, text, at, slots)?;
-    let found = shown(rt, slots)?;
+    let searcher = searcher_of(alloc, pattern(alloc, signs)?)?;
+    let is_searched = search_again(rt, &searcher, at, slots);
+    drop(searcher);
+    is_searched?;
+    let found = shown(alloc, slots)?;
     assert_eq!(rt; found.as_str(), groups, "from {at}");
     Ok(())
 }
+
+fn search_again(
+    rt: &impl Abort,
+    searcher: &Searcher,
+    at: usize,
+    slots: &mut Slots,
+) -> Result<bool, NoMemory> {
+    let text = b"user_i, user_id, a_id".as_slice();
+    assert!(rt; at <= text.len() && slots.len() == group_count(searcher.hir()) as usize + 1);
+    search(searcher, Way::InOnePass, text, at, slots)
+}
+
+/// A pattern, a place, and the groups that are found from there.
+const AGAIN: &[(&str, usize, &str)] = &[
+    ("[+_.i.d.", 0, "8-15"),
+    ("[+_.i.d.", 10, "10-15"),
+    ("0*", 21, "21-21"),
+    ("[+_.i.d.", 15, "17-21"),
+    ("[+_.i.d.", 18, "-"),
+];
 
 // The lists of one search are those of the next, also of another pattern.
 #[test]
 fn slots_are_used_again(rt: HostRuntime) -> Result<(), Fail> {
     let mut slots = Slots::new(rt.alloc(), 0)?;
     assert!(rt; slots.len() == 1 && slots.get(0).is_none() && slots.get(1).is_none());
-    check_again(&rt, b"[+_.i.d.", 0, &mut slots, "8-15")?;
-    check_again(&rt, b"[+_.i.d.", 10, &mut slots, "10-15")?;
-    check_again(&rt, b"0*", 21, &mut slots, "21-21")?;
-    check_again(&rt, b"[+_.i.d.", 15, &mut slots, "17-21")?;
-    check_again(&rt, b"[+_.i.d.", 18, &mut slots, "-")
+    for (signs, at, groups) in AGAIN {
+        check_again(&rt, signs.as_bytes(), *at, &mut slots, groups)?;
+    }
+    Ok(())
 }
 
-/// Whether a search finds a match, and how many steps it notes.
-fn steps_of(rt: &impl AllocGlobal, signs: &[u8], text: &[u8]) -> Result<(bool, u64), Fail> {
-    let alloc = rt.alloc();
-    let searcher = Searcher::new(alloc, &pattern(alloc, signs)?)?;
+/// Whether a search for a pattern finds a match, and how many steps it notes.
+fn steps_of(alloc: Global, signs: &[u8], text: &[u8]) -> Result<(bool, u64), NoMemory> {
+    let searcher = searcher_of(alloc, pattern(alloc, signs)?)?;
+    let noted = noted_steps(alloc, &searcher, text);
+    drop(searcher);
+    noted
+}
+
+fn noted_steps(alloc: Global, searcher: &Searcher, text: &[u8]) -> Result<(bool, u64), NoMemory> {
     let mut slots = Slots::new(alloc, group_count(searcher.hir()))?;
     let mut steps = Steps::new(Tally::default());
-    let is_found = searcher.search_at_steps(text, 0, &mut slots, &mut steps)?;
-    Ok((is_found, steps.into_ledger().ticks))
+    let is_found = searcher.search_at_steps(text, 0, &mut slots, &mut steps);
+    drop(slots);
+    Ok((is_found?, steps.into_ledger().ticks))
 }
 
 // `b` on `aab` has one spot whose visits count, so at most one step for each of the four places, and `(?:x*)*y` has 6 spots, so
 // at most 6 for each of the 200,001 places.
 #[test]
 fn a_place_takes_a_step_for_each_spot(rt: HostRuntime) -> Result<(), Fail> {
-    let (is_found, ticks) = steps_of(&rt, b"b", b"aab")?;
+    let (is_found, ticks) = steps_of(rt.alloc(), b"b", b"aab")?;
     assert!(rt; is_found && 0 < ticks && ticks <= 4, "{ticks}");
     let mut text = Vec::new(rt.alloc());
     text.resize(200_000, b'x')?;
-    let (is_found, ticks) = steps_of(&rt, b"x**y.", &text)?;
+    let (is_found, ticks) = steps_of(rt.alloc(), b"x**y.", &text)?;
     assert!(rt; !is_found && 0 < ticks && ticks <= 1_200_006, "{ticks}");
     Ok(())
 }

@@ -1,9 +1,9 @@
 //! What the trees of some patterns count up to.
 
+use crate::patterns::two;
 use hir_tree::{ByteRanges, Bytes, CharRanges, Group, Hir, Hirs, Look, Repeat, group_count, spots};
 use sd_base::{NoMemory, Text};
 use std::alloc::Global;
-use std::process::Abort;
 use std::test::Fail;
 
 fn literal(alloc: Global, bytes: &[u8]) -> Result<Hir, NoMemory> {
@@ -30,102 +30,105 @@ fn group(alloc: Global, index: u32, name: Option<Text>, sub: Hir) -> Result<Hir,
     Ok(Hir::Capture(Group { index, name, sub }))
 }
 
-fn two(alloc: Global, first: Hir, second: Hir) -> Result<Hirs, NoMemory> {
-    let mut parts = Hirs::new(alloc);
-    parts.push(first)?;
-    parts.push(second)?;
-    Ok(parts)
-}
-
-fn check(rt: &impl Abort, hir: &Hir, count: u128, groups: u32) {
-    assert_eq!(rt; spots(hir), count);
-    assert_eq!(rt; group_count(hir), groups);
+/// How many spots and groups a tree has. It is let go here, so that tests are quickly proved.
+fn counts(hir: Hir) -> (u128, u32) {
+    let counts = (spots(&hir), group_count(&hir));
+    drop(hir);
+    counts
 }
 
 #[test]
 fn parts_count_as_in_the_table(rt: HostRuntime) -> Result<(), Fail> {
     let alloc = rt.alloc();
-    check(&rt, &Hir::Empty, 1, 0);
-    check(&rt, &Hir::Look(Look::Start), 1, 0);
-    check(&rt, &Hir::ClassBytes(ByteRanges::new(alloc)), 1, 0);
-    check(&rt, &Hir::ClassChars(CharRanges::new(alloc)), 4, 0);
-    check(&rt, &literal(alloc, b"abc")?, 3, 0);
-    check(&rt, &Hir::Concat(Hirs::new(alloc)), 1, 0);
-    check(&rt, &Hir::Alternation(Hirs::new(alloc)), 1, 0);
+    assert_eq!(rt; counts(Hir::Empty), (1, 0));
+    assert_eq!(rt; counts(Hir::Look(Look::Start)), (1, 0));
+    assert_eq!(rt; counts(Hir::ClassBytes(ByteRanges::new(alloc))), (1, 0));
+    assert_eq!(rt; counts(Hir::ClassChars(CharRanges::new(alloc))), (4, 0));
+    assert_eq!(rt; counts(literal(alloc, b"abc")?), (3, 0));
+    assert_eq!(rt; counts(Hir::Concat(Hirs::new(alloc))), (1, 0));
+    assert_eq!(rt; counts(Hir::Alternation(Hirs::new(alloc))), (1, 0));
     Ok(())
+}
+
+/// The counts of a text that is repeated.
+fn repeated(
+    alloc: Global,
+    min: u32,
+    max: Option<u32>,
+    text: &str,
+) -> Result<(u128, u32), NoMemory> {
+    let sub = literal(alloc, text.as_bytes())?;
+    Ok(counts(repeat(alloc, min, max, sub)?))
 }
 
 #[test]
 fn repetitions_count_as_in_the_table(rt: HostRuntime) -> Result<(), Fail> {
-    let alloc = rt.alloc();
-    check(
-        &rt,
-        &repeat(alloc, 0, Some(0), literal(alloc, b"abc")?)?,
-        1,
-        0,
-    );
-    check(
-        &rt,
-        &repeat(alloc, 0, Some(1), literal(alloc, b"abc")?)?,
-        4,
-        0,
-    );
-    check(&rt, &repeat(alloc, 1, None, literal(alloc, b"abc")?)?, 4, 0);
-    check(&rt, &repeat(alloc, 0, None, literal(alloc, b"abc")?)?, 5, 0);
-    check(
-        &rt,
-        &repeat(alloc, 4, None, literal(alloc, b"abc")?)?,
-        13,
-        0,
-    );
-    check(
-        &rt,
-        &repeat(alloc, 2, Some(3), literal(alloc, b"a")?)?,
-        4,
-        0,
-    );
-    check(
-        &rt,
-        &repeat(alloc, 3, Some(3), literal(alloc, b"abc")?)?,
-        9,
-        0,
-    );
+    for (min, max, text, count) in [
+        (0, Some(0), "abc", 1),
+        (0, Some(1), "abc", 4),
+        (1, None, "abc", 4),
+        (0, None, "abc", 5),
+        (4, None, "abc", 13),
+        (2, Some(3), "a", 4),
+        (3, Some(3), "abc", 9),
+    ] {
+        assert_eq!(rt; repeated(rt.alloc(), min, max, text)?, (count, 0));
+    }
     Ok(())
+}
+
+/// `(?:x*)*y`
+fn nested_stars(alloc: Global) -> Result<Hir, NoMemory> {
+    let inner = repeat(alloc, 0, None, literal(alloc, b"x")?)?;
+    let outer = repeat(alloc, 0, None, inner)?;
+    let last = literal(alloc, b"y")?;
+    Ok(Hir::Concat(two(alloc, outer, last)?))
 }
 
 #[test]
 fn nested_stars_take_six_spots(rt: HostRuntime) -> Result<(), Fail> {
-    let alloc = rt.alloc();
-    let inner = repeat(alloc, 0, None, literal(alloc, b"x")?)?;
-    let outer = repeat(alloc, 0, None, inner)?;
-    check(
-        &rt,
-        &Hir::Concat(two(alloc, outer, literal(alloc, b"y")?)?),
-        6,
-        0,
-    );
+    assert_eq!(rt; counts(nested_stars(rt.alloc())?), (6, 0));
     Ok(())
+}
+
+/// `(a)`
+fn first_group(alloc: Global) -> Result<Hir, NoMemory> {
+    group(alloc, 1, None, literal(alloc, b"a")?)
+}
+
+/// `(?P<n>bc)`
+fn named_group(alloc: Global) -> Result<Hir, NoMemory> {
+    let name = Text::new(alloc, "n")?;
+    group(alloc, 2, Some(name), literal(alloc, b"bc")?)
+}
+
+/// `(a)|(?P<n>bc)`
+fn two_groups(alloc: Global) -> Result<Hir, NoMemory> {
+    let first = first_group(alloc)?;
+    let second = named_group(alloc)?;
+    Ok(Hir::Alternation(two(alloc, first, second)?))
 }
 
 #[test]
 fn groups_that_are_never_matched_are_counted(rt: HostRuntime) -> Result<(), Fail> {
     let alloc = rt.alloc();
-    let name = Some(Text::new(alloc, "n")?);
-    let first = group(alloc, 1, None, literal(alloc, b"a")?)?;
-    let second = group(alloc, 2, name, literal(alloc, b"bc")?)?;
-    let choice = Hir::Alternation(two(alloc, first, second)?);
-    check(&rt, &choice, 9, 2);
-    check(&rt, &repeat(alloc, 0, Some(0), choice)?, 1, 2);
+    assert_eq!(rt; counts(two_groups(alloc)?), (9, 2));
+    let never = repeat(alloc, 0, Some(0), two_groups(alloc)?)?;
+    assert_eq!(rt; counts(never), (1, 2));
     Ok(())
+}
+
+/// Two bytes, repeated five times over.
+fn tower(alloc: Global) -> Result<Hir, NoMemory> {
+    let mut hir = literal(alloc, b"ab")?;
+    for _ in 0..5 {
+        hir = repeat(alloc, u32::MAX, None, hir)?;
+    }
+    Ok(hir)
 }
 
 #[test]
 fn spots_end_at_the_greatest_number(rt: HostRuntime) -> Result<(), Fail> {
-    let alloc = rt.alloc();
-    let mut hir = repeat(alloc, u32::MAX, None, literal(alloc, b"ab")?)?;
-    for _ in 0..4 {
-        hir = repeat(alloc, u32::MAX, None, hir)?;
-    }
-    check(&rt, &hir, u128::MAX, 0);
+    assert_eq!(rt; counts(tower(rt.alloc())?), (u128::MAX, 0));
     Ok(())
 }
