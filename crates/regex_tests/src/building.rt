@@ -71,6 +71,10 @@ pub(crate) enum Make<'a> {
     BuildMany(&'a [Setting], &'a [&'a str]),
     New(&'a str),
     NewLineMatcher(&'a str),
+    /// By a clone of a builder, which is then set once more.
+    OfClone(&'a [Setting], Setting, &'a str),
+    /// By a builder of which a clone is then set once more.
+    OfCloned(&'a [Setting], Setting, &'a str),
 }
 
 /// How many bytes a pattern may have.
@@ -86,6 +90,16 @@ pub(crate) fn made(alloc: Global, make: Make<'_>) -> Result<RegexMatcher, Error>
         Make::New(pattern) if pattern.len() <= MOST_BYTES => RegexMatcher::new(alloc, pattern),
         Make::NewLineMatcher(pattern) if pattern.len() <= MOST_BYTES => {
             RegexMatcher::new_line_matcher(alloc, pattern)
+        }
+        Make::OfClone(settings, setting, pattern) if pattern.len() <= MOST_BYTES => {
+            let mut clone = builder(settings).clone()?;
+            set(&mut clone, setting);
+            clone.build(alloc, pattern)
+        }
+        Make::OfCloned(settings, setting, pattern) if pattern.len() <= MOST_BYTES => {
+            let first = builder(settings);
+            set(&mut first.clone()?, setting);
+            first.build(alloc, pattern)
         }
         _ => Err(NoMemory.into()),
     }
@@ -232,7 +246,11 @@ fn confirms(matcher: &RegexMatcher, text: &[u8], end: usize) -> Result<bool, NoM
 /// The first pattern.
 fn first_of<'a>(make: Make<'a>) -> &'a str {
     match make {
-        Make::Build(_, pattern) | Make::New(pattern) | Make::NewLineMatcher(pattern) => pattern,
+        Make::Build(_, pattern)
+        | Make::New(pattern)
+        | Make::NewLineMatcher(pattern)
+        | Make::OfClone(_, _, pattern)
+        | Make::OfCloned(_, _, pattern) => pattern,
         Make::BuildMany(_, [first, ..]) => first,
         Make::BuildMany(_, []) => "",
     }

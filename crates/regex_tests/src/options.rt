@@ -168,11 +168,21 @@ fn patterns_that_nest_to_their_limit(rt: HostRuntime) {
 }
 
 #[test]
-fn a_cloned_builder_has_the_same_options(rt: HostRuntime) -> Result<(), Fail> {
-    let first = builder(&[Setting::CaseInsensitive(true), Setting::Word(true)]);
-    let mut copy = first.clone()?;
-    check(&rt, &copy, "b", b"ab B", Some((3, 4)))?;
-    copy.word(false);
-    check(&rt, &copy, "b", b"ab B", Some((1, 2)))?;
-    check(&rt, &first, "b", b"ab B", Some((3, 4)))
+fn a_cloned_builder_has_the_same_options(rt: HostRuntime) {
+    let set = &[Setting::CaseInsensitive(true), Setting::Word(true)];
+    for (make, found) in [
+        (
+            Make::OfClone(set, Setting::CaseInsensitive(true), "b"),
+            (3, 4),
+        ),
+        (Make::OfClone(set, Setting::Word(false), "b"), (1, 2)),
+        (Make::OfCloned(set, Setting::Word(false), "b"), (3, 4)),
+    ] {
+        check(
+            &rt,
+            make,
+            Question::First(b"ab B"),
+            Answer::Span(Some(found)),
+        );
+    }
 }
