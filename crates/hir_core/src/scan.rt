@@ -33,7 +33,7 @@ pub struct Scan {
     first_look: Option<Look>,
     /// A look that may be asked before the end of a match, if there is one.
     last_look: Option<Look>,
-    /// Whether runs begin only by bytes that are rare in texts, so that places are passed over up to the next one.
+    /// Whether places are passed over up to the next one where a run may begin: it does by bytes that are rare in texts, or by a look.
     strides: bool,
     ghost all_bytes: { vec_len takes ≡ 256 },
     ghost all_rows: { vec_len after ≡ 2048 },
