@@ -1,15 +1,11 @@
 -- The files that a tree command works on.
-use Rattle.std.specs.Prelude.{◌≡◌, ◌≢◌, ◌↔◌, ℕ, List, [], ◌∷◌, ◌++◌, map, Some, true, Contains}
+use Rattle.std.specs.Prelude.{◌≡◌, ◌≢◌, ◌↔◌, ℕ, List, [], ◌++◌, map, Some, true, Contains}
 use Rattle.std.specs.List.{join_with_byte}
 use Rattle.std.specs.List.Sorted.{IsStrictlySortedBy}
-use Rattle.sd_edge.specs.Tree.{NameList, Tree, name_list_cmp, file_at}
+use Rattle.sd_edge.specs.Tree.{NameList, Tree, IsNonemptyFile, name_list_cmp}
 use Rattle.sd_edge.specs.Paths.{reached}
 use Rattle.walk_rest.specs.Plan.{path_below}
 use Rattle.chosen_files.specs.Globs.{FitsAny}
-
--- a regular file with at least one byte stands at a name list
-abbrev pub IsNonemptyFile : Tree → NameList → Type 0
-IsNonemptyFile tree place = (byte : ℕ) × (bytes : List ℕ) × (mode : ℕ) × (file_at tree place ≡ Some (byte ∷ bytes, mode))
 
 -- A chosen file lies properly below the root, is a regular file with at least one byte, and its names after the root's, joined by `/`,
 -- fit a glob.

@@ -2,12 +2,11 @@
 
 ghost use Rattle.std.specs.Prelude.{◌≤◌};
 
-use demo_tree::sweep_demo;
 use sd_base::Texts;
+use sd_core::{SweepFault, sweep_demo};
 use sd_replace::Replacer;
 use std::alloc::Global;
 use std::test::Fail;
-use tree_rewrite::SweepFault;
 
 /// What a sweep of a demo that replaces `one` by `1` reports: how many files were chosen, how many changed, and how many
 /// spans were replaced in them.

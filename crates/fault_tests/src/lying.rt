@@ -3,10 +3,10 @@
 ghost use Rattle.std.specs.Prelude.{◌≡◌, IfOk, IfErr, IsErr, Ok};
 
 use crate::running::{holds, one_by_1, run_words};
+use sd_core::{SweepFault, sweep_capped};
 use sd_edge::{Disk, DiskFault, Globs, Ident, Kind, ListId, MemDisk, Meta, RawEntry, Text};
 use std::alloc::Global;
 use std::test::Fail;
-use tree_rewrite::{SweepFault, sweep_capped};
 
 /// What is told of a disk that isn't so.
 #[derive(Clone, Copy)]

@@ -1,7 +1,8 @@
 -- The search of a block of places, in which a spot is tried once at each place.
-use Rattle.std.specs.Prelude.{◌≡◌, ℕ, ◌+◌, ◌-◌, ◌*◌, Bool, true, ◌&&◌, ◌⊎◌, nat_le, nat_lt, List, [], ◌++◌, length, Option, Some, None, if◌then◌else◌}
+use Rattle.std.specs.Prelude.{◌≡◌, ℕ, ◌+◌, ◌-◌, ◌*◌, Bool, true, ◌&&◌, ◌⊎◌, nat_le, nat_lt, List, [], ◌∷◌, ◌++◌, length, Option, Some, None, if◌then◌else◌}
 use Rattle.std.specs.Option.{option_or}
 use Rattle.hir_tree.specs.Runs.{Run}
+use Rattle.hir_core.specs.Masks.{IsDead}
 use Rattle.hir_core.specs.Pass.{comes, first_of, fresh, keeps, some_run, stops_give, visiting, was_visited}
 use Rattle.hir_core.specs.Program.{gives, spot_at}
 use Rattle.hir_core.specs.Trails.{Stop, stops_on, way_of}
@@ -18,6 +19,11 @@ mark_of count begin at q = (at - begin) * count + q
 -- the spot was tried at the place
 abbrev pub was_tried : ℕ → ℕ → List Bool → ℕ → ℕ → Bool
 was_tried count begin marks at q = nat_le begin at && (nat_lt q count && was_visited marks (mark_of count begin at q))
+
+-- there are as many marks, and each that was set stays so: what was tried in a block isn't tried there again
+pub record KeepsMarks (old new : List Bool) : Type 0 where
+  pub room : length new ≡ length old
+  pub stay : (mark : ℕ) → was_visited old mark ≡ true → was_visited new mark ≡ true
 
 module _ (text : List ℕ) (spots : List Spot) (begin : ℕ) where
   -- the marks, with that of a spot at a place, if it leaves one
@@ -36,12 +42,16 @@ module _ (text : List ℕ) (spots : List Spot) (begin : ℕ) where
       AreSpent marks (some_run (stops_give text spots new)) × (first_of (stops_give text spots new) ≡ first_of (stops_give text spots old ++ runs))
   IsFollowed runs (Some m) marks old new = option_or (first_of (stops_give text spots new)) (Some m) ≡ first_of (stops_give text spots old ++ runs)
 
-  -- others come in the place of one, at its place or after bytes from there
+  -- all are left of these stops, or all but the first, from which no way gives a run
+  abbrev pub AreLeft : List Stop → List Stop → Type 0
+  AreLeft all left = (left ≡ all) ⊎ ((p : Stop) × (all ≡ p ∷ left) × IsDead text spots p.1.run.at p.0)
+
+  -- others come in the place of one, at its place or after bytes from there, but for a first from which no way gives a run
   abbrev pub GivesWayTo : Stop → List Bool → List Bool → List Stop → List Stop → Type 0
   GivesWayTo p marks marks' stack stack' =
       let s = spot_at spots p.0 in
       let tried = was_visited marks (mark_of (length spots) begin p.1.run.at p.0) in
-      (stack' ≡ (comes text s tried p.1 ++ keeps text s tried p.1) ++ stack)
+      AreLeft ((comes text s tried p.1 ++ keeps text s tried p.1) ++ stack) stack'
       × (marks' ≡ trying p.1.run.at p.0 marks)
       × ((s ≡ spot.Match) → ⊥)
 

@@ -146,6 +146,10 @@ SaysWhatFollows spots of look rows =
     (i v : ℕ) → i < length of → v < 256 → HasBit v (i % 8)
     → Covers spots of look (slice_index rows (256 * (i / 8) + v)) (next_of (spot_at spots (slice_index of i)))
 
+-- mask q of these covers the spot q
+abbrev pub CoverTheirSpots : List Spot → List ℕ → Option Look → List ℕ → Type 0
+CoverTheirSpots spots of look masks = (q : ℕ) → q < length masks → Covers spots of look (slice_index masks q) q
+
 -- the bit of each spot is set that may take a character beyond ASCII
 abbrev pub SaysWhichAreWide : List Spot → List ℕ → ℕ → Type 0
 SaysWhichAreWide spots of mask = (i : ℕ) → i < length of → is_wide (spot_at spots (slice_index of i)) ≡ true → HasBit mask i

@@ -2,7 +2,7 @@
 use Rattle.std.specs.Prelude.{◌≡◌, ℕ, ◌<◌, ◌≤◌, false, List, length, Option, IfSome}
 use Rattle.hir_tree.specs.Looks.{holds}
 use Rattle.hir_tree.specs.declared.look.Look.{Look}
-use Rattle.hir_core.specs.Masks.{Covers, AreTakers, SaysWhatTakes, SaysWhatFollows, SaysWhichAreWide, AreMoved, AreDead, IsDead, IsShut, HasBit, match_bit, sure_bit}
+use Rattle.hir_core.specs.Masks.{Covers, CoverTheirSpots, AreTakers, SaysWhatTakes, SaysWhatFollows, SaysWhichAreWide, AreMoved, AreDead, IsDead, IsShut, HasBit, match_bit, sure_bit}
 use Rattle.hir_core.specs.declared.spot.Spot.{Spot}
 use Rattle.hir_core.specs.declared.scan.Scan.{Scan}
 use Rattle.hir_core.specs.declared.scan.Sight.{Sight}
@@ -25,6 +25,7 @@ pub record IsFilterOf (spots : List Spot) (s : Scan) : Type 0 where
   pub moves : AreMoved s.after.items (length s.of.items) s.moves
   pub wide : SaysWhichAreWide spots s.of.items s.wide
   pub start : Covers spots s.of.items s.last_look s.start 0
+  pub firsts : CoverTheirSpots spots s.of.items s.last_look s.firsts.items
   pub first : IsAskedFirst spots s.first_look
 
 -- no run begins at a place from one on to before another, as the filter says

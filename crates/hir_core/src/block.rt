@@ -1,7 +1,7 @@
 //! The search of a block of places, which tries each spot once at each place, depth first.
 
 ghost use Rattle.std.specs.Prelude.{◌≡◌, ℕ, List, ◌+◌, ◌-◌, ◌*◌, ◌^◌, ◌≤◌, ◌<◌, [], ◌++◌, false, length, replicate, None, IfOk, IfSome};
-ghost use Rattle.hir_core.specs.Blocks.{AreSpent, IsFollowed, TurnedAt, mark_of};
+ghost use Rattle.hir_core.specs.Blocks.{AreSpent, IsFollowed, KeepsMarks, TurnedAt, mark_of};
 ghost use Rattle.hir_core.specs.Pass.{answer, leads, leads_on, match_of, some_run, stop_gives, stops_give, taken, AllFrom};
 ghost use Rattle.hir_core.specs.Program.{ClosesFall};
 ghost use Rattle.hir_core.specs.Scan.{IsFilterOf};
@@ -108,14 +108,18 @@ impl Block {
     }
 
     /// Follows the thread, which is in the block, from this spot to those that it leads to, and says whether it is a match, or where
-    /// it goes on. Refuses for want of memory alone.
+    /// it goes on. Of two ways at the place where it began it leaves out the first, if that can't come to a match: many are tried there,
+    /// and few go on. Refuses for want of memory alone.
     fn turn(
         &mut self,
         spots: &[Spot],
+        filter: &Scan,
         text: &[u8],
         places: Places,
+        began: usize,
         spot: usize,
     ) -> Result<Turn, NoMemory>
+        requires filters { IsFilterOf spots.now filter.now }
         requires room { length spots.now * (places.end - places.begin) ≤ length self.old.marks }
         requires few { length self.old.marks ≤ 65536 }
         requires begin { places.begin ≤ self.old.trail.at }
@@ -140,6 +144,12 @@ impl Block {
             return Ok(Turn::On(None));
         }
         self.marks.add(mark);
+        if let Spot::Split { first, second } = here {
+            let at = self.trail.at;
+            if at == began && !filter.may_go_on(*first, text, at) {
+                return Ok(Turn::On(Some(*second)));
+            }
+        }
         Ok(Turn::On(advance(here, text, &mut self.trail)?))
     }
 
@@ -148,11 +158,13 @@ impl Block {
     fn follow(
         &mut self,
         spots: &[Spot],
+        filter: &Scan,
         text: &[u8],
         places: Places,
         spot: usize,
     ) -> Result<bool, NoMemory>
         requires falls { ClosesFall spots.now }
+        requires filters { IsFilterOf spots.now filter.now }
         requires room { length spots.now * (places.end - places.begin) ≤ length self.old.marks }
         requires few { length self.old.marks ≤ 65536 }
         requires begin { places.begin ≤ self.old.trail.at }
@@ -162,9 +174,10 @@ impl Block {
         ensures followed { IfOk result (λ found. IsFollowed text.now spots.now places.begin (stop_gives text.now spots.now (spot, way_of self.old.trail))
             (match_of found self.new.trail) self.new.marks self.old.later self.new.later) }
         ensures later { IfOk result (λ _. AllFrom text.now places.end self.new.later) }
-        ensures room { IfOk result (λ _. length self.new.marks ≡ length self.old.marks) }
+        ensures marks { IfOk result (λ _. KeepsMarks self.old.marks self.new.marks) }
     {
         self.trail.clear();
+        let began = self.trail.at;
         let mut on = Some(spot);
         while let Some(here) = self.trail.next(on)? {
             if self.trail.at >= places.end {
@@ -172,7 +185,7 @@ impl Block {
                 on = None;
                 continue;
             }
-            match self.turn(spots, text, places, here)? {
+            match self.turn(spots, filter, text, places, began, here)? {
                 Turn::Match => return Ok(true),
                 Turn::On(next) => on = next,
             }
@@ -185,11 +198,13 @@ impl Block {
     pub fn follow_all(
         &mut self,
         spots: &[Spot],
+        filter: &Scan,
         text: &[u8],
         places: Places,
         threads: &Later,
     ) -> Result<bool, NoMemory>
         requires falls { ClosesFall spots.now }
+        requires filters { IsFilterOf spots.now filter.now }
         requires room { length spots.now * (places.end - places.begin) ≤ length self.old.marks }
         requires few { length self.old.marks ≤ 65536 }
         requires from { AllFrom text.now places.begin threads.now }
@@ -198,11 +213,11 @@ impl Block {
         ensures followed { IfOk result (λ found. IsFollowed text.now spots.now places.begin (stops_give text.now spots.now threads.now)
             (match_of found self.new.trail) self.new.marks self.old.later self.new.later) }
         ensures later { IfOk result (λ _. AllFrom text.now places.end self.new.later) }
-        ensures room { IfOk result (λ _. length self.new.marks ≡ length self.old.marks) }
+        ensures marks { IfOk result (λ _. KeepsMarks self.old.marks self.new.marks) }
     {
         for i in 0..threads.len() {
             let spot = threads.load(i, &mut self.trail)?;
-            if self.follow(spots, text, places, spot)? {
+            if self.follow(spots, filter, text, places, spot)? {
                 return Ok(true);
             }
         }
@@ -249,11 +264,12 @@ impl Block {
         ensures later { IfOk result (λ _. AllFrom text.now places.end self.new.later) }
         ensures within { IfOk result (λ _. starts.new.place ≤ length text.now + 1) }
         ensures past { IfOk result (λ found. found ≡ false → places.end ≤ starts.new.place) }
+        ensures marks { IfOk result (λ _. KeepsMarks self.old.marks self.new.marks) }
     {
         while starts.place < places.end {
             self.trail.begin(starts.place, groups)?;
             starts.place += 1;
-            if self.follow(spots, text, places, 0)? {
+            if self.follow(spots, filter, text, places, 0)? {
                 return Ok(true);
             }
             self.pass_over(filter, text, starts);

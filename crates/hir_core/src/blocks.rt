@@ -73,7 +73,9 @@ impl Blocks {
         ensures best { self.new.best ≡ self.old.best }
     {
         self.block.enter(spots.len() * PLACES)?;
-        let found = self.block.follow_all(spots, text, places, &self.threads)?;
+        let found = self
+            .block
+            .follow_all(spots, filter, text, places, &self.threads)?;
         if found || self.best.is_some() {
             return Ok(found);
         }

@@ -26,6 +26,7 @@ pub enum Turn {
 
 /// The spot that a spot leads to without a byte, if there is one; a second one is put before the alternatives. Refuses for want
 /// of memory alone.
+#[inline(always)]
 pub fn lead(spot: &Spot, text: &[u8], trail: &mut Trail) -> Result<Option<usize>, NoMemory>
     requires { trail.old.at ≤ length text.now }
     ensures { IfOk result

@@ -25,7 +25,9 @@ pub struct Scan {
     after: Vec<u64>,
     /// How the spots move on by a byte, where the rows needn't be asked.
     moves: Moves,
-    /// The same as the rows have for the start of the program.
+    /// The same as the rows have for each spot of the program, if it has few.
+    firsts: Vec<u64>,
+    /// The same for the start of the program.
     start: u64,
     /// The spots that may take a character beyond ASCII.
     wide: u64,
@@ -64,8 +66,7 @@ pub struct Candidate {
 
 impl Scan {
     ghost use Rattle.hir_core.specs.declared.spot.Spot.{Spot};
-    ghost use Rattle.hir_core.specs.Masks.{NoRun};
-    ghost use Rattle.hir_core.specs.Masks.{IsPart};
+    ghost use Rattle.hir_core.specs.Masks.{IsDead, IsPart, NoRun};
     ghost use Rattle.hir_core.specs.Scan.{IsFilterOf, Looked, NoEnd, NoneBegins};
 
     /// The filter of a program; None where more than 62 spots take bytes. Refuses for want of memory alone.
@@ -80,6 +81,7 @@ impl Scan {
         let last_look = asked::last_look(spots);
         let takes = takes::takes(alloc, spots, of.as_slice())?;
         let after = reach::after(alloc, spots, of.as_slice(), last_look)?;
+        let firsts = reach::firsts(alloc, spots, of.as_slice(), last_look)?;
         let start = reach::mask_from(alloc, spots, of.as_slice(), 0, last_look)?;
         let moves = moves_in(after.as_slice(), of.len());
         let wide = takes::wide(spots, of.as_slice());
@@ -89,6 +91,7 @@ impl Scan {
             takes,
             after,
             moves,
+            firsts,
             start,
             wide,
             first_look,
@@ -130,15 +133,41 @@ impl Scan {
         self.may_end(self.start, text, place) && self.may_begin(text, place)
     }
 
+    /// Whether a spot of a mask may take a byte, or a character that begins with it.
+    fn may_take(&self, mask: u64, byte: u8) -> bool
+        ensures narrow { result ≡ false → (byte < 128) ⊎ (bit_and mask self.now.wide ≡ 0) }
+        ensures none { result ≡ false → bit_and mask (slice_index self.now.takes.items byte) ≡ 0 }
+    {
+        if byte >= 128 && mask & self.wide != 0 {
+            return true;
+        }
+        mask & self.takes[byte as usize] != 0
+    }
+
     /// Whether a run may begin by a byte.
     fn may_begin_by(&self, byte: u8) -> bool
         ensures narrow { result ≡ false → (byte < 128) ⊎ (bit_and self.now.start self.now.wide ≡ 0) }
         ensures none { result ≡ false → bit_and self.now.start (slice_index self.now.takes.items byte) ≡ 0 }
     {
-        if byte >= 128 && self.start & self.wide != 0 {
+        self.may_take(self.start, byte)
+    }
+
+    /// Whether a thread that is at a spot and a place may come to a match.
+    pub fn may_go_on(&self, spot: usize, text: &[u8], place: usize) -> bool
+        requires { place ≤ length text.now }
+        ensures { result ≡ false → (spots : List Spot) → IsFilterOf spots self.now → IsDead text.now spots place spot }
+    {
+        if spot >= self.firsts.len() {
             return true;
         }
-        self.start & self.takes[byte as usize] != 0
+        let mask = self.firsts[spot];
+        if self.may_end(mask, text, place) {
+            return true;
+        }
+        if place >= text.len() {
+            return false;
+        }
+        self.may_take(mask, text[place])
     }
 
     /// The first place from one on by whose byte a run may begin, or where an empty match may stand, or the end of the text.

@@ -6,9 +6,9 @@ use Rattle.sd_change.specs.Change.{Change}
 use Rattle.sd_course.specs.Course.{Course}
 use Rattle.file_rewrite.specs.Paths.{IsNoPath}
 use Rattle.file_rewrite.specs.declared.fault.JobFault.TheVariants as job
-use Rattle.tree_rewrite.specs.Jobs.{Job, failed_of, end_of, HaveCauses}
-use Rattle.tree_rewrite.specs.declared.fault.FilesFault.{FilesFault}
-use Rattle.tree_rewrite.specs.declared.fault.FilesFault.TheVariants as fault
+use Rattle.many_files.specs.Jobs.{Job, failed_of, end_of, HaveCauses}
+use Rattle.many_files.specs.declared.fault.FilesFault.{FilesFault}
+use Rattle.many_files.specs.declared.fault.FilesFault.TheVariants as fault
 use Rattle.named_files.specs.OneFile.{OneEnd, ReplacesOne}
 
 -- ---- one file after the other

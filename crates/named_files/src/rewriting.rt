@@ -3,17 +3,17 @@
 ghost use Rattle.std.specs.Prelude.{◌≡◌, ◌≢◌, ◌≤◌, ◌<◌, ◌+◌, ◌++◌, ◌∷◌, [], OnOk, IfErr, IfOk, Err, vec_len, vec_capacity};
 ghost use Rattle.sd_edge.specs.Disk.{SameLists};
 ghost use Rattle.sd_course.specs.Course.{course};
-ghost use Rattle.tree_rewrite.specs.Jobs.{failed_of, end_of};
-ghost use Rattle.tree_rewrite.specs.Ends.{IsForMemory};
+ghost use Rattle.many_files.specs.Jobs.{failed_of, end_of};
+ghost use Rattle.many_files.specs.Ends.{IsForMemory};
 ghost use Rattle.named_files.specs.Clear.{AreFilesClear};
 ghost use Rattle.named_files.specs.Named.{DoesFiles, NamedFail};
 
 use file_rewrite::{JobFault, Rewrite, replace_file};
+use many_files::{FailedJobs, FilesFault};
 use sd_base::{NoMemory, Text};
 use sd_change::Replaces;
 use sd_edge::Disk;
 use std::alloc::Global;
-use tree_rewrite::{FailedJobs, FilesFault};
 
 /// Rewrites the file that each path names, in their order, each as the one before left the disk; two paths may name one
 /// file. One that fails is a job, and the others go on. The fault tells the jobs, which are exactly the failed ones.

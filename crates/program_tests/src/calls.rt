@@ -3,14 +3,13 @@
 use crate::running::{check_files, listed, two_files};
 use file_rewrite::JobFault;
 use sd_base::Words;
-use sd_core::{App, AppSource, Error, Why, run};
+use sd_core::{App, AppSource, Error, Report, SweepFault, Why, run, sweep, sweep_capped};
 use sd_edge::{DiskFault, MemDisk, MemSink, MemSource};
 use sd_replace::{Replacer, ReplacerFault};
 use std::alloc::Global;
 use std::process::Abort;
 use std::test::Fail;
 use stream_rewrite::{StreamFault, replace_stream};
-use tree_rewrite::{Report, SweepFault, sweep, sweep_capped};
 
 /// Replaces `one` by `1`.
 fn one_by_1(alloc: Global) -> Result<Replacer, ReplacerFault> {

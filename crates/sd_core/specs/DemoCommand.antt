@@ -4,9 +4,9 @@ use Rattle.sd_edge.specs.Streams.{SinkState}
 use Rattle.sd_change.specs.Change.{Change}
 use Rattle.sd_course.specs.Course.{Course, SinkFailed, AppendsPrefix}
 use Rattle.chosen_files.specs.Globs.{IsValid, IsFirstInvalid}
-use Rattle.tree_rewrite.specs.declared.report.Report.{Report}
-use Rattle.tree_rewrite.specs.declared.sweep_fault.SweepFault.TheVariants as sweep
-use Rattle.demo_tree.specs.Sweep.{CountsDemo, DemoFails, IsForMemory}
+use Rattle.many_files.specs.declared.report.Report.{Report}
+use Rattle.sd_core.specs.declared.sweep_fault.SweepFault.TheVariants as sweep
+use Rattle.sd_core.specs.Demo.{CountsDemo, DemoFails, DemoWantsMemory}
 use Rattle.sd_core.specs.Report.{line_of}
 use Rattle.sd_core.specs.Run.{IsOrMemory}
 use Rattle.sd_core.specs.declared.error.Error.{Error}
@@ -50,7 +50,7 @@ DemoEnds change n globs out why.NotYet = ⊥
 
 -- want of memory is the one reason left
 abbrev pub DemoIsForMemory : ℕ → Error → Type 0
-DemoIsForMemory n (error.FailedProcessing jobs) = IsForMemory n (sweep.Failed jobs)
+DemoIsForMemory n (error.FailedProcessing jobs) = DemoWantsMemory n (sweep.Failed jobs)
 DemoIsForMemory n error.NoMemory = ⊤
 DemoIsForMemory n (error.BadGlob place) = ⊥
 DemoIsForMemory n (error.Regex refused) = ⊥

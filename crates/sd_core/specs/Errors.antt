@@ -2,10 +2,10 @@
 use Rattle.sd_edge.specs.declared.fault.DiskFault.TheVariants as disk
 use Rattle.sd_replace.specs.declared.error.ReplacerFault.{ReplacerFault}
 use Rattle.sd_replace.specs.declared.error.ReplacerFault.TheVariants as replacer
-use Rattle.tree_rewrite.specs.declared.fault.FilesFault.{FilesFault}
-use Rattle.tree_rewrite.specs.declared.fault.FilesFault.TheVariants as files
-use Rattle.tree_rewrite.specs.declared.sweep_fault.SweepFault.{SweepFault}
-use Rattle.tree_rewrite.specs.declared.sweep_fault.SweepFault.TheVariants as sweep
+use Rattle.many_files.specs.declared.fault.FilesFault.{FilesFault}
+use Rattle.many_files.specs.declared.fault.FilesFault.TheVariants as files
+use Rattle.sd_core.specs.declared.sweep_fault.SweepFault.{SweepFault}
+use Rattle.sd_core.specs.declared.sweep_fault.SweepFault.TheVariants as sweep
 use Rattle.stream_rewrite.specs.declared.fault.StreamFault.{StreamFault}
 use Rattle.stream_rewrite.specs.declared.fault.StreamFault.TheVariants as stream
 use Rattle.named_files.specs.declared.fault.PreviewFault.{PreviewFault}

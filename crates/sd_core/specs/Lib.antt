@@ -1,11 +1,15 @@
 pub mod Asked
 pub mod CarryingOut
 pub mod Crash
+pub mod Demo
 pub mod DemoCommand
 pub mod Errors
+pub mod Examples
 pub mod InputCommand
 pub mod Mode
 pub mod NamedCommands
 pub mod Report
 pub mod Run
+pub mod Sweep
+pub mod SweepFaults
 pub mod TreeCommand

@@ -6,7 +6,7 @@ use Rattle.sd_edge.specs.declared.fault.DiskFault.TheVariants as disk
 use Rattle.sd_change.specs.Change.{Change}
 use Rattle.sd_course.specs.Course.{Course, DiskFailed, SinkFailed}
 use Rattle.file_rewrite.specs.Paths.{IsNoPath}
-use Rattle.tree_rewrite.specs.declared.fault.FilesFault.TheVariants as files
+use Rattle.many_files.specs.declared.fault.FilesFault.TheVariants as files
 use Rattle.named_files.specs.Clear.{AreFilesClear, IsFirstUnshown, IsPreviewClear}
 use Rattle.named_files.specs.Named.{DoesFiles, NamedFail}
 use Rattle.named_files.specs.Preview.{DoesPreview, PreviewFails}

@@ -10,12 +10,12 @@ use Rattle.sd_course.specs.Course.{Course, SinkFailed, AppendsPrefix}
 use Rattle.chosen_files.specs.Globs.{IsFirstInvalid}
 use Rattle.chosen_files.specs.Below.{HasFewerBelow}
 use Rattle.chosen_files.specs.Choice.{KeepsLists}
-use Rattle.tree_rewrite.specs.Files.{IsFreeBeside}
-use Rattle.tree_rewrite.specs.Jobs.{WantMemory}
-use Rattle.tree_rewrite.specs.Rewritten.{LeavesEach, IsNewOne, IsChangedOne}
-use Rattle.tree_rewrite.specs.Sweep.{IsChosenBelow, RewritesTree, SweepFails, IsClear}
-use Rattle.tree_rewrite.specs.declared.report.Report.{Report}
-use Rattle.tree_rewrite.specs.declared.sweep_fault.SweepFault.TheVariants as sweep
+use Rattle.many_files.specs.Files.{IsFreeBeside}
+use Rattle.many_files.specs.Jobs.{WantMemory}
+use Rattle.many_files.specs.Rewritten.{LeavesEach, IsNewOne, IsChangedOne}
+use Rattle.sd_core.specs.Sweep.{IsChosenBelow, RewritesTree, SweepFails, IsClear}
+use Rattle.many_files.specs.declared.report.Report.{Report}
+use Rattle.sd_core.specs.declared.sweep_fault.SweepFault.TheVariants as sweep
 use Rattle.sd_core.specs.Report.{line_of}
 use Rattle.sd_core.specs.Run.{IsOrMemory}
 use Rattle.sd_core.specs.declared.error.Error.{Error}

@@ -15,13 +15,11 @@ ghost use Rattle.sd_core.specs.NamedCommands.{FilesCommand, PreviewCommand};
 
 use crate::app::{preview_files, replace_input, rewrite_files};
 use crate::printing::print_report;
-use crate::{Error, Result, Why};
-use demo_tree::sweep_demo;
+use crate::{Error, Report, Result, SweepFault, Why, sweep, sweep_demo};
 use sd_base::{Globs, Words};
 use sd_edge::{Disk, Sink, Source};
 use sd_replace::Replacer;
 use std::alloc::Global;
-use tree_rewrite::{Report, SweepFault, sweep};
 
 /// Rewrites the chosen files below a root, and prints the report.
 pub fn tree_command<D: Disk, O: Sink>(

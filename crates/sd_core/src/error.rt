@@ -4,6 +4,8 @@ ghost use Rattle.std.specs.Prelude.{◌≡◌};
 ghost use Rattle.sd_core.specs.Errors.{of_replacer, of_sweep, of_files, of_stream, of_preview};
 ghost use Rattle.sd_core.specs.declared.error.Error.TheVariants as error;
 
+use crate::SweepFault;
+use many_files::{FailedJobs, FilesFault};
 use named_files::PreviewFault;
 use sd_base::{NoMemory, Text};
 use sd_edge::DiskFault;
@@ -11,7 +13,6 @@ use sd_replace::{InvalidReplaceCapture, ReplacerFault};
 use std::fmt;
 use stream_rewrite::StreamFault;
 use thiserror::Error;
-use tree_rewrite::{FailedJobs, FilesFault, SweepFault};
 
 /// Why a command fails.
 #[derive(Drop, Error)]

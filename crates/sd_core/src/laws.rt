@@ -6,9 +6,9 @@ ghost use Rattle.sd_edge.specs.Outcomes.{Leaves, content_at};
 ghost use Rattle.sd_edge.specs.Disk.{DiskState, MayLeave, outcomes_now};
 ghost use Rattle.sd_edge.specs.Crashes.{IsDurable};
 ghost use Rattle.sd_replace.specs.Replacement.{Replacement, Changes};
-ghost use Rattle.tree_rewrite.specs.Files.{IsFreeBeside};
-ghost use Rattle.tree_rewrite.specs.Rewritten.{IsNewOne, IsChangedOne};
-ghost use Rattle.tree_rewrite.specs.Sweep.{IsChosenBelow};
+ghost use Rattle.many_files.specs.Files.{IsFreeBeside};
+ghost use Rattle.many_files.specs.Rewritten.{IsNewOne, IsChangedOne};
+ghost use Rattle.sd_core.specs.Sweep.{IsChosenBelow};
 ghost use Rattle.sd_core.specs.TreeCommand.{IsOldOrNewImage};
 ghost use Rattle.sd_core.specs.Crash.{IsOnMedium};
 
@@ -19,7 +19,8 @@ pub fn a_crash_leaves_chosen_files_old_or_new()
     ensures chosen { (replacement : Replacement) (root : List ℕ) (globs : List (List ℕ)) (old : DiskState) (image : Tree) → IsOnMedium old
         → IsOldOrNewImage (Changes replacement) root globs old image → (place : NameList) → IsChosenBelow old.tree root globs place
         → (content_at image place ≡ content_at old.tree place)
-        ⊎ ((content : Content) × (content_at image place ≡ Some content) × IsNewOne (IsChosenBelow old.tree root globs) (Changes replacement) old.tree place content) }
+        ⊎ ((content : Content) × (content_at image place ≡ Some content)
+        × IsNewOne (IsChosenBelow old.tree root globs) (Changes replacement) old.tree place content) }
     ensures others { (replacement : Replacement) (root : List ℕ) (globs : List (List ℕ)) (old : DiskState) (image : Tree) → IsOnMedium old
         → IsOldOrNewImage (Changes replacement) root globs old image → (place : NameList) → (IsChosenBelow old.tree root globs place → ⊥)
         → (IsFreeBeside (IsChosenBelow old.tree root globs) old.tree place → ⊥) → content_at image place ≡ content_at old.tree place }

@@ -2,24 +2,33 @@
 //!
 //! [`run`] is the program: it reads the words of a command line, works on the disk that it is handed, and answers with
 //! the status to end with. `specs/Mode.antt` says what a command works on, and a definition for each mode what it promises.
-//! The calls that commands are made of, [`sweep`], [`replace_file`], [`replace_stream`] and [`Options::read`], are handed on.
+//! [`sweep`] rewrites the chosen files of a tree. The other calls that commands are made of, [`replace_file`], [`replace_stream`]
+//! and [`Options::read`], are handed on.
 #![tactic(auto)]
 
 mod app;
 mod asking;
 mod commands;
+mod demo;
 mod ended;
 mod error;
+mod examples;
 mod laws;
 mod printing;
+mod sweep_fault;
+mod sweeping;
 mod top;
 
 pub use app::{App, AppSource};
+pub use demo::sweep_demo;
 pub use ended::{Ended, Why};
 pub use error::{Error, Result};
+pub use examples::{sweeps_fail_as_in_the_examples, trees_are_rewritten_as_in_the_examples};
 pub use file_rewrite::{JobFault, Rewrite, replace_file};
 pub use laws::{a_crash_leaves_chosen_files_old_or_new, a_crash_leaves_rewritten_files_new};
+pub use many_files::{FailedJobs, Report};
 pub use sd_words::{Options, OptionsFault};
 pub use stream_rewrite::{StreamFault, replace_stream};
+pub use sweep_fault::SweepFault;
+pub use sweeping::{sweep, sweep_capped};
 pub use top::run;
-pub use tree_rewrite::{FailedJobs, Report, SweepFault, sweep, sweep_capped};

@@ -6,12 +6,12 @@ ghost use Rattle.sd_course.specs.Course.{AppendsPrefix};
 ghost use Rattle.sd_core.specs.Report as form;
 
 use itoa::Buffer;
+use many_files::Report;
 use sd_edge::{Failed, Sink};
 use std::fmt;
 use std::fmt::{Display, Write};
 use std::marker::Model;
 use stream_rewrite::write_all;
-use tree_rewrite::Report;
 
 /// The room for a report's line: its three numbers have at most 39 digits each, and its words 29 bytes.
 const LINE_ROOM: usize = 160;

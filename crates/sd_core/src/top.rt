@@ -57,19 +57,22 @@ pub fn run<D: Disk, S: Source, O: Sink, E: Sink>(
         → (error : Error) → RefusesReplacer order error → IsRefusedFirst order result.why }
     ensures tree { (order : Options) (root : List ℕ) → Asks words.now order (mode.tree root)
         → Begins order ((disk.new ≡ disk.old) × (input.new ≡ input.old) × (out.new ≡ out.old)) result.why
-        (λ change. TreeCommand change root order.words (course D.tells (D.state disk.old) (D.state disk.new)) (course O.tells (O.state out.old) (O.state out.new)) result.why) }
+        (λ change. TreeCommand change root order.words (course D.tells (D.state disk.old) (D.state disk.new))
+        (course O.tells (O.state out.old) (O.state out.new)) result.why) }
     ensures demo { (order : Options) (n : ℕ) → Asks words.now order (mode.demo n)
         → Begins order ((disk.new ≡ disk.old) × (input.new ≡ input.old) × (out.new ≡ out.old)) result.why
         (λ change. DemoCommand change n order.words (course O.tells (O.state out.old) (O.state out.new)) result.why) }
     ensures standard_input { (order : Options) → Asks words.now order mode.stream
         → Begins order ((disk.new ≡ disk.old) × (input.new ≡ input.old) × (out.new ≡ out.old)) result.why
-        (λ change. InputCommand change (course S.tells (S.state input.old) (S.state input.new)) (course O.tells (O.state out.old) (O.state out.new)) result.why) }
+        (λ change. InputCommand change (course S.tells (S.state input.old) (S.state input.new))
+        (course O.tells (O.state out.old) (O.state out.new)) result.why) }
     ensures files { (order : Options) → Asks words.now order mode.files
         → Begins order ((disk.new ≡ disk.old) × (input.new ≡ input.old) × (out.new ≡ out.old)) result.why
         (λ change. FilesCommand change order.words (course D.tells (D.state disk.old) (D.state disk.new)) result.why) }
     ensures preview { (order : Options) → Asks words.now order mode.preview
         → Begins order ((disk.new ≡ disk.old) × (input.new ≡ input.old) × (out.new ≡ out.old)) result.why
-        (λ change. PreviewCommand change order.words (course D.tells (D.state disk.old) (D.state disk.new)) (course O.tells (O.state out.old) (O.state out.new)) result.why) }
+        (λ change. PreviewCommand change order.words (course D.tells (D.state disk.old) (D.state disk.new))
+        (course O.tells (O.state out.old) (O.state out.new)) result.why) }
     ensures disk_kept { (order : Options) → order_of words.now ≡ Some order → CallsNoDisk (mode_of order) result.why → disk.new ≡ disk.old }
     ensures input_kept { (order : Options) → order_of words.now ≡ Some order → ReadsNoInput (mode_of order) → input.new ≡ input.old }
     ensures out_kept { (order : Options) → order_of words.now ≡ Some order → WritesNoOutput (mode_of order) result.why → out.new ≡ out.old }
@@ -175,7 +178,8 @@ fn begin<D: Disk, S: Source, O: Sink>(
     requires no_plan { IsPlan (mode_of options.now) → ⊥ }
     requires few { (n : ℕ) → options.now.demo ≡ Some n → n ≤ 100000 }
     ensures headline { IsTrue D.tells → (root : List ℕ) → mode_of options.now ≡ mode.tree root → result ≡ Why.Done
-        → DoesTreeCommand (Changes (replacement_of replacer.now)) root options.now.words (D.state disk.old) (D.state disk.new) (course O.tells (O.state out.old) (O.state out.new)) }
+        → DoesTreeCommand (Changes (replacement_of replacer.now)) root options.now.words (D.state disk.old) (D.state disk.new)
+        (course O.tells (O.state out.old) (O.state out.new)) }
     ensures tree { (root : List ℕ) → mode_of options.now ≡ mode.tree root → TreeCommand (Changes (replacement_of replacer.now)) root options.now.words
         (course D.tells (D.state disk.old) (D.state disk.new)) (course O.tells (O.state out.old) (O.state out.new)) result }
     ensures demo { (n : ℕ) → mode_of options.now ≡ mode.demo n

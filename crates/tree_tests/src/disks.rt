@@ -1,10 +1,10 @@
 //! Small trees, what a command tells of them, and what stands there.
 
 use crate::swapping::Swap;
+use sd_core::{Report, SweepFault, sweep};
 use sd_edge::{Globs, MemDisk};
 use std::alloc::Global;
 use std::test::Fail;
-use tree_rewrite::{Report, SweepFault, sweep};
 
 /// What files hold at first, and with `1` in place of each `one`.
 pub(crate) const OLD: &[u8] = b"one two one";

@@ -1,10 +1,10 @@
 //! Commands that are refused before anything is written.
 
 use crate::disks::{OLD, globs_of, holds, one_to_digit, swept, text_of, two_files};
+use sd_core::{Report, SweepFault, sweep_capped};
 use sd_edge::MemDisk;
 use std::alloc::Global;
 use std::test::Fail;
-use tree_rewrite::{Report, SweepFault, sweep_capped};
 
 /// Globs of which one is the first that is invalid, and what is told.
 const GLOBS: [(&[&str], &str); 4] = [

@@ -15,7 +15,7 @@ use Rattle.walk_rest.specs.Listing.{ends, beginning, device_to}
 use Rattle.walk_rest.specs.Rest.{Part, Rest, Moves, IsStep, Skips}
 use Rattle.walk_rest.specs.Level.{HasParts, IsAllowed, chain_above, with_folder, item_of}
 use Rattle.walk_steps.specs.declared.inside.Inside.{Inside}
-use Rattle.walk_steps.specs.Inside.{HasRest, entries_due, manner_in}
+use Rattle.walk_steps.specs.Inside.{HasRest, entries_due, manner_in, with_top}
 
 -- ---- the root
 
@@ -120,3 +120,7 @@ pub record LiesUnread (level : Level) (folder : Option Folder) : Type 0 where
   pub first : level.first ≡ None
   pub unread : level.entries ≡ Unread
   pub faultless : level.faults.items ≡ []
+
+-- of the walk as it was with a level on top that lay unread, before that was taken off
+abbrev pub WithUnread : {S : Type 0} → Inside S → Option Folder → (Inside S → Type 0) → Type 0
+WithUnread inside folder P = (level : Level) → LiesUnread level folder → P (with_top inside level)

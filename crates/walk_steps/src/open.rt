@@ -17,7 +17,7 @@ ghost use Rattle.walk_steps.specs.Listed.{GivesListed, IsToList, IsTopSettled, g
 ghost use Rattle.walk_steps.specs.Lists.{OpensFolder};
 ghost use Rattle.walk_steps.specs.Sound.{AreRead, AreShallow, AreSound, IsApart, IsReadable, IsSound, IsSoundBelow, KeepsWalk};
 ghost use Rattle.walk_steps.specs.Sound.{SameOtherThan, SameOthers, StaysWithin, open_in, open_limit, opens};
-ghost use Rattle.walk_steps.specs.Steps.{ByEachRest, LiesUnread, MovesTo, TurnsTo};
+ghost use Rattle.walk_steps.specs.Steps.{ByEachRest, LiesUnread, MovesTo, TurnsTo, WithUnread};
 ghost use Rattle.walk_steps.specs.Work.{left_to_do, weight_in, work_in};
 
 use crate::Inside;
@@ -36,12 +36,12 @@ pub fn read_root<D: Disk, S: Order>(
 ) -> Result<Option<Result<DirEntry, Error>>, NoMemory>
     requires sound { IsSoundBelow (D.state disk.old) (S.sorts inside.old.order) inside.old }
     requires taken { inside.old.top ≡ None }
-    ensures turns { IsTrue D.tells → (by : Comparison) (lying : level.Level) (rest : Rest) → LiesUnread lying None
-        → HasRest (D.state disk.old) (S.sorts inside.old.order) by (with_top inside.old lying) rest
-        → IfOk result (λ answer. TurnsTo (D.state disk.old) (S.sorts inside.old.order) by rest answer (D.state disk.new) inside.new) }
+    ensures turns { IsTrue D.tells → WithUnread inside.old None (λ before. (by : Comparison) (rest : Rest)
+        → HasRest (D.state disk.old) (S.sorts inside.old.order) by before rest
+        → IfOk result (λ answer. TurnsTo (D.state disk.old) (S.sorts inside.old.order) by rest answer (D.state disk.new) inside.new)) }
     ensures named { IfOk result (λ answer. answer ≢ Some (Err Error.NoMemory)) }
     ensures sound { OnOk result (IsSound (D.state disk.new) (S.sorts inside.new.order) inside.new) }
-    ensures keeps { (lying : level.Level) → LiesUnread lying None → KeepsWalk (D.state disk.old) (with_top inside.old lying) (D.state disk.new) inside.new }
+    ensures keeps { WithUnread inside.old None (λ before. KeepsWalk (D.state disk.old) before (D.state disk.new) inside.new) }
     ensures counted { IfOk result (λ answer.
         CountsFaults (faults_told D.tells answer) (D.state disk.old) inside.old.stack.items (D.state disk.new) (levels_of inside.new)) }
     ensures caused { IfOk result (λ answer. IsCaused D.tells (D.state disk.old) (D.state disk.new) answer inside.new) }
@@ -49,8 +49,8 @@ pub fn read_root<D: Disk, S: Order>(
         GivesListed (gives_below answer) (D.state disk.old) inside.old.stack.items (D.state disk.new) (levels_of inside.new)) }
     ensures settled { OnOk result (IsTopSettled inside.old.options.max_depth inside.new.top) }
     ensures unlisted { (D.state disk.new).listed ≡ (D.state disk.old).listed }
-    ensures less { (lying : level.Level) → LiesUnread lying None
-        → OnOk result (left_to_do (D.state disk.new) inside.new < left_to_do (D.state disk.old) (with_top inside.old lying)) }
+    ensures less { WithUnread inside.old None (λ before.
+        OnOk result (left_to_do (D.state disk.new) inside.new < left_to_do (D.state disk.old) before)) }
 {
     let mut kept = Vec::new(inside.alloc);
     let answer = match begin(disk, inside) {
@@ -79,15 +79,14 @@ pub fn read_directory<D: Disk, S: Order>(
     requires sound { IsSoundBelow (D.state disk.old) (S.sorts inside.old.order) inside.old }
     requires taken { inside.old.top ≡ None }
     requires order { S.can_compare inside.old.order }
-    ensures moves { (lying : level.Level) → LiesUnread lying (Some folder)
-        → ByEachRest D.tells S.compares_by (D.state disk.old) (S.sorts inside.old.order) (with_top inside.old lying) (λ by rest.
-        OnOk result (MovesTo (D.state disk.old) (S.sorts inside.old.order) by rest (D.state disk.new) inside.new)) }
+    ensures moves { WithUnread inside.old (Some folder) (λ before.
+        ByEachRest D.tells S.compares_by (D.state disk.old) (S.sorts inside.old.order) before (λ by rest.
+        OnOk result (MovesTo (D.state disk.old) (S.sorts inside.old.order) by rest (D.state disk.new) inside.new))) }
     ensures sound { OnOk result (IsSound (D.state disk.new) (S.sorts inside.new.order) inside.new) }
-    ensures keeps { (lying : level.Level) → LiesUnread lying (Some folder)
-        → KeepsWalk (D.state disk.old) (with_top inside.old lying) (D.state disk.new) inside.new }
-    ensures counted { (lying : level.Level) → LiesUnread lying (Some folder)
-        → (IsTrue D.tells → folder.depth < inside.old.options.max_depth → IsSome (directory_of (D.state disk.old).tree folder.path))
-        → OnOk result (CountsFaults 0 (D.state disk.old) inside.old.stack.items (D.state disk.new) (levels_of inside.new)) }
+    ensures keeps { WithUnread inside.old (Some folder) (λ before. KeepsWalk (D.state disk.old) before (D.state disk.new) inside.new) }
+    ensures counted { WithUnread inside.old (Some folder) (λ before.
+        (IsTrue D.tells → folder.depth < inside.old.options.max_depth → IsSome (directory_of (D.state disk.old).tree folder.path))
+        → OnOk result (CountsFaults 0 (D.state disk.old) inside.old.stack.items (D.state disk.new) (levels_of inside.new))) }
     ensures listed_each { OnOk result (GivesListed 0 (D.state disk.old) inside.old.stack.items (D.state disk.new) (levels_of inside.new)) }
     ensures settled { OnOk result (IsTopSettled inside.old.options.max_depth inside.new.top) }
     ensures unlisted { S.sorts inside.old.order ≡ false → (inside.old.options.max_depth ≤ folder.depth)
@@ -97,8 +96,8 @@ pub fn read_directory<D: Disk, S: Order>(
         → IsToList (D.state disk.old).tree inside.old.options.max_depth (Some folder) Unread count
         → ¬ HasRisen (D.state disk.old).faults (D.state disk.new).faults
         → OnOk result ((D.state disk.new).listed ≡ (D.state disk.old).listed + count) }
-    ensures less { (lying : level.Level) → LiesUnread lying (Some folder)
-        → OnOk result (left_to_do (D.state disk.new) inside.new < left_to_do (D.state disk.old) (with_top inside.old lying)) }
+    ensures less { WithUnread inside.old (Some folder) (λ before.
+        OnOk result (left_to_do (D.state disk.new) inside.new < left_to_do (D.state disk.old) before)) }
 {
     if inside.options.max_depth <= folder.depth || inside.order.sorts() {
         return read_whole(disk, inside, folder);
@@ -118,12 +117,11 @@ fn read_whole<D: Disk, S: Order>(
     requires taken { inside.old.top ≡ None }
     requires order { S.can_compare inside.old.order }
     requires whole { folder.depth < inside.old.options.max_depth → S.sorts inside.old.order ≡ true }
-    ensures moves { (lying : level.Level) → LiesUnread lying (Some folder)
-        → ByEachRest D.tells S.compares_by (D.state disk.old) (S.sorts inside.old.order) (with_top inside.old lying) (λ by rest.
-        OnOk result (MovesTo (D.state disk.old) (S.sorts inside.old.order) by rest (D.state disk.new) inside.new)) }
+    ensures moves { WithUnread inside.old (Some folder) (λ before.
+        ByEachRest D.tells S.compares_by (D.state disk.old) (S.sorts inside.old.order) before (λ by rest.
+        OnOk result (MovesTo (D.state disk.old) (S.sorts inside.old.order) by rest (D.state disk.new) inside.new))) }
     ensures sound { OnOk result (IsSound (D.state disk.new) (S.sorts inside.new.order) inside.new) }
-    ensures keeps { (lying : level.Level) → LiesUnread lying (Some folder)
-        → KeepsWalk (D.state disk.old) (with_top inside.old lying) (D.state disk.new) inside.new }
+    ensures keeps { WithUnread inside.old (Some folder) (λ before. KeepsWalk (D.state disk.old) before (D.state disk.new) inside.new) }
     ensures counted { (IsTrue D.tells → folder.depth < inside.old.options.max_depth → IsSome (directory_of (D.state disk.old).tree folder.path))
         → OnOk result (CountsFaults 0 (D.state disk.old) inside.old.stack.items (D.state disk.new) (levels_of inside.new)) }
     ensures listed_each { OnOk result (GivesListed 0 (D.state disk.old) inside.old.stack.items (D.state disk.new) (levels_of inside.new)) }
@@ -133,8 +131,8 @@ fn read_whole<D: Disk, S: Order>(
         → IsToList (D.state disk.old).tree inside.old.options.max_depth (Some folder) Unread count
         → ¬ HasRisen (D.state disk.old).faults (D.state disk.new).faults
         → OnOk result ((D.state disk.new).listed ≡ (D.state disk.old).listed + count) }
-    ensures less { (lying : level.Level) → LiesUnread lying (Some folder)
-        → OnOk result (left_to_do (D.state disk.new) inside.new < left_to_do (D.state disk.old) (with_top inside.old lying)) }
+    ensures less { WithUnread inside.old (Some folder) (λ before.
+        OnOk result (left_to_do (D.state disk.new) inside.new < left_to_do (D.state disk.old) before)) }
 {
     let mut faults = Vec::new(inside.alloc);
     let entries = read_folder(
@@ -167,19 +165,18 @@ fn open_level<D: Disk, S: Order>(
     requires shallow { folder.depth < inside.old.options.max_depth }
     requires countable { folder.depth + 1 < 2 ^ 64 }
     requires room { opens inside.old.stack.items < open_limit inside.old.options }
-    ensures moves { (lying : level.Level) → LiesUnread lying (Some folder)
-        → ByEachRest D.tells S.compares_by (D.state disk.old) (S.sorts inside.old.order) (with_top inside.old lying) (λ by rest.
-        OnOk result (MovesTo (D.state disk.old) (S.sorts inside.old.order) by rest (D.state disk.new) inside.new)) }
+    ensures moves { WithUnread inside.old (Some folder) (λ before.
+        ByEachRest D.tells S.compares_by (D.state disk.old) (S.sorts inside.old.order) before (λ by rest.
+        OnOk result (MovesTo (D.state disk.old) (S.sorts inside.old.order) by rest (D.state disk.new) inside.new))) }
     ensures sound { OnOk result (IsSound (D.state disk.new) (S.sorts inside.new.order) inside.new) }
-    ensures keeps { (lying : level.Level) → LiesUnread lying (Some folder)
-        → KeepsWalk (D.state disk.old) (with_top inside.old lying) (D.state disk.new) inside.new }
+    ensures keeps { WithUnread inside.old (Some folder) (λ before. KeepsWalk (D.state disk.old) before (D.state disk.new) inside.new) }
     ensures counted { (IsTrue D.tells → IsSome (directory_of (D.state disk.old).tree folder.path))
         → OnOk result (CountsFaults 0 (D.state disk.old) inside.old.stack.items (D.state disk.new) (levels_of inside.new)) }
     ensures listed_each { OnOk result (GivesListed 0 (D.state disk.old) inside.old.stack.items (D.state disk.new) (levels_of inside.new)) }
     ensures settled { OnOk result (IsTopSettled inside.old.options.max_depth inside.new.top) }
     ensures unlisted { (D.state disk.new).listed ≡ (D.state disk.old).listed }
-    ensures less { (lying : level.Level) → LiesUnread lying (Some folder)
-        → OnOk result (left_to_do (D.state disk.new) inside.new < left_to_do (D.state disk.old) (with_top inside.old lying)) }
+    ensures less { WithUnread inside.old (Some folder) (λ before.
+        OnOk result (left_to_do (D.state disk.new) inside.new < left_to_do (D.state disk.old) before)) }
 {
     let mut faults = Vec::new(inside.alloc);
     let entries = open_list(inside.alloc, disk, &folder, &mut faults)?;

@@ -50,7 +50,7 @@ fn answered(
     }
 }
 
-/// Takes some items of a walk, and closes it.
+/// Takes some items of a walk, and closes it: after an even number for good, else its lists alone.
 fn close_after<W: Walk + Drop>(walk: W, items: u64)
     requires can { W.can_next walk }
     requires ends { IsFinite (W.remaining walk) }
@@ -59,7 +59,11 @@ fn close_after<W: Walk + Drop>(walk: W, items: u64)
     for _taken in 0..items {
         let _item = walk.next();
     }
-    walk.close();
+    if items % 2 == 0 {
+        walk.close();
+    } else {
+        walk.close_lists();
+    }
 }
 
 /// Takes some items with so many lists open at most, and closes the walk.

@@ -80,6 +80,8 @@ impl<W: Walk + Drop, P: Fn(&DirEntry) -> bool + Drop> Walk for FilterEntry<W, P>
 
     ghost has_entered = { λ s. W.has_entered s.walk };
 
+    ghost closes = { λ s t. (t.predicate ≡ s.predicate) × W.closes s.walk t.walk };
+
     ghost goes_on = { λ old answer new can ends gives.
         let on = filters_go_on (λ walk. W.can_next walk × IsFinite (W.remaining walk)) (λ a given b may now. W.goes_on a given b may.0 may.1 now)
         (λ a b may now. W.skips_on a b may.0 may.1 now) old.walk answer new.walk (can.0, can.1) gives.1 in
@@ -97,6 +99,10 @@ impl<W: Walk + Drop, P: Fn(&DirEntry) -> bool + Drop> Walk for FilterEntry<W, P>
 
     fn just_entered(&self) -> bool {
         self.walk.just_entered()
+    }
+
+    fn close_lists(&mut self) {
+        self.walk.close_lists();
     }
 
     fn close(self) {

@@ -181,6 +181,9 @@ impl<'d, D: Disk, S: Order + Drop> Walk for IntoIter<'d, D, S, Inside<S>> {
 
     ghost has_entered = { λ s. s.gave_directory && lies_unread s.inside.top };
 
+    ghost closes = { λ s t. (t.disk.ghost_name ≡ s.disk.ghost_name) × (levels_of t.inside ≡ [])
+        × ClosesAll (D.state s.disk.now) (levels_of s.inside) (D.state t.disk.now) };
+
     ghost goes_on = { λ old answer new can ends gives.
         let sound = still_sound S.sorts (D.state new.disk.now) old.inside new.inside gives.1.same gives.1.sound in
         let compares = still_compares S.can_compare old.inside new.inside gives.1.same can.1 in
@@ -201,17 +204,15 @@ impl<'d, D: Disk, S: Order + Drop> Walk for IntoIter<'d, D, S, Inside<S>> {
         self.gave_directory && lies_unread(&self.inside.top)
     }
 
+    fn close_lists(&mut self) {
+        give_up(self.disk, &mut self.inside);
+    }
+
     fn close(self)
         requires { AreSound (D.state self.disk.now) (levels_of self.inside) }
         ensures { ClosesAll (D.state self.entry.disk.now) (levels_of self.entry.inside) (D.state self.exit.0.now) }
     {
-        let IntoIter {
-            disk,
-            inside,
-            gave_directory: _gave_directory,
-            order: _order,
-        } = self;
-        close_all(disk, inside);
+        self.close();
     }
 }
 

@@ -14,6 +14,9 @@ pub trait Walk: Iterator<Item = Result<DirEntry, Error>> {
     /// The last item was an entry of kind `Directory` that was entered and not left since.
     ghost has_entered: { Self → Bool };
 
+    /// What closing the lists does.
+    ghost closes: { Self → Self → Type 0 };
+
     /// Leaves the directory that was entered last, with all that is due of it. Does nothing where only the root stands.
     fn skip_current_dir(&mut self)
         requires can { Self.can_next self.old }
@@ -28,7 +31,13 @@ pub trait Walk: Iterator<Item = Result<DirEntry, Error>> {
     fn just_entered(&self) -> bool
         ensures { result ≡ has_entered self.now };
 
-    /// Closes every list that it holds.
+    /// Closes every list that it holds, and ends it.
+    fn close_lists(&mut self)
+        requires { Self.can_next self.old }
+        ensures { closes self.old self.new };
+
+    /// The same, and lets the walk go. What a value of a type that isn't known leaves behind its references, no clause can say once it is let go:
+    /// `close_lists` says it.
     fn close(self)
     where
         Self: Sized,

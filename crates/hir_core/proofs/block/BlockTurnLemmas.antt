@@ -11,7 +11,8 @@ use Rattle.hir_tree.specs.Runs.{Run, moved, is_seen, byte_size, char_size, first
 use Rattle.hir_tree.specs.RunsLaws.{forget}
 use Rattle.hir_tree.proofs.ListLemmas.{All-append}
 use Rattle.hir_tree.proofs.RunsLemmas.{TakesWithin, byte_size-within, char_size-within}
-use Rattle.hir_core.specs.Blocks.{mark_of, trying, GivesWayTo, AreSpent}
+use Rattle.hir_core.specs.Blocks.{mark_of, trying, AreSpent}
+use Rattle.hir_core.specs.Masks.{IsDead}
 use Rattle.hir_core.specs.Pass.{first_of, some_run, taken, leads, leads_on, comes, keeps, was_visited, visiting, stop_gives, stops_give, fresh}
 use Rattle.hir_core.specs.Program.{spot_at, is_unmarked, way, marked, closed, follow, gives, ClosesFall}
 use Rattle.hir_core.specs.Trails.{Stop}
@@ -21,6 +22,7 @@ use Rattle.hir_core.proofs.PlacedLemmas.{gives-at, gives-close}
 use Rattle.hir_core.proofs.closure.ClosureLemmas.{Entry, entry, seen_by, nonempty, pend, Children, Covers, Covers-seen}
 use Rattle.hir_core.proofs.closure.TurnLemmas.{led_to, bare, cons_not_nil, cons_head, cons_tail, led_bare, led_children, taken_gives, gives_fail, some_run-nonempty, visited_again}
 use Rattle.hir_core.proofs.pass.PassLemmas.{Stands-dropped, Stands-led, Stands-kept, Stands-closed, gives_fresh, nowhere}
+use Rattle.hir_core.proofs.scan.ScanLemmas.{gives-dead}
 use Rattle.hir_core.proofs.block.LevelLemmas.{place, level, AllAt}
 use Rattle.hir_core.proofs.block.BlockLemmas.{Blocking, top-level, replaced, dropped-done, kept-later, moved-on, blocking-match, blocking-begin, blocking-end}
 use Rattle.hir_core.proofs.block.MarkLemmas.{adding, adding-here, adding-elsewhere, AreMarks, AreMarks-adding, AreMarks-tried, tried_by, tried-is}
@@ -29,6 +31,15 @@ module _ (text : List ℕ) (spots : List Spot) (falls : ClosesFall spots) (begin
   -- entries past the block have seen nothing
   abbrev pub Outside : List Entry → Type 0
   Outside es = AllByRecursion (λ (e : Entry). end ≤ place e → seen_by e ≡ []) es
+
+  -- others come in the place of a stop, all of them
+  abbrev pub GivesAllWayTo : Stop → List Bool → List Bool → List Stop → List Stop → Type 0
+  GivesAllWayTo p marks marks' stack stack' =
+      let s = spot_at spots p.0 in
+      let tried = was_visited marks (mark_of (length spots) begin p.1.run.at p.0) in
+      (stack' ≡ (comes text s tried p.1 ++ keeps text s tried p.1) ++ stack)
+      × (marks' ≡ trying text spots begin p.1.run.at p.0 marks)
+      × ((s ≡ spot.Match) → ⊥)
 
   -- What the search of a block keeps true.
   pub record Searching (goal : Option Run) (marks : List Bool) (kept stack : List Stop) : Type 0 where
@@ -272,18 +283,33 @@ module _ (text : List ℕ) (spots : List Spot) (falls : ClosesFall spots) (begin
     -- one turn
     pub Searching-turn : (marks' : List Bool) (stack' : List Stop) → begin ≤ p.1.run.at → p.1.run.at < end
         → (p.0 < length spots → mark_of (length spots) begin p.1.run.at p.0 < length marks)
-        → Searching goal marks kept (p ∷ rest) → GivesWayTo text spots begin p marks marks' rest stack' → Searching goal marks' kept stack'
+        → Searching goal marks kept (p ∷ rest) → GivesAllWayTo p marks marks' rest stack' → Searching goal marks' kept stack'
     Searching-turn marks' stack' from to room c turned =
         let a = apart c in
         let e = a.1 in
-        let now : GivesWayTo text spots begin (bare e) marks marks' (map bare a.2) stack' =
-        subst (λ r. GivesWayTo text spots begin (bare e) marks marks' r stack') (sym a.5) (subst (λ q. GivesWayTo text spots begin q marks marks' rest stack') (sym a.4) turned) in
+        let now : GivesAllWayTo (bare e) marks marks' (map bare a.2) stack' =
+        subst (λ r. GivesAllWayTo (bare e) marks marks' r stack') (sym a.5) (subst (λ q. GivesAllWayTo q marks marks' rest stack') (sym a.4) turned) in
         subst (λ bs. Searching goal bs kept stack') (sym now.1)
         (subst (λ st. Searching goal (trying text spots begin (place e) e.spot marks) kept st) (sym now.0)
         (turn_entry goal marks kept a.0 e a.2 a.3 a.6.1 a.7 (subst (λ (q : Stop). begin ≤ q.1.run.at) (sym a.4) from)
         (subst (λ (q : Stop). q.1.run.at < end) (sym a.4) to)
         (subst (λ (q : Stop). q.0 < length spots → mark_of (length spots) begin q.1.run.at q.0 < length marks) (sym a.4) room)
         (was_visited marks (mark_of (length spots) begin (place e) e.spot)) refl now.2))
+
+    -- one at a dead spot is left out
+    pub Searching-dead : IsDead text spots p.1.run.at p.0 → Searching goal marks kept (p ∷ rest) → Searching goal marks kept rest
+    Searching-dead dead c =
+        let a = apart c in
+        record {
+          tried = a.0;
+          entries = a.2;
+          are_marks = a.3;
+          are_stack = a.5;
+          outside = a.6.1;
+          blocking =
+              drop_entry goal marks kept a.0 a.1 a.2 a.3 a.6.1 a.7
+              (gives-dead text spots (place a.1) a.1.spot a.1.way refl (subst (λ (q : Stop). IsDead text spots q.1.run.at q.0) (sym a.4) dead));
+        }
 
     -- a thread that goes on past the block is kept
     pub Searching-kept : end ≤ p.1.run.at → Searching goal marks kept (p ∷ rest) → Searching goal marks (kept ++ p ∷ []) rest

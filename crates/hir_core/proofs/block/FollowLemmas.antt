@@ -9,15 +9,15 @@ use Rattle.hir_tree.specs.Looks.{holds}
 use Rattle.hir_tree.specs.Runs.{Run, byte_size, char_size}
 use Rattle.hir_tree.specs.RunsLaws.{forget}
 use Rattle.hir_tree.proofs.ListLemmas.{All-append, All-weaker}
-use Rattle.hir_core.specs.Blocks.{mark_of, trying, GivesWayTo, AreSpent}
+use Rattle.hir_core.specs.Blocks.{mark_of, trying, AreLeft, GivesWayTo, AreSpent, KeepsMarks}
 use Rattle.hir_core.specs.Pass.{AllFrom, first_of, some_run, taken, leads, leads_on, comes, keeps, was_visited, visiting, stop_gives, stops_give}
-use Rattle.hir_core.specs.Program.{spot_at, tie, Way, closed, ClosesFall}
+use Rattle.hir_core.specs.Program.{spot_at, is_unmarked, tie, Way, closed, ClosesFall}
 use Rattle.hir_core.specs.Trails.{Stop}
 use Rattle.hir_core.specs.declared.spot.Spot.{Spot}
 use Rattle.hir_core.specs.declared.spot.Spot.TheVariants as spot
 use Rattle.hir_core.proofs.closure.TurnLemmas.{visited_again, unset_bits, stack_weight, turn_weight, less_bits, same_bits, tie_within, keeps_later, length-visiting}
-use Rattle.hir_core.proofs.block.MarkLemmas.{mark-within}
-use Rattle.hir_core.proofs.block.BlockTurnLemmas.{Searching, Searching-turn, Searching-kept, Searching-match, Searching-begin, Searching-end}
+use Rattle.hir_core.proofs.block.MarkLemmas.{mark-within, set_stays}
+use Rattle.hir_core.proofs.block.BlockTurnLemmas.{Searching, Searching-turn, Searching-dead, Searching-kept, Searching-match, Searching-begin, Searching-end}
 
 -- What the loop over the stack of a block keeps true.
 abbrev pub FollowsIn : List ℕ → List Spot → ℕ → ℕ → Option Run → List Bool → List Stop → List Stop → Type 0
@@ -148,6 +148,43 @@ module _ (text : List ℕ) (spots : List Spot) where
       cases true = length-visiting (spot_at spots q) (mark_of (length spots) begin at q) marks
       cases false = refl
 
+  -- a turn keeps the marks that are set
+  pub keeps-trying : (begin at q : ℕ) (marks : List Bool) → KeepsMarks marks (trying text spots begin at q marks)
+  keeps-trying begin at q marks = record { room = length-trying begin at q marks; stay = in_program (nat_lt q (length spots)) }
+    where
+      new : ℕ
+      new = mark_of (length spots) begin at q
+
+      of_spot : (unmarked : Bool) (mark : ℕ) → was_visited marks mark ≡ true → was_visited (if unmarked then marks else slice_set marks new true) mark ≡ true
+      of_spot true mark is = is
+      of_spot false mark is = set_stays marks new mark is
+
+      in_program : (b : Bool) (mark : ℕ) → was_visited marks mark ≡ true
+          → was_visited (if b then visiting (spot_at spots q) new marks else marks) mark ≡ true
+      in_program true mark is = of_spot (is_unmarked (spot_at spots q)) mark is
+      in_program false mark is = is
+
+module _ (text : List ℕ) (spots : List Spot) (begin : ℕ) (all left : List Stop) (cut : AreLeft text spots begin all left) where
+  -- what is left goes on
+  FollowsIn-left : (end : ℕ) (goal : Option Run) (marks : List Bool) (kept : List Stop) → FollowsIn text spots begin end goal marks kept all
+      → FollowsIn text spots begin end goal marks kept left
+  FollowsIn-left end goal marks kept h = elim cut [
+    | inl same ↦ subst (λ ps. FollowsIn text spots begin end goal marks kept ps) (sym same) h
+    | inr first ↦
+        let now : FollowsIn text spots begin end goal marks kept (first.0 ∷ left) = subst (λ ps. FollowsIn text spots begin end goal marks kept ps) first.1 h in
+        (now.0, Searching-dead text spots now.0 begin end goal marks kept left first.0 first.2 now.1, now.2.1, now.3)
+  ]
+
+  -- and is no heavier
+  weight-left : (marks : List Bool) → turn_weight text spots marks left ≤ turn_weight text spots marks all
+  weight-left marks = elim cut [
+    | inl same ↦ let k : turn_weight text spots marks left ≡ turn_weight text spots marks all = ap (λ ps. turn_weight text spots marks ps) same in omega arith
+    | inr first ↦
+        let k : turn_weight text spots marks all ≡ turn_weight text spots marks (first.0 ∷ left) = ap (λ ps. turn_weight text spots marks ps) first.1 in
+        let less : turn_weight text spots marks left < turn_weight text spots marks (first.0 ∷ left) = omega arith in
+        omega arith
+  ]
+
 -- with the first of the stack apart
 module _ (text : List ℕ) (spots : List Spot) (begin end : ℕ) (goal : Option Run) (marks : List Bool) (kept rest stack : List Stop) (p : Stop)
     (e : stack ≡ p ∷ rest) (h : FollowsIn text spots begin end goal marks kept stack) where
@@ -160,21 +197,26 @@ module _ (text : List ℕ) (spots : List Spot) (begin end : ℕ) (goal : Option 
   pub FollowsIn-at : (begin ≤ p.1.run.at) × (p.1.run.at ≤ length text)
   FollowsIn-at = from.0
 
+  -- all that comes in its place
+  abbrev all : List Stop
+  all =
+      (comes text (spot_at spots p.0) (was_visited marks (mark_of (length spots) begin p.1.run.at p.0)) p.1
+      ++ keeps text (spot_at spots p.0) (was_visited marks (mark_of (length spots) begin p.1.run.at p.0)) p.1) ++ rest
+
   -- a turn of it
   pub FollowsIn-turn : (marks' : List Bool) (stack' : List Stop) → HasRoom spots begin end marks → p.1.run.at < end
       → GivesWayTo text spots begin p marks marks' rest stack' → FollowsIn text spots begin end goal marks' kept stack'
-  FollowsIn-turn marks' stack' room to turned = (
+  FollowsIn-turn marks' stack' room to turned = FollowsIn-left text spots begin all stack' turned.0 end goal marks' kept (
     h.0,
-    Searching-turn text spots h.0 begin end goal marks kept rest p marks' stack' from.0.0 to
-        (λ few. mark-within (length spots) begin end p.1.run.at p.0 (length marks) room from.0.0 to few) searching turned,
-    subst (AllFrom text begin) (sym turned.0)
-        (All-append (λ (x : Stop). (begin ≤ x.1.run.at) × (x.1.run.at ≤ length text))
+    Searching-turn text spots h.0 begin end goal marks kept rest p marks' all from.0.0 to
+        (λ few. mark-within (length spots) begin end p.1.run.at p.0 (length marks) room from.0.0 to few) searching (refl, turned.1, turned.2),
+    All-append (λ (x : Stop). (begin ≤ x.1.run.at) × (x.1.run.at ≤ length text))
         (comes text (spot_at spots p.0) (was_visited marks (mark_of (length spots) begin p.1.run.at p.0)) p.1
         ++ keeps text (spot_at spots p.0) (was_visited marks (mark_of (length spots) begin p.1.run.at p.0)) p.1) rest
         (All-append (λ (x : Stop). (begin ≤ x.1.run.at) × (x.1.run.at ≤ length text))
         (comes text (spot_at spots p.0) (was_visited marks (mark_of (length spots) begin p.1.run.at p.0)) p.1)
         (keeps text (spot_at spots p.0) (was_visited marks (mark_of (length spots) begin p.1.run.at p.0)) p.1)
-        (comes_from text begin (spot_at spots p.0) _ p.1 from.0.0 from.0.1) (keeps_from text begin (spot_at spots p.0) _ p.1 from.0.0)) from.1),
+        (comes_from text begin (spot_at spots p.0) _ p.1 from.0.0 from.0.1) (keeps_from text begin (spot_at spots p.0) _ p.1 from.0.0)) from.1,
     h.3,
   )
 
@@ -182,11 +224,13 @@ module _ (text : List ℕ) (spots : List Spot) (begin end : ℕ) (goal : Option 
   pub FollowsIn-falls : (marks' : List Bool) (stack' : List Stop) → HasRoom spots begin end marks → p.1.run.at < end
       → GivesWayTo text spots begin p marks marks' rest stack' → turn_weight text spots marks' stack' < turn_weight text spots marks stack
   FollowsIn-falls marks' stack' room to turned =
-      let less : turn_weight text spots marks' stack' < turn_weight text spots marks (p ∷ rest) =
-      rw (turned.1, turned.0) (turn_weight_falls text spots h.0 begin marks rest p.0 p.1
+      let less : turn_weight text spots marks' all < turn_weight text spots marks (p ∷ rest) =
+      rw turned.1 (turn_weight_falls text spots h.0 begin marks rest p.0 p.1
       (λ few. mark-within (length spots) begin end p.1.run.at p.0 (length marks) room from.0.0 to few)
       (was_visited marks (mark_of (length spots) begin p.1.run.at p.0)) refl turned.2) in
-      subst (λ ps. turn_weight text spots marks' stack' < turn_weight text spots marks ps) (sym e) less
+      let no_more : turn_weight text spots marks' stack' ≤ turn_weight text spots marks' all = weight-left text spots begin all stack' turned.0 marks' in
+      let fewer : turn_weight text spots marks' stack' < turn_weight text spots marks (p ∷ rest) = omega arith in
+      subst (λ ps. turn_weight text spots marks' stack' < turn_weight text spots marks ps) (sym e) fewer
 
   -- it is kept for a later block
   pub FollowsIn-kept : (kept' stack' : List Stop) → kept' ≡ kept ++ p ∷ [] → stack' ≡ rest → end ≤ p.1.run.at

@@ -6,7 +6,25 @@ use Rattle.std.proofs.lemmas.Bool.{cases_lt, cases_eq, or_left, ne_eqb, lt-ltb, 
 use Rattle.std.proofs.lemmas.List.{get_or-set_same, get_or-set_other, get_or_past}
 use Rattle.hir_tree.specs.Runs.{is_seen}
 use Rattle.hir_core.specs.Pass.{was_visited}
-use Rattle.hir_core.specs.Blocks.{mark_of, was_tried}
+use Rattle.hir_core.specs.Blocks.{mark_of, was_tried, KeepsMarks}
+use Rattle.hir_core.proofs.closure.TurnLemmas.{visited_again}
+
+-- ---- marks that stay
+
+pub KeepsMarks-none : (marks : List Bool) → KeepsMarks marks marks
+KeepsMarks-none marks = record { room = refl; stay = λ mark is. is }
+
+pub KeepsMarks-then : {old now new : List Bool} → KeepsMarks old now → KeepsMarks now new → KeepsMarks old new
+KeepsMarks-then first more = record { room = more.room ∙ first.room; stay = λ mark is. more.stay mark (first.stay mark is) }
+
+-- a mark that is set stays so where one is set
+pub set_stays : (marks : List Bool) (q mark : ℕ) → was_visited marks mark ≡ true → was_visited (slice_set marks q true) mark ≡ true
+set_stays marks q mark is = elim (cases_eq mark q) [
+  | inl same ↦ ap (λ bits. was_visited bits mark) (visited_again marks q (ap (was_visited marks) (sym same) ∙ is)) ∙ is
+  | inr another ↦ get_or-set_other marks q mark true false another ∙ is
+]
+
+-- ---- rows of marks
 
 -- a row more
 row_more : (i j n : ℕ) → i < j → i * n + n ≤ j * n

@@ -1,11 +1,11 @@
 -- What a filter has looked at of a text.
-use Rattle.std.proofs.Common.{◌≡◌, ℕ, ◌+◌, ◌*◌, ◌/◌, ◌%◌, ◌^◌, ◌<◌, ◌≤◌, Bool, true, false, ◌⊎◌, inl, inr, List, Option, length, slice_index, slice_index_or, bit_and, refl, sym, subst, arith}
+use Rattle.std.proofs.Common.{◌≡◌, ℕ, suc, ◌+◌, ◌*◌, ◌/◌, ◌%◌, ◌^◌, ◌<◌, ◌≤◌, Bool, true, false, ◌⊎◌, inl, inr, List, [], Option, length, slice_index, slice_index_or, bit_and, refl, sym, subst, arith}
 use Rattle.std.proofs.lemmas.Bool.{cases_lt}
 use Rattle.std.proofs.lemmas.Nat.{pow_below}
 use Rattle.std.proofs.lemmas.Nat.Bits.{bit_at-pow_same}
 use Rattle.std.proofs.lemmas.Option.{slice_get_read, get_or_from_slice_get}
 use Rattle.hir_tree.specs.declared.look.Look.{Look}
-use Rattle.hir_core.specs.Program.{spot_at}
+use Rattle.hir_core.specs.Program.{Way, gives, rank, spot_at}
 use Rattle.hir_core.specs.Masks.{HasBit, IsPart, match_bit, sure_bit, row_place, next_of, is_wide, Covers, IsMoved, IsDead, AreDead, NoRun}
 use Rattle.hir_core.specs.Scan.{IsFilterOf, Looked, NoEnd, NoneBegins}
 use Rattle.hir_core.specs.declared.spot.Spot.{Spot}
@@ -81,6 +81,18 @@ module _ (text : List ℕ) (spots : List Spot) (s : Scan) (filter : IsFilterOf s
         (λ k sized. let size = spot_size-within text spots (spot_at spots (slice_index s.of.items i)) at k sized in absurd (omega (arith, size.0, size.1)));
   }
 
+  abbrev taker : ℕ → Spot
+  taker i = spot_at spots (slice_index s.of.items i)
+
+  -- no spot of a mask takes a character beyond ASCII that begins with the byte
+  narrow_at : (byte mask : ℕ) → (byte < 128) ⊎ (bit_and mask s.wide ≡ 0) → (i : ℕ) → i < length s.of.items → HasBit mask i
+      → (byte < 128) ⊎ (is_wide (taker i) ≡ false)
+  narrow_at byte mask narrow i lt has = elim narrow [ inl low ↦ inl low | inr nothing ↦ inr (cases (is_wide (taker i)) refl nothing) ]
+    where
+      cases : (b : Bool) → is_wide (taker i) ≡ b → bit_and mask s.wide ≡ 0 → b ≡ false
+      cases false e nothing = refl
+      cases true e nothing = absurd (HasBit-none i (subst (λ (m : ℕ). HasBit m i) nothing (HasBit-and mask s.wide i has (filter.wide i lt e))))
+
   -- the spots that were tried are dead, if those are that may be tried next
   AreDead-before : (place state tried next mask : ℕ) → Steps text s place state tried next → AreDead text spots s.of.items s.last_look (place + 1) next
       → NoEnd text place s.last_look mask → IsPart mask tried → AreDead text spots s.of.items s.last_look place mask
@@ -90,7 +102,7 @@ module _ (text : List ℕ) (spots : List Spot) (s : Scan) (filter : IsFilterOf s
     dead = λ i lt has.
         IsDead-taker text spots place (slice_index s.of.items i) (taker i) refl (filter.takers i lt)
         (λ k sized.
-        let one = one_byte text spots (taker i) place k (narrow i lt (part i has)) sized in
+        let one = one_byte text spots (taker i) place k (narrow_at byte tried steps.narrow i lt (part i has)) sized in
         let live_bit = HasBit-and tried (slice_index s.takes.items byte) i (part i has) (filter.takes i byte lt steps.byte one.1) in
         subst (λ (j : ℕ). IsDead text spots (place + j) (next_of (taker i))) (sym one.0)
         (steps.follows spots filter i lt live_bit text (place + 1) later));
@@ -99,15 +111,28 @@ module _ (text : List ℕ) (spots : List Spot) (s : Scan) (filter : IsFilterOf s
       byte : ℕ
       byte = slice_index text place
 
-      taker : ℕ → Spot
-      taker i = spot_at spots (slice_index s.of.items i)
+  -- they are dead where none takes the byte
+  AreDead-by : (place mask : ℕ) → slice_index text place < 256 → NoEnd text place s.last_look mask
+      → (slice_index text place < 128) ⊎ (bit_and mask s.wide ≡ 0) → bit_and mask (slice_index s.takes.items (slice_index text place)) ≡ 0
+      → AreDead text spots s.of.items s.last_look place mask
+  AreDead-by place mask small none narrow nothing = record {
+    unmatched = none.0;
+    asked = none.1;
+    dead = λ i lt has.
+        IsDead-taker text spots place (slice_index s.of.items i) (taker i) refl (filter.takers i lt)
+        (λ k sized.
+        let one = one_byte text spots (taker i) place k (narrow_at byte mask narrow i lt has) sized in
+        absurd (HasBit-none i (subst (λ (m : ℕ). HasBit m i) nothing
+        (HasBit-and mask (slice_index s.takes.items byte) i has (filter.takes i byte lt small one.1)))));
+  }
+    where
+      byte : ℕ
+      byte = slice_index text place
 
-      narrow : (i : ℕ) → i < length s.of.items → HasBit tried i → (slice_index text place < 128) ⊎ (is_wide (taker i) ≡ false)
-      narrow i lt has = elim steps.narrow [ inl low ↦ inl low | inr nothing ↦ inr (cases (is_wide (taker i)) refl nothing) ]
-        where
-          cases : (b : Bool) → is_wide (taker i) ≡ b → bit_and tried s.wide ≡ 0 → b ≡ false
-          cases false e nothing = refl
-          cases true e nothing = absurd (HasBit-none i (subst (λ (m : ℕ). HasBit m i) nothing (HasBit-and tried s.wide i has (filter.wide i lt e))))
+-- a dead spot gives nothing
+pub gives-dead : (text : List ℕ) (spots : List Spot) (at q : ℕ) (w : Way) → w.run.at ≡ at → IsDead text spots at q → gives text spots q w ≡ []
+unfolding gives
+gives-dead text spots at q w here dead = dead (suc (rank text spots q w)) w here
 
 -- no match ends where there is no bit for it
 pub NoEnd-small : (text : List ℕ) (at : ℕ) (look : Option Look) (mask : ℕ) → mask < 2 ^ 62 → NoEnd text at look mask
@@ -120,19 +145,22 @@ module _ (text : List ℕ) (s : Scan) where
       → NoneBegins text s place (place + 1)
   NoneBegins-by place more byte small narrow nothing spots filter q low high =
       subst (λ (p : ℕ). IsDead text spots p 0) (let here : place ≡ q = omega arith in here)
-      (filter.start text place
-      (AreDead-before text spots s filter place s.start s.start 0 s.start steps (AreDead-none text spots s.of.items s.last_look (place + 1))
-      (NoEnd-small text place s.last_look s.start small) (λ i has. has)))
-    where
-      steps : Steps text s place s.start s.start 0
-      steps = record {
-        more = more;
-        byte = byte;
-        kept = λ i has. has;
-        begun = inl (λ i has. has);
-        narrow = narrow;
-        follows = λ spots filter i lt has. absurd (HasBit-none i (subst (λ (m : ℕ). HasBit m i) nothing has));
-      }
+      (filter.start text place (AreDead-by text spots s filter place s.start byte (NoEnd-small text place s.last_look s.start small) narrow nothing))
+
+  -- no way goes on from a spot where none of its mask takes the byte
+  pub IsDead-by : (q place mask : ℕ) → q < length s.firsts.items → mask ≡ slice_index s.firsts.items q → slice_index text place < 256
+      → NoEnd text place s.last_look mask → (slice_index text place < 128) ⊎ (bit_and mask s.wide ≡ 0)
+      → bit_and mask (slice_index s.takes.items (slice_index text place)) ≡ 0 → (spots : List Spot) → IsFilterOf spots s → IsDead text spots place q
+  IsDead-by q place mask few same small none narrow nothing spots filter =
+      filter.firsts q few text place
+      (subst (AreDead text spots s.of.items s.last_look place) same (AreDead-by text spots s filter place mask small none narrow nothing))
+
+  -- nor at the end of the text
+  pub IsDead-end : (q place mask : ℕ) → q < length s.firsts.items → mask ≡ slice_index s.firsts.items q → length text ≤ place
+      → NoEnd text place s.last_look mask → (spots : List Spot) → IsFilterOf spots s → IsDead text spots place q
+  IsDead-end q place mask few same past none spots filter =
+      filter.firsts q few text place
+      (subst (AreDead text spots s.of.items s.last_look place) same (AreDead-end text spots s filter mask place past none))
 
   -- more places
   pub NoneBegins-more : (from mid until : ℕ) → NoneBegins text s from mid → NoneBegins text s mid until → NoneBegins text s from until

@@ -2,10 +2,11 @@
 
 ghost use Rattle.std.specs.Prelude.{◌≡◌, ◌+◌, ◌*◌, ◌/◌, ◌%◌, ◌<◌, ◌≤◌, ◌++◌, ℕ, true, length, slice_index, slice_set, vec_len, IfOk};
 ghost use Rattle.hir_core.specs.Program.{spot_at};
-ghost use Rattle.hir_core.specs.Masks.{HasBit, IsPart, Asks, AllAsk, IsClosed, Covers, CoversBeside, AreAllTakers, SaysWhatFollows, is_reached, new_ways, ways_on, next_of};
+ghost use Rattle.hir_core.specs.Masks.{HasBit, IsPart, Asks, AllAsk, IsClosed, Covers, CoversBeside, AreAllTakers, SaysWhatFollows, CoverTheirSpots, is_reached, new_ways, ways_on, next_of};
 ghost use Rattle.hir_core.specs.declared.spot.Spot.TheVariants as spot;
 
 use crate::Look;
+use crate::blocks::SPOTS;
 use crate::scan::bits::{ROWS, SURE, add_to_row, masks, with_bit};
 use crate::spot::Spot;
 use sd_base::NoMemory;
@@ -191,4 +192,25 @@ pub fn after(
         add_to_row(&mut after, i / 8, i % 8, mask);
     }
     Ok(after)
+}
+
+/// For each spot, the bits of the spots that may be tried at it, as [`mask_from`] says; none where a program has too many spots to be
+/// searched block by block. Refuses for want of memory alone.
+pub fn firsts(
+    alloc: Global,
+    spots: &[Spot],
+    of: &[usize],
+    look: Option<Look>,
+) -> Result<Vec<u64>, NoMemory>
+    requires few { length of.now ≤ 62 }
+    requires all { AreAllTakers spots.now of.now }
+    ensures { IfOk result (λ firsts. CoverTheirSpots spots.now of.now look firsts.items) }
+{
+    let count = if spots.len() > SPOTS { 0 } else { spots.len() };
+    let mut firsts = Vec::new(alloc);
+    for place in 0..count {
+        let mask = mask_from(alloc, spots, of, place, look)?;
+        firsts.push(mask)?;
+    }
+    Ok(firsts)
 }

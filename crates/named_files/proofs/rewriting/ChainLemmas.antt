@@ -11,10 +11,10 @@ use Rattle.file_rewrite.specs.Paths.{IsNoPath}
 use Rattle.file_rewrite.specs.OneFile.{RewritesFile, LeavesFile, HasFileCause, IsNewAt, IsChangedAt, IsFreeBy}
 use Rattle.file_rewrite.specs.declared.fault.JobFault.{JobFault}
 use Rattle.file_rewrite.specs.declared.fault.JobFault.TheVariants as job
-use Rattle.tree_rewrite.specs.Jobs.{Job, failed_of, end_of, HaveCauses}
-use Rattle.tree_rewrite.specs.declared.jobs.FailedJobs.{FailedJobs}
-use Rattle.tree_rewrite.specs.declared.fault.FilesFault.{FilesFault}
-use Rattle.tree_rewrite.specs.declared.fault.FilesFault.TheVariants as fault
+use Rattle.many_files.specs.Jobs.{Job, failed_of, end_of, HaveCauses}
+use Rattle.many_files.specs.declared.jobs.FailedJobs.{FailedJobs}
+use Rattle.many_files.specs.declared.fault.FilesFault.{FilesFault}
+use Rattle.many_files.specs.declared.fault.FilesFault.TheVariants as fault
 use Rattle.named_files.specs.OneFile.{OneEnd, ReplacesOne}
 use Rattle.named_files.proofs.rewriting.CauseLemmas.{HaveCausesSoFar}
 use Rattle.named_files.proofs.rewriting.CrowdLemmas.{AreCrowded, crowded_out}

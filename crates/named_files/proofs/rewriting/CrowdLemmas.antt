@@ -12,8 +12,8 @@ use Rattle.file_exchange.specs.Reserved.{Free}
 use Rattle.file_rewrite.specs.OneFile.{RewritesFile, LeavesFile, HasFileCause, FreeAtMost, IsCrowded}
 use Rattle.file_rewrite.specs.declared.fault.JobFault.{JobFault}
 use Rattle.file_rewrite.specs.declared.fault.JobFault.TheVariants as job
-use Rattle.tree_rewrite.specs.Jobs.{Job, failed_of, end_of, jobs_in, IsCrowdedOut}
-use Rattle.tree_rewrite.proofs.WayLemmas.{still_leads}
+use Rattle.many_files.specs.Jobs.{Job, failed_of, end_of, jobs_in, IsCrowdedOut}
+use Rattle.many_files.proofs.WayLemmas.{still_leads}
 use Rattle.named_files.specs.OneFile.{OneEnd}
 use Rattle.named_files.proofs.CutLemmas.{last_or_before}
 use Rattle.named_files.proofs.rewriting.KeepLemmas.{KeepsAll, keeps_itself, keeps_then, file_there}

@@ -17,10 +17,10 @@ use Rattle.file_exchange.specs.Reserved.{Free, reserved_names}
 use Rattle.file_rewrite.specs.Paths.{IsNoPath}
 use Rattle.file_rewrite.specs.declared.fault.JobFault.{JobFault}
 use Rattle.file_rewrite.specs.declared.fault.JobFault.TheVariants as job
-use Rattle.tree_rewrite.specs.Jobs.{Job, failed_of, end_of, faults_needed, is_in_folder, HasJobCause, WantMemory}
-use Rattle.tree_rewrite.specs.Ends.{IsForMemory}
-use Rattle.tree_rewrite.specs.declared.fault.FilesFault.{FilesFault}
-use Rattle.tree_rewrite.proofs.WayLemmas.{still_leads}
+use Rattle.many_files.specs.Jobs.{Job, failed_of, end_of, faults_needed, is_in_folder, HasJobCause, WantMemory}
+use Rattle.many_files.specs.Ends.{IsForMemory}
+use Rattle.many_files.specs.declared.fault.FilesFault.{FilesFault}
+use Rattle.many_files.proofs.WayLemmas.{still_leads}
 use Rattle.named_files.specs.Clear.{LeadsToFile, HasRoomBy, AreFilesClear}
 use Rattle.named_files.proofs.CutLemmas.{at_cut}
 use Rattle.named_files.proofs.rewriting.KeepLemmas.{keeps_itself, file_there, not_none}

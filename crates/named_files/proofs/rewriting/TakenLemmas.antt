@@ -21,8 +21,8 @@ use Rattle.file_rewrite.specs.OneFile.{RewritesFile, LeavesFile, LeavesAt}
 use Rattle.file_rewrite.specs.declared.rewrite.Rewrite.{Rewrite}
 use Rattle.file_rewrite.specs.declared.fault.JobFault.{JobFault}
 use Rattle.file_rewrite.specs.declared.fault.JobFault.TheVariants as job
-use Rattle.tree_rewrite.specs.Jobs.{Job, is_in_folder, jobs_in}
-use Rattle.tree_rewrite.proofs.WayLemmas.{still_leads}
+use Rattle.many_files.specs.Jobs.{Job, is_in_folder, jobs_in}
+use Rattle.many_files.proofs.WayLemmas.{still_leads}
 use Rattle.named_files.proofs.rewriting.KeepLemmas.{KeepsAll, keeps_then, some_or_not, file_there}
 use Rattle.named_files.proofs.rewriting.CauseLemmas.{risen_then}
 

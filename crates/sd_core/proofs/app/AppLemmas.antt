@@ -10,9 +10,9 @@ use Rattle.sd_course.specs.Course.{Course}
 use Rattle.stream_rewrite.specs.Stream.{StreamFails, IsTooLongFor}
 use Rattle.stream_rewrite.specs.declared.fault.StreamFault.{StreamFault}
 use Rattle.stream_rewrite.specs.declared.fault.StreamFault.TheVariants as stream
-use Rattle.tree_rewrite.specs.Ends.{IsForMemory as FilesIsForMemory}
-use Rattle.tree_rewrite.specs.declared.fault.FilesFault.{FilesFault}
-use Rattle.tree_rewrite.specs.declared.fault.FilesFault.TheVariants as files
+use Rattle.many_files.specs.Ends.{IsForMemory as FilesIsForMemory}
+use Rattle.many_files.specs.declared.fault.FilesFault.{FilesFault}
+use Rattle.many_files.specs.declared.fault.FilesFault.TheVariants as files
 use Rattle.named_files.specs.Named.{NamedFail}
 use Rattle.named_files.specs.Preview.{PreviewFails, AnswersNoPath}
 use Rattle.named_files.specs.declared.fault.PreviewFault.{PreviewFault}

@@ -5,9 +5,9 @@ use Rattle.sd_edge.specs.Streams.{SinkState}
 use Rattle.sd_change.specs.Change.{Change}
 use Rattle.sd_course.specs.Course.{Course}
 use Rattle.chosen_files.specs.Globs.{IsValid, IsFirstInvalid}
-use Rattle.tree_rewrite.specs.declared.sweep_fault.SweepFault.{SweepFault}
-use Rattle.tree_rewrite.specs.declared.sweep_fault.SweepFault.TheVariants as sweep
-use Rattle.demo_tree.specs.Sweep.{DemoFails, IsForMemory}
+use Rattle.sd_core.specs.declared.sweep_fault.SweepFault.{SweepFault}
+use Rattle.sd_core.specs.declared.sweep_fault.SweepFault.TheVariants as sweep
+use Rattle.sd_core.specs.Demo.{DemoFails, DemoWantsMemory}
 use Rattle.sd_core.specs.Errors.{of_sweep}
 use Rattle.sd_core.specs.DemoCommand.{DemoCommand, DemoIsRefused, DemoIsForMemory}
 use Rattle.sd_core.specs.declared.error.Error.{Error}
@@ -22,7 +22,7 @@ demo_refused n globs sweep.TooMany h = h
 demo_refused n globs (sweep.Failed jobs) h = h
 demo_refused n globs sweep.NoMemory h = h
 
-pub demo_for_memory : (n : ℕ) (fault : SweepFault) → IsForMemory n fault → DemoIsForMemory n (of_sweep fault)
+pub demo_for_memory : (n : ℕ) (fault : SweepFault) → DemoWantsMemory n fault → DemoIsForMemory n (of_sweep fault)
 demo_for_memory n (sweep.BadGlob place) h = h
 demo_for_memory n sweep.RootMissing h = h
 demo_for_memory n (sweep.Walk failed) h = h
@@ -33,7 +33,7 @@ demo_for_memory n sweep.NoMemory h = h
 pub refused_demo : (change : Change) (n : ℕ) (globs : List (List ℕ)) (out : Course SinkState) (failed : Error) (fault : SweepFault)
     → failed ≡ of_sweep fault → DemoFails n globs fault
     → ((place : ℕ) → IsFirstInvalid globs place → (failing fault ≡ failing (sweep.BadGlob place)) ⊎ (failing fault ≡ failing sweep.NoMemory))
-    → (All IsValid globs → IsForMemory n fault) → DemoCommand change n globs out (why.Fault failed)
+    → (All IsValid globs → DemoWantsMemory n fault) → DemoCommand change n globs out (why.Fault failed)
 refused_demo change n globs out failed fault is fails bad complete =
     subst (λ f. DemoCommand change n globs out (why.Fault f)) (sym is) (record {
       ends = demo_refused n globs fault fails;

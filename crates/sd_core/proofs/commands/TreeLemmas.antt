@@ -10,12 +10,12 @@ use Rattle.sd_change.specs.Change.{Change}
 use Rattle.sd_course.specs.Course.{Course}
 use Rattle.chosen_files.specs.Globs.{IsFirstInvalid}
 use Rattle.chosen_files.specs.Choice.{KeepsLists}
-use Rattle.tree_rewrite.specs.Files.{IsFreeBeside}
-use Rattle.tree_rewrite.specs.Rewritten.{LeavesEach, IsNewOne}
-use Rattle.tree_rewrite.specs.Sweep.{IsChosenBelow, SweepFails, IsClear, IsSweepForMemory}
-use Rattle.tree_rewrite.specs.declared.report.Report.{Report}
-use Rattle.tree_rewrite.specs.declared.sweep_fault.SweepFault.{SweepFault}
-use Rattle.tree_rewrite.specs.declared.sweep_fault.SweepFault.TheVariants as sweep
+use Rattle.many_files.specs.Files.{IsFreeBeside}
+use Rattle.many_files.specs.Rewritten.{LeavesEach, IsNewOne}
+use Rattle.sd_core.specs.Sweep.{IsChosenBelow, SweepFails, IsClear, IsSweepForMemory}
+use Rattle.many_files.specs.declared.report.Report.{Report}
+use Rattle.sd_core.specs.declared.sweep_fault.SweepFault.{SweepFault}
+use Rattle.sd_core.specs.declared.sweep_fault.SweepFault.TheVariants as sweep
 use Rattle.sd_core.specs.Errors.{of_sweep}
 use Rattle.sd_core.specs.Run.{IsOrMemory}
 use Rattle.sd_core.specs.TreeCommand.{TreeCommand, TreeFails, IsForMemory, CrashesLeave}

@@ -10,9 +10,9 @@ use Rattle.sd_edge.specs.Disk.{DiskState, MayLeave}
 use Rattle.sd_edge.specs.Crashes.{IsDurable}
 use Rattle.sd_change.specs.Change.{Change, IsOne}
 use Rattle.file_rewrite.specs.Rewritten.{IsNewFile, IsChangedFile}
-use Rattle.tree_rewrite.specs.Files.{IsFreeBeside}
-use Rattle.tree_rewrite.specs.Rewritten.{IsNewOne, IsChangedOne}
-use Rattle.tree_rewrite.specs.Sweep.{IsChosenBelow}
+use Rattle.many_files.specs.Files.{IsFreeBeside}
+use Rattle.many_files.specs.Rewritten.{IsNewOne, IsChangedOne}
+use Rattle.sd_core.specs.Sweep.{IsChosenBelow}
 use Rattle.sd_core.specs.TreeCommand.{IsOldOrNewImage}
 use Rattle.sd_core.specs.Crash.{IsOnMedium}
 

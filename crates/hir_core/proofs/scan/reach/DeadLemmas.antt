@@ -1,9 +1,10 @@
 -- Spots that give nothing at a place.
-use Rattle.std.proofs.Common.{◌≡◌, ℕ, zero, suc, ◌+◌, ◌*◌, ◌/◌, ◌%◌, ◌<◌, ◌≤◌, Bool, true, false, ◌⊎◌, inl, inr, List, [], ◌∷◌, ◌++◌, length, drop, slice_index, Option, Some, None, if◌then◌else◌, refl, sym, ap, ap₂, ◌∙◌, subst, true≢false, append-nil, arith, get_or-drop, length-drop}
+use Rattle.std.proofs.Common.{◌≡◌, ℕ, zero, suc, ◌+◌, ◌*◌, ◌/◌, ◌%◌, ◌<◌, ◌≤◌, Bool, true, false, ◌⊎◌, inl, inr, List, [], ◌∷◌, ◌++◌, length, drop, slice_index, Option, Some, None, if◌then◌else◌, refl, sym, ap, ap₂, ◌∙◌, subst, true≢false, append-nil, arith, get_or-drop, length-append, length-drop}
 use Rattle.std.specs.Prelude.{◌&&◌, ◌||◌, nat_le, nat_lt, option_map}
 use Rattle.std.specs.List.{flat_map, Contains}
 use Rattle.std.proofs.lemmas.Bool.{cases_eq, cases_lt, or_left, or_right}
 use Rattle.std.proofs.lemmas.Bool.Decides.{nat_tests}
+use Rattle.std.proofs.lemmas.List.{get_or_append_left, get_or_push}
 use Rattle.std.proofs.lemmas.Option.{get_or_from_slice_get, none-some, same_Some}
 use Rattle.std.proofs.lemmas.Str.{encode_ascii}
 use Rattle.bstr.specs.Utf8.{Decoded, decoded}
@@ -14,7 +15,7 @@ use Rattle.hir_tree.specs.Sides.{byte_after, char_after}
 use Rattle.hir_tree.specs.declared.look.Look.{Look}
 use Rattle.hir_tree.specs.Runs.{Run, begin, moved, mark, in_set, size_in, byte_size, char_size, as_list, take_size}
 use Rattle.hir_core.specs.Program.{Way, way, marked, opened, closed, spot_at, visit_as, gives_within, gives, rank}
-use Rattle.hir_core.specs.Masks.{HasBit, IsPart, Grows, match_bit, sure_bit, is_taker, next_of, takes_byte, has_wide, is_wide, ways_on, is_reached, Asks, IsShut, IsClosed, IsDead, AreDead, Covers, CoversBeside, NoRun, AreAllTakers}
+use Rattle.hir_core.specs.Masks.{HasBit, IsPart, Grows, match_bit, sure_bit, is_taker, next_of, takes_byte, has_wide, is_wide, ways_on, is_reached, Asks, IsShut, IsClosed, IsDead, AreDead, Covers, CoversBeside, CoverTheirSpots, NoRun, AreAllTakers}
 use Rattle.hir_core.specs.declared.spot.Spot.{Spot}
 use Rattle.hir_core.specs.declared.spot.Spot.TheVariants as spot
 use Rattle.hir_tree.proofs.RunsLemmas.{byte_size-within, char_size-within}
@@ -56,6 +57,16 @@ AfterHas-next spots of look rows more n mask h grows has covers i v low small se
   | inr other ↦
       Covers-part spots of look (slice_index rows (256 * (i / 8) + v)) (slice_index more (256 * (i / 8) + v)) (next_of (spot_at spots (slice_index of i)))
       (grows (256 * (i / 8) + v)) (h i v (omega arith) small set_bit)
+]
+
+-- a mask more
+pub CoverTheirSpots-more : (spots : List Spot) (of : List ℕ) (look : Option Look) (masks : List ℕ) (mask q : ℕ) → length masks ≡ q
+    → CoverTheirSpots spots of look masks → Covers spots of look mask q → CoverTheirSpots spots of look (masks ++ mask ∷ [])
+CoverTheirSpots-more spots of look masks mask q many h covers p low = elim (cases_lt p (length masks)) [
+  | inl before ↦ subst (λ (m : ℕ). Covers spots of look m p) (sym (get_or_append_left masks (mask ∷ []) 0 p before)) (h p before)
+  | inr past ↦
+      let here : q ≡ p = omega (arith, low, past, many, length-append masks (mask ∷ [])) in
+      subst (λ (m : ℕ). Covers spots of look m p) (sym (get_or_push masks mask 0 p (many ∙ here))) (subst (Covers spots of look mask) here covers)
 ]
 
 either_way : (b : Bool) (xs : List Run) → xs ≡ [] → (if b then [] else xs) ≡ []

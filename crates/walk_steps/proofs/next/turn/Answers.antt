@@ -92,7 +92,7 @@ returns-in-None-clause-turns g c = λ tells by rest same h.
       unread = unread_of c.args.level.entries (λ r. let e = sym c.if-is_read.false ∙ c.is_read.ensures.1 r in cc e);
       faultless = no_items c.args.level.faults.items (let z = c.in_default.ensures.cases.0 in omega (arith, z, c.args.level.faults.ok.0));
     } in
-    c.read_root.ensures.turns tells by c.args.level rest lying h
+    c.read_root.ensures.turns tells c.args.level lying by rest h
 
 pub returns-in-None-clause-keeps : goal.returns-in-None-clause-keeps
 returns-in-None-clause-keeps g c =

@@ -39,7 +39,7 @@ returns-in_err-named-in-Err-clause-keeps g c = λ lying lies.
     root_refused (g.D.Disk.state c.args.disk.now) (g.D.Disk.state c.begin.new.disk) (g.S.Order.sorts c.args.inside.now.order) c.args.inside.now c.begin.new.inside lying b.same c.requires.taken lies.unread c.requires.sound b.lists b.tree b.faults
 
 pub returns-clause-turns : goal.returns-clause-turns
-returns-clause-turns g c = λ tells by lying rest lies h.
+returns-clause-turns g c = λ tells lying lies by rest h.
     let s = g.D.Disk.state c.args.disk.now in
     let now = g.D.Disk.state c.begin.new.disk in
     let sorts = g.S.Order.sorts c.args.inside.now.order in

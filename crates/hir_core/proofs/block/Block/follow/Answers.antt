@@ -1,9 +1,11 @@
 use Rattle.std.proofs.Common.{List, ◌∷◌, ◌++◌, length, Some, refl, sym, ap, ap₂, ◌∙◌, subst, arith}
 use Rattle.std.specs.Option.{option_or}
+use Rattle.hir_core.specs.Blocks.{KeepsMarks}
 use Rattle.hir_core.specs.Program.{Way}
 use Rattle.hir_core.specs.Trails.{Stop, way_of, stops_of, stops_on}
 use Rattle.hir_core.specs.Pass.{first_of, stop_gives, stops_give}
-use Rattle.hir_core.proofs.block.FollowLemmas.{HasRoom, FollowsIn, FollowsIn-begin, FollowsIn-kept, FollowsIn-match, FollowsIn-turn, FollowsIn-falls, FollowsIn-end, length-trying}
+use Rattle.hir_core.proofs.block.FollowLemmas.{HasRoom, FollowsIn, FollowsIn-begin, FollowsIn-kept, FollowsIn-match, FollowsIn-turn, FollowsIn-falls, FollowsIn-end, keeps-trying}
+use Rattle.hir_core.proofs.block.MarkLemmas.{KeepsMarks-none, KeepsMarks-then}
 use Rattle.hir_core.proofs.block.Block.follow.Goals as goal
 
 pub loop-here-init : goal.loop-here-init
@@ -12,7 +14,7 @@ loop-here-init c = record {
       FollowsIn-begin c.args.text.now c.args.spots.now c.args.places.begin c.args.places.end (c.args.spot, way_of c.args.self.now.trail) c.args.self.now.marks
       c.args.self.now.later _ c.requires.falls (ap₂ (λ (w : Way) (ps : List Stop). (c.args.spot, w) ∷ ps) c.clear.ensures.way c.clear.ensures.stops) refl
       c.requires.begin c.requires.at c.requires.later c.requires.spent;
-  room = refl;
+  marks = KeepsMarks-none _;
 }
 
 pub loop-here-preserved-then-self-places : goal.loop-here-preserved-then-self-places
@@ -22,7 +24,7 @@ loop-here-preserved-then-self-places c =
       follows =
           FollowsIn-kept c.args.text.now c.args.spots.now c.args.places.begin c.args.places.end _ c.loop-here.self.marks c.loop-here.self.later (stops_of c.next.new.self) _
           (c.in-Some.here, way_of c.next.new.self) back c.loop-here.invariant.follows _ (stops_of c.next.new.self) c.in_ok-push.ensures refl (omega arith);
-      room = c.loop-here.invariant.room;
+      marks = c.loop-here.invariant.marks;
     }
 
 pub returns-in-Match-clause-followed : goal.returns-in-Match-clause-followed
@@ -33,11 +35,16 @@ returns-in-Match-clause-followed c =
     ∙ FollowsIn-match c.args.text.now c.args.spots.now c.args.places.begin c.args.places.end _ c.loop-here.self.marks c.loop-here.self.later (stops_of c.next.new.self) _
     (c.in-Some.here, way_of c.next.new.self) back c.loop-here.invariant.follows step.1
 
+pub returns-in-Match-clause-marks : goal.returns-in-Match-clause-marks
+returns-in-Match-clause-marks c =
+    let step = rw c.in-Match.is at c.in_ok-turn.ensures.turned in
+    subst (KeepsMarks c.args.self.now.marks) (sym step.2) c.loop-here.invariant.marks
+
 pub loop-here-smaller : goal.loop-here-smaller
 loop-here-smaller c =
     let back = rw c.in-Some.is at c.in_ok-here.ensures in
     let step = rw c.in-On.is at c.in_ok-turn.ensures.turned in
-    let room : HasRoom c.args.spots.now c.args.places.begin c.args.places.end c.loop-here.self.marks = omega (arith, c.loop-here.invariant.room, c.requires.room) in
+    let room : HasRoom c.args.spots.now c.args.places.begin c.args.places.end c.loop-here.self.marks = omega (arith, c.loop-here.invariant.marks.room, c.requires.room) in
     FollowsIn-falls c.args.text.now c.args.spots.now c.args.places.begin c.args.places.end _ c.loop-here.self.marks c.loop-here.self.later (stops_of c.next.new.self) _
     (c.in-Some.here, way_of c.next.new.self) back c.loop-here.invariant.follows c.turn.new.self.marks (stops_on c.in-On.next c.turn.new.self.trail) room (omega arith) step
 
@@ -45,7 +52,7 @@ pub loop-here-preserved : goal.loop-here-preserved
 loop-here-preserved c =
     let back = rw c.in-Some.is at c.in_ok-here.ensures in
     let step = rw c.in-On.is at c.in_ok-turn.ensures.turned in
-    let room : HasRoom c.args.spots.now c.args.places.begin c.args.places.end c.loop-here.self.marks = omega (arith, c.loop-here.invariant.room, c.requires.room) in
+    let room : HasRoom c.args.spots.now c.args.places.begin c.args.places.end c.loop-here.self.marks = omega (arith, c.loop-here.invariant.marks.room, c.requires.room) in
     record {
       follows =
           subst (λ ks. FollowsIn c.args.text.now c.args.spots.now c.args.places.begin c.args.places.end
@@ -53,10 +60,10 @@ loop-here-preserved c =
           c.turn.new.self.marks ks (stops_on c.in-On.next c.turn.new.self.trail)) (sym c.turn.ensures.later)
           (FollowsIn-turn c.args.text.now c.args.spots.now c.args.places.begin c.args.places.end _ c.loop-here.self.marks c.loop-here.self.later (stops_of c.next.new.self) _
           (c.in-Some.here, way_of c.next.new.self) back c.loop-here.invariant.follows c.turn.new.self.marks (stops_on c.in-On.next c.turn.new.self.trail) room (omega arith) step);
-      room =
-          ap length step.1
-          ∙ length-trying c.args.text.now c.args.spots.now c.args.places.begin c.next.new.self.at c.in-Some.here c.loop-here.self.marks
-          ∙ c.loop-here.invariant.room;
+      marks =
+          KeepsMarks-then c.loop-here.invariant.marks
+          (subst (KeepsMarks c.loop-here.self.marks) (sym step.1)
+          (keeps-trying c.args.text.now c.args.spots.now c.args.places.begin c.next.new.self.at c.in-Some.here c.loop-here.self.marks));
     }
 
 pub returns-clause-followed : goal.returns-clause-followed

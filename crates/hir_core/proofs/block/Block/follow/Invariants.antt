@@ -1,4 +1,5 @@
-use Rattle.std.proofs.Common.{◌≡◌, ◌++◌, length}
+use Rattle.std.proofs.Common.{◌++◌}
+use Rattle.hir_core.specs.Blocks.{KeepsMarks}
 use Rattle.hir_core.specs.Trails.{way_of, stops_on}
 use Rattle.hir_core.specs.Pass.{first_of, stop_gives, stops_give}
 use Rattle.hir_core.proofs.closure.TurnLemmas.{turn_weight}
@@ -12,7 +13,7 @@ invariant-loop-here l = record {
       FollowsIn l.text l.spots l.places.begin l.places.end
       (first_of (stops_give l.text l.spots l.fn.self.later ++ stop_gives l.text l.spots (l.spot, way_of l.fn.self.trail))) l.self.marks l.self.later
       (stops_on l.on l.self.trail);
-  room : length l.self.marks ≡ length l.fn.self.marks;
+  marks : KeepsMarks l.fn.self.marks l.self.marks;
 }
 
 abbrev pub decreases-loop-here : goal.decreases-loop-here

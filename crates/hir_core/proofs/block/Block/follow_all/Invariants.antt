@@ -1,4 +1,5 @@
-use Rattle.std.proofs.Common.{◌≡◌, ◌++◌, length, drop}
+use Rattle.std.proofs.Common.{◌++◌, drop}
+use Rattle.hir_core.specs.Blocks.{KeepsMarks}
 use Rattle.hir_core.specs.Pass.{first_of, stops_give}
 use Rattle.hir_core.proofs.block.ThreadsLemmas.{Threads}
 use Rattle.hir_core.proofs.block.Block.follow_all.Given as goal
@@ -9,5 +10,5 @@ invariant-loop-i l = record {
   threads :
       Threads l.text l.spots l.places.begin l.places.end (first_of (stops_give l.text l.spots l.fn.self.later ++ stops_give l.text l.spots l.threads)) l.self.marks
       l.self.later (drop l.i l.threads);
-  room : length l.self.marks ≡ length l.fn.self.marks;
+  marks : KeepsMarks l.fn.self.marks l.self.marks;
 }

@@ -2,6 +2,7 @@ use Rattle.std.proofs.Common.{true, None, ap, ◌∙◌, arith}
 use Rattle.hir_core.specs.Pass.{match_of}
 use Rattle.hir_core.specs.Program.{Way}
 use Rattle.hir_core.specs.Trails.{way_of}
+use Rattle.hir_core.proofs.block.MarkLemmas.{KeepsMarks-none, KeepsMarks-then}
 use Rattle.hir_core.proofs.block.ThreadsLemmas.{answer-begun}
 use Rattle.hir_core.proofs.block.Block.follow_starts.Goals as goal
 
@@ -11,6 +12,9 @@ returns-then-branch-clause-answer c =
     c.follow.new.self.later (0, way_of c.begin.new.self) (omega arith) (ap (λ (w : Way). (0, w)) c.in_ok-begin.ensures)
     (rw c.if-branch.true at c.in_ok-follow.ensures.followed)
     ∙ c.loop-starts.invariant.answer
+
+pub returns-then-branch-clause-marks : goal.returns-then-branch-clause-marks
+returns-then-branch-clause-marks c = KeepsMarks-then c.loop-starts.invariant.marks c.in_ok-follow.ensures.marks
 
 pub loop-starts-preserved : goal.loop-starts-preserved
 loop-starts-preserved c =
@@ -25,5 +29,5 @@ loop-starts-preserved c =
       spent = followed.0;
       begin = omega (arith, c.loop-starts.invariant.begin, c.pass_over.ensures.after);
       within = c.pass_over.ensures.within;
-      room = c.in_ok-follow.ensures.room ∙ c.loop-starts.invariant.room;
+      marks = KeepsMarks-then c.loop-starts.invariant.marks c.in_ok-follow.ensures.marks;
     }

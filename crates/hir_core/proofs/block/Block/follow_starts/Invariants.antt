@@ -1,5 +1,5 @@
 use Rattle.std.proofs.Common.{◌≡◌, ◌+◌, ◌-◌, ◌≤◌, None, length}
-use Rattle.hir_core.specs.Blocks.{AreSpent}
+use Rattle.hir_core.specs.Blocks.{AreSpent, KeepsMarks}
 use Rattle.hir_core.specs.Pass.{answer, some_run, stops_give, AllFrom}
 use Rattle.hir_core.proofs.block.Block.follow_starts.Given as goal
 
@@ -13,7 +13,7 @@ invariant-loop-starts l = record {
   spent : AreSpent l.text l.spots l.places.begin l.self.marks (some_run (stops_give l.text l.spots l.self.later));
   begin : l.places.begin ≤ l.starts.place;
   within : l.starts.place ≤ length l.text + 1;
-  room : length l.self.marks ≡ length l.fn.self.marks;
+  marks : KeepsMarks l.fn.self.marks l.self.marks;
 }
 
 abbrev pub decreases-loop-starts : goal.decreases-loop-starts

@@ -1,0 +1,6 @@
+-- The lemmas that upper crates need, passed on.
+pub use Rattle.many_files.proofs.rewriting.MemberLemmas
+pub use Rattle.many_files.proofs.rewriting.WayLemmas
+pub use Rattle.many_files.proofs.rewriting.FileLemmas
+pub use Rattle.many_files.proofs.rewriting.TurnLemmas
+pub use Rattle.many_files.proofs.rewriting.JobLemmas

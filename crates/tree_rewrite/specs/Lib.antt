@@ -1,9 +1,0 @@
-pub mod Files
-pub mod Rewritten
-pub mod Counts
-pub mod Jobs
-pub mod Turns
-pub mod Ends
-pub mod Examples
-pub mod Sweep
-pub mod SweepFaults
