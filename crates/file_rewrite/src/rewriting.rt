@@ -3,7 +3,7 @@
 ghost use Rattle.std.specs.Prelude.{◌≡◌, ◌≤◌, ◌^◌, IsTrue, IfOk, IfErr, OnOk, Err};
 ghost use Rattle.sd_edge.specs.Disk.{SameTree, SameLists};
 ghost use Rattle.sd_edge.specs.Crashes.{LeavesSince, IsDurable};
-ghost use Rattle.sd_change.specs.Change.{FileChange, Tells, AreFew};
+ghost use Rattle.sd_change.specs.Change.{FileChange, TellsRewritten, AreFewIn};
 ghost use Rattle.sd_course.specs.Course.{course};
 ghost use Rattle.file_rewrite.specs.Paths.{IsNoPath};
 ghost use Rattle.file_rewrite.specs.Reading.{FindsFile};
@@ -13,7 +13,7 @@ use crate::path::is_no_path;
 use crate::{JobFault, Rewrite};
 use file_exchange::exchange;
 use sd_base::{NoMemory, Text};
-use sd_change::{Changed, Replaces};
+use sd_change::{Replaces, Rewritten};
 use sd_edge::Disk;
 use std::alloc::Global;
 
@@ -52,27 +52,20 @@ pub fn replace_file<D: Disk, R: Replaces>(
         return Err(JobFault::InvalidPath);
     }
     let found = find_file(alloc, disk, path)?;
-    let change = file_change(replacer, &found.bytes)?;
-    let changed = match change {
-        None => {
-            return Ok(Rewrite {
-                changed: false,
-                replaced: 0,
-            });
-        }
-        Some(changed) => changed,
-    };
-    if changed.new_bytes == found.bytes {
-        return Ok(Rewrite {
+    let rewritten = file_change(replacer, found.bytes)?;
+    match rewritten {
+        Rewritten::Same(count) => Ok(Rewrite {
             changed: false,
-            replaced: changed.count,
-        });
+            replaced: count,
+        }),
+        Rewritten::Other(changed) => {
+            exchange(alloc, disk, found.path.as_str(), &changed.new_bytes)?;
+            Ok(Rewrite {
+                changed: true,
+                replaced: changed.count,
+            })
+        }
     }
-    exchange(alloc, disk, found.path.as_str(), &changed.new_bytes)?;
-    Ok(Rewrite {
-        changed: true,
-        replaced: changed.count,
-    })
 }
 
 /// A regular file that was read.
@@ -97,12 +90,12 @@ fn find_file<D: Disk>(alloc: Global, disk: &mut D, path: &str) -> Result<FoundFi
 }
 
 /// What a file's bytes become. An empty file is left alone.
-fn file_change<R: Replaces>(replacer: &R, bytes: &[u8]) -> Result<Option<Changed>, NoMemory>
-    ensures told { IfOk result (Tells (FileChange (R.change replacer.now)) bytes.now) }
-    ensures few { IfOk result (AreFew bytes.now) }
+fn file_change<R: Replaces>(replacer: &R, bytes: Vec<u8>) -> Result<Rewritten, NoMemory>
+    ensures told { IfOk result (TellsRewritten (FileChange (R.change replacer.now)) bytes.items) }
+    ensures few { IfOk result (AreFewIn bytes.items) }
 {
     if bytes.is_empty() {
-        return Ok(None);
+        return Ok(Rewritten::Same(0));
     }
-    replacer.change(bytes)
+    replacer.rewrite(bytes)
 }

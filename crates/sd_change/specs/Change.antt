@@ -1,6 +1,8 @@
 -- What is done to bytes.
-use Rattle.std.specs.Prelude.{◌≡◌, ◌<◌, ◌≤◌, ◌+◌, ◌↔◌, ℕ, List, [], ◌∷◌, length, Option, Some, None}
+use Rattle.std.specs.Prelude.{◌≡◌, ◌≢◌, ◌<◌, ◌≤◌, ◌+◌, ◌↔◌, ℕ, List, [], ◌∷◌, length, Option, Some, None}
 use Rattle.sd_change.specs.declared.changed.Changed.{Changed}
+use Rattle.sd_change.specs.declared.changed.Rewritten.{Rewritten}
+use Rattle.sd_change.specs.declared.changed.Rewritten.TheVariants.{Same, Other}
 
 -- From the old bytes to the new ones, in which so many spans were replaced. Nothing above this line names a pattern or a replacement text.
 abbrev pub Change : Type 1
@@ -28,3 +30,13 @@ Tells change bytes (Some changed) = change bytes changed.new_bytes.items changed
 abbrev pub AreFew : List ℕ → Option Changed → Type 0
 AreFew bytes None = Unit {0}
 AreFew bytes (Some changed) = changed.count ≤ length bytes + 1
+
+-- what is told of bytes that were given away: as many spans were replaced, and they are the same, or what they became differs from them
+abbrev pub TellsRewritten : Change → List ℕ → Rewritten → Type 0
+TellsRewritten change bytes (Same count) = change bytes bytes count
+TellsRewritten change bytes (Other changed) = change bytes changed.new_bytes.items changed.count × (changed.new_bytes.items ≢ bytes)
+
+-- there too are no more spans than places where one may begin
+abbrev pub AreFewIn : List ℕ → Rewritten → Type 0
+AreFewIn bytes (Same count) = count ≤ length bytes + 1
+AreFewIn bytes (Other changed) = changed.count ≤ length bytes + 1

@@ -8,3 +8,12 @@ pub struct Changed {
     /// How many spans were replaced. At least one.
     pub count: u128,
 }
+
+/// What became of bytes that were given away.
+#[derive(Debug, Drop)]
+pub enum Rewritten {
+    /// They are as they were: so many spans were replaced, each by its own bytes, or none.
+    Same(u128),
+    /// Others took their place.
+    Other(Changed),
+}

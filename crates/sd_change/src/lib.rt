@@ -8,6 +8,6 @@ mod changed;
 mod laws;
 mod replaces;
 
-pub use changed::Changed;
+pub use changed::{Changed, Rewritten};
 pub use laws::a_file_has_one_change;
 pub use replaces::Replaces;

@@ -1,9 +1,9 @@
 //! What changes bytes.
 
 ghost use Rattle.std.specs.Prelude.{IfOk};
-ghost use Rattle.sd_change.specs.Change.{Change, IsOne, Tells, AreFew};
+ghost use Rattle.sd_change.specs.Change.{Change, IsOne, Tells, AreFew, TellsRewritten, AreFewIn};
 
-use crate::Changed;
+use crate::{Changed, Rewritten};
 use sd_base::NoMemory;
 
 /// What changes bytes. It does one thing to the same bytes.
@@ -20,6 +20,31 @@ pub trait Replaces {
     fn change(&self, content: &[u8]) -> Result<Option<Changed>, NoMemory>
         ensures changed { IfOk result (Tells (change self.now) content.now) }
         ensures few { IfOk result (AreFew content.now) };
+
+    /// What bytes become that are given away, so that their room may serve for the new ones, and whether those are others. At most one
+    /// span begins at each place, the end among them.
+    ///
+    /// Refuses only where memory is out.
+    fn rewrite(&self, content: Vec<u8>) -> Result<Rewritten, NoMemory>
+        ensures rewritten { IfOk result (TellsRewritten (change self.now) content.items) }
+        ensures few { IfOk result (AreFewIn content.items) }
+    {
+        self.rewrite_beside(content)
+    }
+
+    /// [`rewrite`](Replaces::rewrite) by new bytes that are made beside the old ones.
+    fn rewrite_beside(&self, content: Vec<u8>) -> Result<Rewritten, NoMemory>
+        ensures rewritten { IfOk result (TellsRewritten (change self.now) content.items) }
+        ensures few { IfOk result (AreFewIn content.items) }
+    {
+        let Some(changed) = self.change(&content)? else {
+            return Ok(Rewritten::Same(0));
+        };
+        if changed.new_bytes == content {
+            return Ok(Rewritten::Same(changed.count));
+        }
+        Ok(Rewritten::Other(changed))
+    }
 
     // The same bytes become the same bytes.
     ghost one: { (replacer : Self) → IsOne (change replacer) };

@@ -2,6 +2,7 @@ pub mod Ambiguous
 pub mod Examples
 pub mod Faults
 pub mod Flags
+pub mod InPlace
 pub mod Making
 pub mod OneChange
 pub mod Quota

@@ -23,7 +23,7 @@ use crate::template::Template;
 use grep_matcher::{Match, Matcher};
 use grep_regex::RegexCaptures;
 use sd_base::NoMemory;
-use sd_change::{Changed, Replaces};
+use sd_change::{Changed, Replaces, Rewritten};
 use std::alloc::Global;
 
 impl Replacer {
@@ -145,8 +145,9 @@ impl Replacer {
         requires within { found.end ≤ length content.now }
         requires groups { AreOfMatch (tree_of self.now.matcher.searcher) content.now found.start groups.now }
         requires asked { SufficeFor self.now.template.pieces.items groups.now }
-        ensures written { OnOk result ((done : List Span) → Knows quota.old done → HasWritten (replacement_of self.now) content.now done made.old
-            → HasWritten (replacement_of self.now) content.now (done ++ found ∷ []) made.new) }
+        ensures written { OnOk result ((done : List Span) → Knows quota.old done
+            → HasWritten (replacement_of self.now) content.now done made.old.new_bytes.items made.old.copied made.old.count
+            → HasWritten (replacement_of self.now) content.now (done ++ found ∷ []) made.new.new_bytes.items made.new.copied made.new.count) }
         ensures known { (done : List Span) → Knows quota.old done → Knows quota.new (done ++ found ∷ []) }
         ensures limits { Limits quota.new (replacement_of self.now) content.now }
         ensures order { quota.new.place ≤ found.start }
@@ -231,5 +232,13 @@ impl Replaces for Replacer {
 
     fn change(&self, content: &[u8]) -> Result<Option<Changed>, NoMemory> {
         Replacer::change(self, content)
+    }
+
+    // Where a text gives way to one that is no longer, no second room is taken.
+    fn rewrite(&self, content: Vec<u8>) -> Result<Rewritten, NoMemory> {
+        match self.text_in_place() {
+            Some(text) => self.rewrite_in_place(content, text),
+            None => self.rewrite_beside(content),
+        }
     }
 }

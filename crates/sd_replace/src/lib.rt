@@ -9,6 +9,7 @@ mod changing;
 mod error;
 mod examples;
 mod flags;
+mod in_place;
 mod laws;
 mod making;
 mod quota;

@@ -55,6 +55,17 @@ impl Template {
         }
     }
 
+    /// The text, where it is one piece or none. `None` where there are more, or a reference.
+    pub(crate) fn text(&self) -> Option<&[u8]>
+        ensures { IfSome result (λ text. (text_of : ℕ → List ℕ) → pieces_text text_of self.now.pieces.items ≡ text.now) }
+    {
+        match self.pieces.as_slice() {
+            [] => Some(b""),
+            [Piece::Bytes(bytes)] => Some(bytes),
+            _ => None,
+        }
+    }
+
     /// Whether there are references to groups. Without them the text doesn't rest on the groups of a match.
     pub(crate) fn has_references(&self) -> bool
         ensures { result ≡ list_any is_group self.now.pieces.items }

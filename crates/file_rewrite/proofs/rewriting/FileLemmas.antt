@@ -1,8 +1,6 @@
 -- A file that was found is kept, or its bytes are exchanged.
 use Rattle.std.proofs.Common.{◌≡◌, ◌≢◌, ◌⊎◌, ◌≤◌, ℕ, Bool, true, false, not, List, [], ◌∷◌, refl, sym, ◌∙◌, ap, subst, inl, inr, arith}
 use Rattle.std.specs.Prelude.{IsTrue, Option, Some, None, is_some, Result, Err, IsErrOf}
-use Rattle.std.specs.Str.{bytes_eq}
-use Rattle.std.specs.Cmp.Lexicographic.{bytes_decides}
 use Rattle.std.proofs.lemmas.Option.{same_Some}
 use Rattle.sd_edge.specs.Tree.{NameList, Content, file, Tree, SameBut, node_at, file_at}
 use Rattle.sd_edge.specs.Paths.{parts_of, parent_of, reached}
@@ -11,8 +9,10 @@ use Rattle.sd_edge.specs.Disk.{DiskState, SameTree, outcomes_now}
 use Rattle.sd_edge.specs.Crashes.{LeavesSince, IsDurable}
 use Rattle.sd_edge.specs.declared.fault.DiskFault.TheVariants as disk
 use Rattle.sd_edge.proofs.CrashLemmas.{since_same, since_then, since_more}
-use Rattle.sd_change.specs.Change.{Change, IsOne, FileChange, Tells}
+use Rattle.sd_change.specs.Change.{Change, IsOne, FileChange, TellsRewritten}
 use Rattle.sd_change.specs.declared.changed.Changed.{Changed}
+use Rattle.sd_change.specs.declared.changed.Rewritten.{Rewritten}
+use Rattle.sd_change.specs.declared.changed.Rewritten.TheVariants.{Same, Other}
 use Rattle.sd_course.specs.Course.{HasRisenBy}
 use Rattle.file_exchange.specs.declared.fault.ExchangeFault.{ExchangeFault}
 use Rattle.file_exchange.specs.declared.fault.ExchangeFault.TheVariants as exchange
@@ -36,21 +36,13 @@ one_of_file change one [] new_bytes others m n a b = (a.0 ∙ sym b.0, a.1 ∙ s
 one_of_file change one (byte ∷ bytes) new_bytes others m n a b = one (byte ∷ bytes) new_bytes others m n a b
 
 -- what the replacer's answer tells
-pub told_none : (change : Change) (a b : List ℕ) (answer : Option Changed) → a ≡ b → answer ≡ None → Tells change a answer → change b b 0
-told_none change a b answer same none tells = subst (Tells change b) none (subst (λ (bytes : List ℕ). Tells change bytes answer) same tells)
+pub told_same : (change : Change) (bytes : List ℕ) (answer : Rewritten) (count : ℕ) → answer ≡ Same count → TellsRewritten change bytes answer → change bytes bytes count
+told_same change bytes answer count is tells = subst (TellsRewritten change bytes) is tells
 
-pub told_some : (change : Change) (a b new : List ℕ) (answer : Option Changed) (changed : Changed) → a ≡ b → answer ≡ Some changed → new ≡ changed.new_bytes.items → Tells change a answer
-    → change b new changed.count
-told_some change a b new answer changed same some is tells =
-    let made = subst (Tells change b) some (subst (λ (bytes : List ℕ). Tells change bytes answer) same tells) in
-    subst (λ (n : List ℕ). change b n changed.count) (sym is) made.0
-
--- what the test of the bytes tells
-pub same_bytes : (a b : List ℕ) → true ≡ bytes_eq a b → a ≡ b
-same_bytes a b test = (bytes_decides a b).0 (sym test)
-
-pub other_bytes : (a b : List ℕ) → false ≡ bytes_eq a b → a ≢ b
-other_bytes a b test e = let same : bytes_eq a b ≡ true = (bytes_decides a b).1 e in cc
+pub told_other : (change : Change) (bytes new : List ℕ) (answer : Rewritten) (changed : Changed) → answer ≡ Other changed → new ≡ changed.new_bytes.items
+    → TellsRewritten change bytes answer → change bytes new changed.count × (new ≢ bytes)
+told_other change bytes new answer changed is made tells =
+    subst (λ (n : List ℕ). change bytes n changed.count × (n ≢ bytes)) (sym made) (subst (TellsRewritten change bytes) is tells)
 
 same_then : {r s t : DiskState} → SameTree r s → SameTree s t → SameTree r t
 same_then a b = record { tree = b.tree ∙ a.tree; clock = b.clock ∙ a.clock; outcomes = b.outcomes ∙ a.outcomes }

@@ -52,70 +52,72 @@ module _ (replacement : Replacement) (bytes : List ℕ) where
   abbrev after : List Span → List Span → List Span
   after done rest = within_after replacement.counted replacement.limit bytes done rest
 
-  pub written_none : (made : Made) → made.new_bytes.items ≡ [] → made.copied ≡ 0 → made.count ≡ 0 → HasWritten replacement bytes [] made
-  written_none made none start zero = record {
-    bytes_are = λ rest. ap (λ (l : List ℕ). l ++ replaced_from text bytes 0 (after [] rest)) (sym none) ∙ ap (λ (k : ℕ). made.new_bytes.items ++ replaced_from text bytes k (after [] rest)) (sym start);
+  pub written_none : (made : List ℕ) (copied count : ℕ) → made ≡ [] → copied ≡ 0 → count ≡ 0 → HasWritten replacement bytes [] made copied count
+  written_none made copied count none start zero = record {
+    bytes_are = λ rest. ap (λ (l : List ℕ). l ++ replaced_from text bytes 0 (after [] rest)) (sym none) ∙ ap (λ (k : ℕ). made ++ replaced_from text bytes k (after [] rest)) (sym start);
     count_is = λ rest. omega (arith, zero);
   }
 
-  -- a span more that is within the limit
-  pub written_more : (done : List Span) (x : Span) (old new : Made) (added : List ℕ) → HasWritten replacement bytes done old → true ≡ is_within replacement.counted replacement.limit bytes done x
-      → new.new_bytes.items ≡ (old.new_bytes.items ++ slice_range bytes old.copied x.start) ++ added → added ≡ text_at replacement bytes x → new.copied ≡ x.end → new.count ≡ old.count + 1
-      → HasWritten replacement bytes (done ++ x ∷ []) new
-  written_more done x old new added h within put is ends counts = record {
-    bytes_are = λ rest.
-        ap (λ (spans : List Span). replaced_from text bytes 0 (after [] spans)) (append_assoc done (x ∷ []) rest)
-        ∙ (h.bytes_are (x ∷ rest)
-        ∙ (ap (λ (b : Bool). old.new_bytes.items ++ replaced_from text bytes old.copied (cond b (x ∷ []) [] ++ after (done ++ x ∷ []) rest)) (sym within)
-        ∙ (sym (append_assoc old.new_bytes.items (slice_range bytes old.copied x.start) (text x ++ later rest x.end))
-        ∙ (sym (append_assoc (old.new_bytes.items ++ slice_range bytes old.copied x.start) (text x) (later rest x.end))
-        ∙ (ap (λ (l : List ℕ). ((old.new_bytes.items ++ slice_range bytes old.copied x.start) ++ l) ++ later rest x.end) (sym is)
-        ∙ (ap (λ (l : List ℕ). l ++ later rest x.end) (sym put) ∙ ap (λ (k : ℕ). new.new_bytes.items ++ later rest k) (sym ends)))))));
-    count_is = λ rest.
-        ap (λ (spans : List Span). length (after [] spans)) (append_assoc done (x ∷ []) rest)
-        ∙ (h.count_is (x ∷ rest)
-        ∙ (ap (λ (b : Bool). old.count + length (cond b (x ∷ []) [] ++ after (done ++ x ∷ []) rest)) (sym within)
-        ∙ (let e : old.count + length (x ∷ after (done ++ x ∷ []) rest) ≡ new.count + length (after (done ++ x ∷ []) rest) = omega (arith, counts) in e)));
-  }
-    where
-      later : List Span → ℕ → List ℕ
-      later rest from = replaced_from text bytes from (after (done ++ x ∷ []) rest)
+  module _ (done : List Span) (x : Span) (made : List ℕ) (copied count : ℕ) (h : HasWritten replacement bytes done made copied count) where
+    -- a span more that is within the limit
+    pub written_more : (new : List ℕ) (now counted : ℕ) (added : List ℕ) → true ≡ is_within replacement.counted replacement.limit bytes done x
+        → new ≡ (made ++ slice_range bytes copied x.start) ++ added → added ≡ text_at replacement bytes x → now ≡ x.end → counted ≡ count + 1
+        → HasWritten replacement bytes (done ++ x ∷ []) new now counted
+    written_more new now counted added within put is ends counts = record {
+      bytes_are = λ rest.
+          ap (λ (spans : List Span). replaced_from text bytes 0 (after [] spans)) (append_assoc done (x ∷ []) rest)
+          ∙ (h.bytes_are (x ∷ rest)
+          ∙ (ap (λ (b : Bool). made ++ replaced_from text bytes copied (cond b (x ∷ []) [] ++ after (done ++ x ∷ []) rest)) (sym within)
+          ∙ (sym (append_assoc made (slice_range bytes copied x.start) (text x ++ later rest x.end))
+          ∙ (sym (append_assoc (made ++ slice_range bytes copied x.start) (text x) (later rest x.end))
+          ∙ (ap (λ (l : List ℕ). ((made ++ slice_range bytes copied x.start) ++ l) ++ later rest x.end) (sym is)
+          ∙ (ap (λ (l : List ℕ). l ++ later rest x.end) (sym put) ∙ ap (λ (k : ℕ). new ++ later rest k) (sym ends)))))));
+      count_is = λ rest.
+          ap (λ (spans : List Span). length (after [] spans)) (append_assoc done (x ∷ []) rest)
+          ∙ (h.count_is (x ∷ rest)
+          ∙ (ap (λ (b : Bool). count + length (cond b (x ∷ []) [] ++ after (done ++ x ∷ []) rest)) (sym within)
+          ∙ (let e : count + length (x ∷ after (done ++ x ∷ []) rest) ≡ counted + length (after (done ++ x ∷ []) rest) = omega (arith, counts) in e)));
+    }
+      where
+        later : List Span → ℕ → List ℕ
+        later rest from = replaced_from text bytes from (after (done ++ x ∷ []) rest)
 
-  -- and one that isn't
-  pub written_less : (done : List Span) (x : Span) (made : Made) → HasWritten replacement bytes done made → false ≡ is_within replacement.counted replacement.limit bytes done x
-      → HasWritten replacement bytes (done ++ x ∷ []) made
-  written_less done x made h without = record {
-    bytes_are = λ rest.
-        ap (λ (spans : List Span). replaced_from text bytes 0 (after [] spans)) (append_assoc done (x ∷ []) rest)
-        ∙ (h.bytes_are (x ∷ rest)
-        ∙ ap (λ (b : Bool). made.new_bytes.items ++ replaced_from text bytes made.copied (cond b (x ∷ []) [] ++ after (done ++ x ∷ []) rest)) (sym without));
-    count_is = λ rest.
-        ap (λ (spans : List Span). length (after [] spans)) (append_assoc done (x ∷ []) rest)
-        ∙ (h.count_is (x ∷ rest)
-        ∙ ap (λ (b : Bool). made.count + length (cond b (x ∷ []) [] ++ after (done ++ x ∷ []) rest)) (sym without));
-  }
-
-  module _ (lawful : IsLawful (end_at replacement.pattern bytes) (length bytes)) where
-    made_with : (done rest : List Span) (from : ℕ) (last : Option ℕ) (made : Made) (new_bytes : List ℕ) (count : ℕ) → HasFound (end_at replacement.pattern bytes) bytes lawful done from last → HasWritten replacement bytes done made
-        → Chain (accepts last (end_at replacement.pattern bytes)) (length bytes) from rest → after done rest ≡ [] → new_bytes ≡ made.new_bytes.items ++ drop made.copied bytes → count ≡ made.count → Changes replacement bytes new_bytes count
-    made_with done rest from last made new_bytes count found h chain none new counts = record {
-      spans = done ++ rest;
-      cover = cover_from_chain (end_at replacement.pattern bytes) 0 (length bytes) (done ++ rest) lawful (found.leads rest chain);
-      bytes_are = new ∙ (ap (λ (spans : List Span). made.new_bytes.items ++ replaced_from text bytes made.copied spans) (sym none) ∙ sym (h.bytes_are rest));
-      count_is = counts ∙ ((let e : made.count ≡ made.count + 0 = omega arith in e) ∙ (ap (λ (spans : List Span). made.count + length spans) (sym none) ∙ sym (h.count_is rest)));
+    -- and one that isn't
+    pub written_less : false ≡ is_within replacement.counted replacement.limit bytes done x → HasWritten replacement bytes (done ++ x ∷ []) made copied count
+    written_less without = record {
+      bytes_are = λ rest.
+          ap (λ (spans : List Span). replaced_from text bytes 0 (after [] spans)) (append_assoc done (x ∷ []) rest)
+          ∙ (h.bytes_are (x ∷ rest)
+          ∙ ap (λ (b : Bool). made ++ replaced_from text bytes copied (cond b (x ∷ []) [] ++ after (done ++ x ∷ []) rest)) (sym without));
+      count_is = λ rest.
+          ap (λ (spans : List Span). length (after [] spans)) (append_assoc done (x ∷ []) rest)
+          ∙ (h.count_is (x ∷ rest)
+          ∙ ap (λ (b : Bool). count + length (cond b (x ∷ []) [] ++ after (done ++ x ∷ []) rest)) (sym without));
     }
 
-    -- where no span is left
-    pub made_at_the_end : (done : List Span) (from : ℕ) (last : Option ℕ) (made : Made) (new_bytes : List ℕ) (count : ℕ) → HasFound (end_at replacement.pattern bytes) bytes lawful done from last → HasWritten replacement bytes done made
-        → IsFirst (accepts last (end_at replacement.pattern bytes)) from (length bytes) None → new_bytes ≡ made.new_bytes.items ++ drop made.copied bytes → count ≡ made.count → Changes replacement bytes new_bytes count
-    made_at_the_end done from last made new_bytes count found h none new counts = made_with done [] from last made new_bytes count found h none refl new counts
+  module _ (lawful : IsLawful (end_at replacement.pattern bytes) (length bytes)) where
+    module _ (done : List Span) (from : ℕ) (last : Option ℕ) (found : HasFound (end_at replacement.pattern bytes) bytes lawful done from last)
+        (made : List ℕ) (copied count : ℕ) (h : HasWritten replacement bytes done made copied count) where
+      made_with : (rest : List Span) (new_bytes : List ℕ) (counted : ℕ) → Chain (accepts last (end_at replacement.pattern bytes)) (length bytes) from rest → after done rest ≡ []
+          → new_bytes ≡ made ++ drop copied bytes → counted ≡ count → Changes replacement bytes new_bytes counted
+      made_with rest new_bytes counted chain none new counts = record {
+        spans = done ++ rest;
+        cover = cover_from_chain (end_at replacement.pattern bytes) 0 (length bytes) (done ++ rest) lawful (found.leads rest chain);
+        bytes_are = new ∙ (ap (λ (spans : List Span). made ++ replaced_from text bytes copied spans) (sym none) ∙ sym (h.bytes_are rest));
+        count_is = counts ∙ ((let e : count ≡ count + 0 = omega arith in e) ∙ (ap (λ (spans : List Span). count + length spans) (sym none) ∙ sym (h.count_is rest)));
+      }
 
-    -- where none that is left is within the limit
-    pub made_by_the_limit : (done : List Span) (from : ℕ) (last : Option ℕ) (made : Made) (new_bytes : List ℕ) (count : ℕ) → HasFound (end_at replacement.pattern bytes) bytes lawful done from last → HasWritten replacement bytes done made
-        → ((rest : List Span) → after done rest ≡ []) → new_bytes ≡ made.new_bytes.items ++ drop made.copied bytes → count ≡ made.count → Changes replacement bytes new_bytes count
-    made_by_the_limit done from last made new_bytes count found h none new counts =
-        let rest = rest_exists (end_at replacement.pattern bytes) (length bytes) lawful last from in
-        made_with done rest.0 from last made new_bytes count found h rest.1 (none rest.0) new counts
+      -- where no span is left
+      pub made_at_the_end : (new_bytes : List ℕ) (counted : ℕ) → IsFirst (accepts last (end_at replacement.pattern bytes)) from (length bytes) None
+          → new_bytes ≡ made ++ drop copied bytes → counted ≡ count → Changes replacement bytes new_bytes counted
+      made_at_the_end new_bytes counted none new counts = made_with [] new_bytes counted none refl new counts
+
+      -- where none that is left is within the limit
+      pub made_by_the_limit : (new_bytes : List ℕ) (counted : ℕ) → ((rest : List Span) → after done rest ≡ [])
+          → new_bytes ≡ made ++ drop copied bytes → counted ≡ count → Changes replacement bytes new_bytes counted
+      made_by_the_limit new_bytes counted none new counts =
+          let rest = rest_exists (end_at replacement.pattern bytes) (length bytes) lawful last from in
+          made_with rest.0 new_bytes counted rest.1 (none rest.0) new counts
 
     -- the first span of the cover, if there is one, is within any limit, so that the count tells of it
     pub has_first : (found : Option Span) → IsFirst (prefers (end_at replacement.pattern bytes)) 0 (length bytes) found
@@ -153,7 +155,7 @@ module _ (replacement : Replacement) (bytes : List ℕ) where
 pub record Stands (replacement : Replacement) (bytes : List ℕ) (lawful : IsLawful (end_at replacement.pattern bytes) (length bytes)) (from : ℕ) (last : Option ℕ) (quota : Quota) (made : Made) (span : Span) : Type 0 where
   pub done : List Span
   pub found : HasFound (end_at replacement.pattern bytes) bytes lawful (done ++ span ∷ []) from last
-  pub written : HasWritten replacement bytes done made
+  pub written : HasWritten replacement bytes done made.new_bytes.items made.copied made.count
   pub known : Knows quota done
 
 -- what a quota tells is what its replacer tells

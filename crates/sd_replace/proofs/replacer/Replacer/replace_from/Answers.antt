@@ -27,7 +27,7 @@ matches-init c =
         done = [];
         found = subst (λ (last : Option ℕ). HasFound preferred bytes lawful (x ∷ []) search.from last) (sym c.requires.last)
             (found_more preferred bytes lawful [] 0 search.from None x (found_none preferred bytes lawful) first c.requires.after);
-        written = written_none (replacement_of self) bytes c.in_ok-made.made c.in_ok-made.ensures.bytes c.in_ok-made.ensures.copied c.in_ok-made.ensures.count;
+        written = written_none (replacement_of self) bytes c.in_ok-made.made.new_bytes.items c.in_ok-made.made.copied c.in_ok-made.made.count c.in_ok-made.ensures.bytes c.in_ok-made.ensures.copied c.in_ok-made.ensures.count;
         known = c.new-quota.ensures.none;
       };
       limits = record { content = c.new-quota.ensures.content; counted = c.new-quota.ensures.counted; limit = c.new-quota.ensures.limit };
@@ -54,7 +54,7 @@ returns-then-is_spent-clause-changed c =
     let written = c.in_ok-replace_one.ensures.written stands.done stands.known stands.written in
     let known = c.in_ok-replace_one.ensures.known stands.done stands.known in
     finished (replacement_of self) bytes made c.finish.result c.finish.ensures.bytes c.finish.ensures.count (λ new_bytes count new counts.
-    made_by_the_limit (replacement_of self) bytes (lawful_ends (tree_of self.matcher.searcher) self.matcher.whole bytes) done c.matches.search.from c.matches.search.last made new_bytes count stands.found written
+    made_by_the_limit (replacement_of self) bytes (lawful_ends (tree_of self.matcher.searcher) self.matcher.whole bytes) done c.matches.search.from c.matches.search.last stands.found made.new_bytes.items made.copied made.count written new_bytes count
     (λ rest. as_after c.replace_one.new.quota (replacement_of self) bytes done rest c.in_ok-replace_one.ensures.limits (c.is_spent.ensures c.if-is_spent.true done rest known)) new counts)
 
 pub returns-then-is_spent-clause-few : goal.returns-then-is_spent-clause-few
@@ -77,7 +77,7 @@ returns-in-None-clause-changed c =
     let none = subst (λ (o : Option Span). IsFirst (accepts search.last (end_at (tree_of search.matcher.now.searcher) search.content.now)) search.from (length search.content.now) o) c.in-None.is c.in_ok-next.ensures.found in
     let first = as_first search.matcher.now self.matcher search.content.now bytes search.last search.from None c.matches.invariant.pattern c.matches.invariant.content none in
     finished (replacement_of self) bytes made c.finish-in-None.result c.finish-in-None.ensures.bytes c.finish-in-None.ensures.count (λ new_bytes count new counts.
-    made_at_the_end (replacement_of self) bytes (lawful_ends (tree_of self.matcher.searcher) self.matcher.whole bytes) done search.from search.last made new_bytes count stands.found written first new counts)
+    made_at_the_end (replacement_of self) bytes (lawful_ends (tree_of self.matcher.searcher) self.matcher.whole bytes) done search.from search.last stands.found made.new_bytes.items made.copied made.count written new_bytes count first new counts)
 
 pub matches-preserved : goal.matches-preserved
 matches-preserved c =
