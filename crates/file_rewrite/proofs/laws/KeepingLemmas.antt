@@ -3,7 +3,7 @@ use Rattle.std.proofs.Common.{◌≡◌, ◌≢◌, ◌⊎◌, ℕ, List, sym, �
 use Rattle.std.specs.Prelude.{Option, Some, None, IsSome}
 use Rattle.std.proofs.lemmas.Option.{same_Some}
 use Rattle.sd_edge.specs.Tree.{NameList, Tree, node_at, file_node, file_at}
-use Rattle.sd_edge.specs.Disk.{DiskState, SameTree}
+use Rattle.sd_edge.specs.Disk.{DiskState}
 use Rattle.sd_edge.proofs.WayLemmas.{same_or_other}
 use Rattle.sd_change.specs.Change.{Change, FileChange}
 use Rattle.file_exchange.specs.Crash.{KeepsFiles}

@@ -1,8 +1,7 @@
 -- Why a file is refused.
-use Rattle.std.proofs.Common.{◌≡◌, ◌≤◌, ℕ, Bool, true, false, List, [], refl, sym, ◌∙◌, ap, subst, inl, inr, arith}
-use Rattle.std.specs.Prelude.{IsTrue, Option, Some, None, is_some, Result, Ok, Err, IsErrOf, IsErrAnd, IfErr}
+use Rattle.std.proofs.Common.{◌≡◌, ◌≤◌, ℕ, Bool, true, false, List, [], refl, sym, ap, subst, inl, inr, arith}
+use Rattle.std.specs.Prelude.{IsTrue, None, is_some, Result, Ok, Err, IsErrOf, IsErrAnd, IfErr}
 use Rattle.std.specs.Option.{option_and_then}
-use Rattle.sd_edge.specs.Count.{HasRisen}
 use Rattle.sd_edge.specs.Tree.{Tree, file_at}
 use Rattle.sd_edge.specs.Paths.{parts_of, parent_of, reached}
 use Rattle.sd_edge.specs.Files.{file_of}

@@ -1,6 +1,6 @@
 -- A file that was found is kept, or its bytes are exchanged.
-use Rattle.std.proofs.Common.{◌≡◌, ◌≢◌, ◌⊎◌, ◌≤◌, ℕ, Bool, true, false, not, List, [], ◌∷◌, refl, sym, ◌∙◌, ap, subst, inl, inr, arith}
-use Rattle.std.specs.Prelude.{IsTrue, Option, Some, None, is_some, Result, Err, IsErrOf}
+use Rattle.std.proofs.Common.{◌≡◌, ◌≢◌, ◌⊎◌, ◌≤◌, ℕ, Bool, true, false, List, [], ◌∷◌, refl, sym, ◌∙◌, ap, subst, inl, inr, arith}
+use Rattle.std.specs.Prelude.{IsTrue, Option, Some, None, is_some, Err, IsErrOf}
 use Rattle.std.proofs.lemmas.Option.{same_Some}
 use Rattle.sd_edge.specs.Tree.{NameList, Content, file, Tree, SameBut, node_at, file_at}
 use Rattle.sd_edge.specs.Paths.{parts_of, parent_of, reached}
@@ -27,7 +27,7 @@ use Rattle.file_rewrite.specs.declared.fault.JobFault.{JobFault}
 use Rattle.file_rewrite.specs.declared.fault.JobFault.TheVariants as job
 use Rattle.file_rewrite.specs.Faults.{as_exchange_job}
 use Rattle.file_rewrite.specs.Reading.{FindsFile}
-use Rattle.file_rewrite.specs.Rewritten.{IsNew, IsOld, IsOldOrNew, IsLeft, IsNewFile, IsChangedFile}
+use Rattle.file_rewrite.specs.Rewritten.{IsOldOrNew, IsLeft}
 use Rattle.file_rewrite.specs.OneFile.{RewritesFile, LeavesAt, LeavesFile, IsNewAt, IsChangedAt, IsFreeBy}
 
 -- a file becomes one thing

@@ -1,8 +1,8 @@
 -- The file that a path leads to, by its own path.
 use Rattle.std.proofs.Common.{◌≡◌, ℕ, List, true, sym, ◌∙◌, ap, subst}
-use Rattle.std.specs.Prelude.{Option, Some, None, is_some}
+use Rattle.std.specs.Prelude.{Some, None, is_some}
 use Rattle.std.specs.Option.{option_and_then}
-use Rattle.sd_edge.specs.Tree.{NameList, Tree, IsTree, node_at, file_at}
+use Rattle.sd_edge.specs.Tree.{NameList, Tree, IsTree, file_at}
 use Rattle.sd_edge.specs.Paths.{parts_of, reached}
 use Rattle.sd_edge.specs.Files.{path_text, file_of, Resolves, Reads, IsNoFile}
 use Rattle.sd_edge.specs.Disk.{DiskState, SameTree}

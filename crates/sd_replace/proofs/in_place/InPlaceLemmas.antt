@@ -1,12 +1,12 @@
 -- A text that takes the place of another in the room of the old bytes.
-use Rattle.std.proofs.Common.{◌≡◌, ◌≢◌, ℕ, zero, suc, ◌+◌, ◌-◌, ◌<◌, ◌≤◌, ◌⊎◌, inl, inr, Bool, true, false, cond, List, [], ◌∷◌, ◌++◌, length, take, drop, slice_range, Option, Some, None, refl, sym, subst, ap, ◌∙◌, add-one, append_assoc, length-append, length-drop, drop-drop, arith}
-use Rattle.std.specs.Prelude.{IsTrue, nat_eq, replicate, slice_set, option_and_then}
+use Rattle.std.proofs.Common.{◌≡◌, ◌≢◌, ℕ, ◌+◌, ◌-◌, ◌<◌, ◌≤◌, ◌⊎◌, inl, inr, Bool, true, false, cond, List, [], ◌∷◌, ◌++◌, length, take, drop, slice_range, Option, Some, None, refl, sym, subst, ap, ◌∙◌, add-one, append_assoc, length-append, length-drop, drop-drop, arith}
+use Rattle.std.specs.Prelude.{nat_eq, replicate, slice_set, option_and_then}
 use Rattle.std.specs.List.{starts_with}
 use Rattle.std.proofs.lemmas.Bool.{cases_lt}
 use Rattle.std.proofs.lemmas.Bool.Decides.{Decides-eqb}
 use Rattle.std.proofs.lemmas.Option.{none-some, same_Some}
 use Rattle.std.proofs.lemmas.Slice.Eq.{starts_is}
-use Rattle.std.proofs.lemmas.List.{take_at, drop_at, take_rest, length-take-le}
+use Rattle.std.proofs.lemmas.List.{take_at, drop_at, length-take-le}
 use Rattle.grep_matcher.specs.Cover.{IsLawful, IsFirst, IsAfter, accepts, prefers}
 use Rattle.grep_matcher.specs.Span.{Span}
 use Rattle.grep_matcher.specs.References.{group_text}

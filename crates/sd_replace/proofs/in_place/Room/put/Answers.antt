@@ -1,5 +1,4 @@
 use Rattle.std.proofs.Common.{List, ℕ, length, sym, arith, ap, ◌∙◌}
-use Rattle.std.specs.Prelude.{◌+◌}
 use Rattle.sd_replace.specs.InPlace.{put_over}
 use Rattle.sd_replace.proofs.in_place.InPlaceLemmas.{left_later, left_over}
 use Rattle.sd_replace.proofs.in_place.Room.put.Goals as goal
