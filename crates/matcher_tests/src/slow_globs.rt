@@ -203,6 +203,11 @@ impl SlowGlob<'_> {
         })
     }
 
+    /// Whether it is valid.
+    fn is_valid(&self) -> bool {
+        self.signs.is_some()
+    }
+
     /// Whether it is valid and fits a path.
     fn fits(&self, path: &[char]) -> bool {
         match &self.signs {
@@ -221,6 +226,13 @@ struct Compared {
 }
 
 impl Compared {
+    /// Counts a glob where it is invalid.
+    fn count_glob(&mut self, is_valid: bool) {
+        if !is_valid {
+            self.invalid = self.invalid.saturating_add(1);
+        }
+    }
+
     /// Counts an answer.
     fn count(&mut self, fits: bool) {
         if fits {
@@ -269,7 +281,7 @@ fn agrees(
     Ok(glob_match(alloc, glob, path)? == wanted)
 }
 
-/// Whether the answers for a glob and each of these paths are those of the slow reader.
+/// Whether the answers for a glob, without a path and with each of these, are those of the slow reader.
 fn agrees_on_paths(
     alloc: Global,
     glob: &str,
@@ -277,6 +289,9 @@ fn agrees_on_paths(
     paths: &[String],
     compared: &mut Compared,
 ) -> Result<bool, NoMemory> {
+    if glob_valid(glob) != slow.is_valid() {
+        return Ok(false);
+    }
     for path in paths {
         if !agrees(alloc, glob, slow, path.as_str(), compared)? {
             return Ok(false);
@@ -285,7 +300,7 @@ fn agrees_on_paths(
     Ok(true)
 }
 
-/// Whether the answers for a glob, without a path and with each of these, are those of the slow reader.
+/// Reads a glob slowly, and tells whether the answers for it are those of the slow reader.
 fn agrees_at(
     alloc: Global,
     glob: &str,
@@ -294,11 +309,8 @@ fn agrees_at(
 ) -> Result<bool, NoMemory> {
     let characters: Vec<char> = glob.chars().collect(alloc)?;
     let slow = SlowGlob::read(alloc, &characters)?;
-    let is_valid = slow.signs.is_some();
-    if !is_valid {
-        compared.invalid = compared.invalid.saturating_add(1);
-    }
-    Ok(glob_valid(glob) == is_valid && agrees_on_paths(alloc, glob, &slow, paths, compared)?)
+    compared.count_glob(slow.is_valid());
+    agrees_on_paths(alloc, glob, &slow, paths, compared)
 }
 
 /// The first of these globs of which an answer is not that of the slow reader.
