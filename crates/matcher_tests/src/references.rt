@@ -6,6 +6,7 @@ use grep_matcher::{CaptureRef, Ref, find_cap_ref, interpolate};
 use sd_base::NoMemory;
 use std::alloc::Global;
 
+/// The reference by a name that ends here.
 fn named(name: &str, end: usize) -> Option<CaptureRef<'_>> {
     Some(CaptureRef {
         cap: Ref::Named(name),
@@ -13,6 +14,7 @@ fn named(name: &str, end: usize) -> Option<CaptureRef<'_>> {
     })
 }
 
+/// The reference by a number that ends here.
 fn numbered(number: usize, end: usize) -> Option<CaptureRef<'static>> {
     Some(CaptureRef {
         cap: Ref::Number(number),
