@@ -6,9 +6,9 @@ ghost use Rattle.grep_matcher.specs.References.{LieIn, expand, group_text};
 use grep_matcher::{Captures, Match};
 use sd_base::NoMemory;
 use std::alloc::Global;
-use std::str::from_utf8;
 use std::test::Fail;
 
+/// Three groups.
 #[derive(Drop)]
 struct Three([Option<Match>; 3]);
 
@@ -24,17 +24,21 @@ impl Captures for Three {
     }
 }
 
-fn expanded(alloc: Global, replacement: &str) -> Result<String, Fail> {
-    let mut dst = Vec::new(alloc);
+/// Appends a replacement text, where `foo` names the group 2.
+fn append_expansion(replacement: &str, dst: &mut Vec<u8>) -> Result<(), NoMemory> {
     let groups = Three([Some(Match::new(0, 6)), None, Some(Match::new(3, 6))]);
     groups.interpolate(
         |name| if name == "foo" { Some(2) } else { None },
         b"abcxxx",
         replacement.as_bytes(),
-        &mut dst,
-    )?;
-    let text = from_utf8(&dst).ok().ok_or("no text")?;
-    Ok(String::from_str(alloc, text)?)
+        dst,
+    )
+}
+
+/// Whether a replacement text becomes the wanted one.
+fn becomes(alloc: Global, replacement: &str, wanted: &str) -> bool {
+    let mut dst = Vec::new(alloc);
+    append_expansion(replacement, &mut dst).is_ok() && dst.as_slice() == wanted.as_bytes()
 }
 
 /// Only numbers name groups.
@@ -50,28 +54,39 @@ fn without_names(
     groups.interpolate(|_name| None, haystack, replacement, dst)
 }
 
-#[test]
-fn names_without_numbers(rt: HostRuntime) -> Result<(), Fail> {
+/// Appends a replacement text, where no name is of a group.
+fn append_without_names(dst: &mut Vec<u8>) -> Result<(), NoMemory> {
     let groups = Three([Some(Match::new(0, 2)), None, Some(Match::new(1, 2))]);
-    let mut dst = Vec::from_slice(rt.alloc(), b">")?;
-    without_names(&groups, b"ab", b"$2$foo$0$1.", &mut dst)?;
-    assert_eq!(rt; dst.as_slice(), b">bab.".as_slice());
-    Ok(())
+    without_names(&groups, b"ab", b"$2$foo$0$1.", dst)
 }
 
 #[test]
-fn groups_stand_in_their_places(rt: HostRuntime) -> Result<(), Fail> {
-    for (replacement, want) in [
-        ("test${2}test", "testxxxtest"),
-        ("test${foo}test", "testxxxtest"),
-        ("test $$foo test", "test $foo test"),
-        ("<$0|$1|$2|$3>", "<abcxxx||xxx|>"),
-    ] {
-        assert_eq!(rt;
-            expanded(rt.alloc(), replacement)?.as_str(),
-            want,
-            "of {replacement}"
-        );
-    }
+fn names_without_numbers(rt: HostRuntime) -> Result<(), Fail> {
+    let mut dst = Vec::from_slice(rt.alloc(), b">")?;
+    assert!(rt; append_without_names(&mut dst).is_ok());
+    assert!(rt; dst.as_slice() == b">bab.".as_slice());
     Ok(())
+}
+
+/// A replacement text, and what it becomes.
+const EXPANSIONS: &[(&str, &str)] = &[
+    ("test${2}test", "testxxxtest"),
+    ("test${foo}test", "testxxxtest"),
+    ("test $$foo test", "test $foo test"),
+    ("<$0|$1|$2|$3>", "<abcxxx||xxx|>"),
+];
+
+/// The first of these replacement texts that becomes something else.
+fn first_wrong(alloc: Global) -> Option<&'static str> {
+    for (replacement, wanted) in EXPANSIONS {
+        if !becomes(alloc, replacement, wanted) {
+            return Some(replacement);
+        }
+    }
+    None
+}
+
+#[test]
+fn groups_stand_in_their_places(rt: HostRuntime) {
+    assert_eq!(rt; first_wrong(rt.alloc()), None);
 }

@@ -105,3 +105,16 @@ pub fn replaced_and_counted<M: Matcher>(
     matcher.replace_with_captures_at_by(haystack, 0, caps, dst, &mut append)?;
     Ok(n)
 }
+
+/// Whether the spans are those that start and end here.
+pub fn stand_at(spans: &[Match], wanted: &[(usize, usize)]) -> bool {
+    if spans.len() != wanted.len() {
+        return false;
+    }
+    for (span, (start, end)) in spans.iter().zip(wanted.iter()) {
+        if span.start() != *start || span.end() != *end {
+            return false;
+        }
+    }
+    true
+}

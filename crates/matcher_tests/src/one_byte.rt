@@ -5,7 +5,6 @@ ghost use Rattle.grep_matcher.specs.PlainLemmas.{no_groups};
 ghost use Rattle.matcher_tests.specs.OneByte.{end_of_byte, byte_lawful};
 
 use grep_matcher::{ByteSet, LineTerminator, Match, Matcher, NoCaptures, NoError};
-use std::test::Fail;
 
 /// The matcher of one byte.
 #[derive(Drop)]
@@ -70,20 +69,36 @@ impl Matcher for OneByte {
     }
 }
 
+/// Whether the bytes that are told of are others than the dash.
+fn tells_others(dash: &OneByte) -> bool {
+    match dash.non_matching_bytes() {
+        Some(told) => told.contains(b'a') && told.contains(b'\n') && !told.contains(b'-'),
+        None => false,
+    }
+}
+
+/// Whether the end of lines is told, also through two references.
+fn tells_crlf(dash: &OneByte) -> bool {
+    dash.line_terminator() == Some(LineTerminator::crlf())
+        && (&dash).line_terminator() == Some(LineTerminator::crlf())
+}
+
+/// Whether nothing is told.
+fn tells_nothing(feed: &OneByte) -> bool {
+    feed.non_matching_bytes().is_none() && feed.line_terminator().is_none()
+}
+
 #[test]
-fn bytes_in_no_match_are_told(rt: HostRuntime) -> Result<(), Fail> {
+fn bytes_in_no_match_are_told(rt: HostRuntime) {
     let mut others = ByteSet::full();
     others.remove(b'-');
     let dash = OneByte { byte: b'-', others };
-    assert_eq!(rt; dash.find(b"a-b")?, Some(Match::new(1, 2)));
-    let told = dash.non_matching_bytes().ok_or("no bytes")?;
-    assert!(rt; told.contains(b'a') && told.contains(b'\n') && !told.contains(b'-'));
-    assert_eq!(rt; dash.line_terminator(), Some(LineTerminator::crlf()));
-    assert_eq!(rt; (&&dash).line_terminator(), Some(LineTerminator::crlf()));
+    assert!(rt; dash.find(b"a-b") == Ok(Some(Match::new(1, 2))));
+    assert!(rt; tells_others(&dash));
+    assert!(rt; tells_crlf(&dash));
     let feed = OneByte {
         byte: b'\n',
         others: ByteSet::full(),
     };
-    assert!(rt; feed.non_matching_bytes().is_none() && feed.line_terminator().is_none());
-    Ok(())
+    assert!(rt; tells_nothing(&feed));
 }

@@ -1,5 +1,6 @@
 //! Sets of bytes.
 
+use crate::values::prints_as;
 use grep_matcher::ByteSet;
 use std::test::Fail;
 
@@ -37,9 +38,6 @@ fn prints_its_words(rt: HostRuntime) -> Result<(), Fail> {
     let mut set = ByteSet::empty();
     set.add(1);
     set.add(64);
-    assert_eq!(rt;
-        format!(in rt.alloc(); "{set:?}")?.as_str(),
-        "ByteSet { words: [2, 1, 0, 0] }"
-    );
+    assert!(rt; prints_as(rt.alloc(), &set, "ByteSet { words: [2, 1, 0, 0] }")?);
     Ok(())
 }

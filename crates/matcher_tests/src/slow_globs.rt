@@ -203,6 +203,11 @@ impl SlowGlob<'_> {
         })
     }
 
+    /// Whether it is valid.
+    fn is_valid(&self) -> bool {
+        self.signs.is_some()
+    }
+
     /// Whether it is valid and fits a path.
     fn fits(&self, path: &[char]) -> bool {
         match &self.signs {
@@ -221,6 +226,13 @@ struct Compared {
 }
 
 impl Compared {
+    /// Counts a glob where it is invalid.
+    fn count_glob(&mut self, is_valid: bool) {
+        if !is_valid {
+            self.invalid = self.invalid.saturating_add(1);
+        }
+    }
+
     /// Counts an answer.
     fn count(&mut self, fits: bool) {
         if fits {
@@ -255,37 +267,75 @@ fn word(alloc: Global, letters: &[char], number: usize) -> Result<String, NoMemo
     Ok(word)
 }
 
-/// Whether this is the last of the words.
-fn is_last(words: &[String], word: &str) -> bool {
-    words.last().is_some_and(|last| last.as_str() == word)
+/// Whether the answer for a glob and a path is that of the slow reader, which is counted.
+fn agrees(
+    alloc: Global,
+    glob: &str,
+    slow: &SlowGlob<'_>,
+    path: &str,
+    compared: &mut Compared,
+) -> Result<bool, NoMemory> {
+    let characters: Vec<char> = path.chars().collect(alloc)?;
+    let wanted = slow.fits(&characters);
+    compared.count(wanted);
+    Ok(glob_match(alloc, glob, path)? == wanted)
 }
 
-/// Compares the answers for a glob and each of these paths.
-fn compare_at(
-    rt: &(impl Abort + AllocGlobal),
+/// Whether the answers for a glob, without a path and with each of these, are those of the slow reader.
+fn agrees_on_paths(
+    alloc: Global,
+    glob: &str,
+    slow: &SlowGlob<'_>,
+    paths: &[String],
+    compared: &mut Compared,
+) -> Result<bool, NoMemory> {
+    if glob_valid(glob) != slow.is_valid() {
+        return Ok(false);
+    }
+    for path in paths {
+        if !agrees(alloc, glob, slow, path.as_str(), compared)? {
+            return Ok(false);
+        }
+    }
+    Ok(true)
+}
+
+/// Reads a glob slowly, and tells whether the answers for it are those of the slow reader.
+fn agrees_at(
+    alloc: Global,
     glob: &str,
     paths: &[String],
     compared: &mut Compared,
-) -> Result<(), Fail> {
-    let alloc = rt.alloc();
+) -> Result<bool, NoMemory> {
     let characters: Vec<char> = glob.chars().collect(alloc)?;
     let slow = SlowGlob::read(alloc, &characters)?;
-    let is_valid = slow.signs.is_some();
-    assert_eq!(rt; glob_valid(glob), is_valid, "{glob}");
-    if !is_valid {
-        compared.invalid = compared.invalid.saturating_add(1);
+    compared.count_glob(slow.is_valid());
+    agrees_on_paths(alloc, glob, &slow, paths, compared)
+}
+
+/// The first of these globs of which an answer is not that of the slow reader.
+fn first_unlike<'a>(
+    alloc: Global,
+    globs: &'a [String],
+    paths: &[String],
+    compared: &mut Compared,
+) -> Result<Option<&'a str>, NoMemory> {
+    for glob in globs {
+        if !agrees_at(alloc, glob.as_str(), paths, compared)? {
+            return Ok(Some(glob.as_str()));
+        }
     }
-    for path in paths {
-        let characters: Vec<char> = path.chars().collect(alloc)?;
-        let wanted = slow.fits(&characters);
-        assert_eq!(rt;
-            glob_match(alloc, glob, path.as_str())?,
-            wanted,
-            "{glob} {path}"
-        );
-        compared.count(wanted);
+    Ok(None)
+}
+
+/// Whether these are the last of the words.
+fn are_last(globs: &[String], glob: &str, paths: &[String], path: &str) -> bool {
+    match (globs, paths) {
+        ([.., last_glob], [.., last_path]) => {
+            last_glob.as_str() == glob && last_path.as_str() == path
+        }
+        _ => false,
     }
-    Ok(())
 }
 
 /// Compares the answers for each of these globs and each of these paths.
@@ -293,16 +343,20 @@ fn compare(
     rt: &(impl Abort + AllocGlobal),
     globs: &[String],
     paths: &[String],
-) -> Result<Compared, Fail> {
+    wanted: usize,
+) -> Result<(), Fail> {
     let mut compared = Compared {
         fitting: 0,
         others: 0,
         invalid: 0,
     };
-    for glob in globs {
-        compare_at(rt, glob.as_str(), paths, &mut compared)?;
-    }
-    Ok(compared)
+    assert_eq!(rt;
+        first_unlike(rt.alloc(), globs, paths, &mut compared)?,
+        None
+    );
+    assert!(rt; compared.fitting.saturating_add(compared.others) == wanted);
+    assert!(rt; compared.fitting > 0 && compared.others > 0 && compared.invalid > 0);
+    Ok(())
 }
 
 #[test]
@@ -310,14 +364,8 @@ fn short_globs_fit_as_slowly(rt: HostRuntime) -> Result<(), Fail> {
     let signs = ['a', '/', '*', '?', '{', ',', '}', '!', '[', ']'];
     let globs = words(rt.alloc(), &signs, 11111)?;
     let paths = words(rt.alloc(), &['a', 'b', '/'], 121)?;
-    assert!(rt; is_last(&globs, "]]]]") && is_last(&paths, "////"));
-    let compared = compare(&rt, &globs, &paths)?;
-    assert_eq!(rt;
-        compared.fitting.saturating_add(compared.others),
-        11111 * 121
-    );
-    assert!(rt; compared.fitting > 0 && compared.others > 0 && compared.invalid > 0);
-    Ok(())
+    assert!(rt; are_last(&globs, "]]]]", &paths, "////"));
+    compare(&rt, &globs, &paths, 11111 * 121)
 }
 
 #[test]
@@ -325,12 +373,6 @@ fn stars_and_braces_fit_as_slowly(rt: HostRuntime) -> Result<(), Fail> {
     let signs = ['a', '/', '*', '{', ',', '}'];
     let globs = words(rt.alloc(), &signs, 55987)?;
     let paths = words(rt.alloc(), &['a', '/'], 63)?;
-    assert!(rt; is_last(&globs, "}}}}}}") && is_last(&paths, "/////"));
-    let compared = compare(&rt, &globs, &paths)?;
-    assert_eq!(rt;
-        compared.fitting.saturating_add(compared.others),
-        55987 * 63
-    );
-    assert!(rt; compared.fitting > 0 && compared.others > 0 && compared.invalid > 0);
-    Ok(())
+    assert!(rt; are_last(&globs, "}}}}}}", &paths, "/////"));
+    compare(&rt, &globs, &paths, 55987 * 63)
 }
