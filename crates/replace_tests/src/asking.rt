@@ -1,5 +1,6 @@
 //! Replacers of short texts, and what they make of bytes.
 
+use sd_change::{Replaces, Rewritten};
 use sd_replace::{Replacer, ReplacerFault};
 use std::alloc::Global;
 use std::process::Abort;
@@ -88,6 +89,24 @@ fn has_matches(alloc: Global, case: &Case<'_>, old: &[u8]) -> Result<bool, Fail>
     Ok(replacer.has_matches(old)?)
 }
 
+/// Whether a case makes these bytes, with so many matches replaced, of old ones that are given away.
+fn rewrites(
+    alloc: Global,
+    case: &Case<'_>,
+    old: &[u8],
+    new: &[u8],
+    count: u128,
+) -> Result<bool, Fail> {
+    let replacer = made(alloc, case)?;
+    match replacer.rewrite(Vec::from_slice(alloc, old)?)? {
+        Rewritten::Same(counted) => Ok(new == old && counted == count),
+        Rewritten::Other(changed) => {
+            let is_new = new != old && changed.new_bytes.as_slice() == new;
+            Ok(is_new && changed.count == count)
+        }
+    }
+}
+
 /// A case makes new bytes of old ones, with so many matches replaced.
 pub(crate) fn check(
     rt: &(impl Abort + AllocGlobal),
@@ -101,5 +120,6 @@ pub(crate) fn check(
     assert_eq!(rt; previewed(rt.alloc(), case, old)?.as_slice(), new, "{find}");
     assert_eq!(rt; counted(rt.alloc(), case, old)?, count, "{find}");
     assert_eq!(rt; has_matches(rt.alloc(), case, old)?, count > 0, "{find}");
+    assert!(rt; rewrites(rt.alloc(), case, old, new, count)?, "{find}");
     Ok(())
 }

@@ -74,6 +74,28 @@ const LITERALS: &[(&str, &str, &str, &str, u128)] = &[
     ("", "-", "ab", "-a-b-", 3),
 ];
 
+/// A text, one that takes its place in its room or wants more, what becomes of another text, and how often.
+const TEXTS: &[(&str, &str, &str, &str, u128)] = &[
+    ("aa", "b", "aaaaa", "bba", 2),
+    ("aa", "bb", "aaaaa", "bbbba", 2),
+    ("one", "", "one two one", " two ", 2),
+    ("one", "one", "one two", "one two", 1),
+    ("ab", "a", "abab.ab", "aa.a", 3),
+    ("abc", "xyz", "ab abc abcabc", "ab xyz xyzxyz", 3),
+    ("a", "bc", "banana", "bbcnbcnbc", 3),
+    ("one", "1", "two", "two", 0),
+];
+
+#[test]
+fn texts_give_way_to_texts_of_each_length(rt: HostRuntime) -> Result<(), Fail> {
+    for (find, with, old, new, count) in TEXTS {
+        for case in [pattern(find, with), literal(find, with)] {
+            check(&rt, &case, old.as_bytes(), new.as_bytes(), *count)?;
+        }
+    }
+    Ok(())
+}
+
 #[test]
 fn literal_texts_mean_themselves(rt: HostRuntime) -> Result<(), Fail> {
     for (find, with, old, new, count) in LITERALS {
