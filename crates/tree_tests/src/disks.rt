@@ -1,8 +1,6 @@
-//! Small trees, what a command tells of them, and what stands there.
+//! Small trees, and what stands there.
 
-use crate::swapping::Swap;
-use sd_core::{Report, SweepFault, sweep};
-use sd_edge::{Globs, MemDisk};
+use sd_edge::{BuildFault, MemDisk};
 use std::alloc::Global;
 use std::test::Fail;
 
@@ -11,13 +9,50 @@ pub(crate) const OLD: &[u8] = b"one two one";
 
 pub(crate) const NEW: &[u8] = b"1 two 1";
 
+/// What stands at a path: a folder, a file with its bytes and its mode, or a link with its target.
+pub(crate) enum Node<'a> {
+    Folder,
+    File(&'a [u8], u32),
+    Link(&'a str),
+}
+
 /// A folder `/t` with a file that `*.txt` chooses, and one that it doesn't.
-pub(crate) fn two_files(alloc: Global) -> Result<MemDisk, Fail> {
-    let mut disk = MemDisk::new(alloc);
-    disk.add_dir("/t")?;
-    disk.add_file("/t/a.txt", OLD, 0o640)?;
-    disk.add_file("/t/b.md", b"one", 0o600)?;
-    Ok(disk)
+pub(crate) const TWO_FILES: &[(&str, Node<'static>)] = &[
+    ("/t", Node::Folder),
+    ("/t/a.txt", Node::File(OLD, 0o640)),
+    ("/t/b.md", Node::File(b"one", 0o600)),
+];
+
+/// Adds a folder to a disk.
+fn add_folder(disk: &mut MemDisk, path: &str) -> Result<(), BuildFault> {
+    disk.add_dir(path)
+}
+
+/// Adds a file to a disk.
+fn add_file(disk: &mut MemDisk, path: &str, bytes: &[u8], mode: u32) -> Result<(), BuildFault> {
+    disk.add_file(path, bytes, mode)
+}
+
+/// Adds a link to a disk.
+fn add_link(disk: &mut MemDisk, path: &str, target: &str) -> Result<(), BuildFault> {
+    disk.add_link(path, target)
+}
+
+/// Adds a node to a disk.
+fn add(disk: &mut MemDisk, path: &str, node: &Node<'_>) -> Result<(), BuildFault> {
+    match node {
+        Node::Folder => add_folder(disk, path),
+        Node::File(bytes, mode) => add_file(disk, path, bytes, *mode),
+        Node::Link(target) => add_link(disk, path, target),
+    }
+}
+
+/// Adds nodes to a disk, one after the other.
+pub(crate) fn fill(disk: &mut MemDisk, nodes: &[(&str, Node<'_>)]) -> Result<(), Fail> {
+    for (path, node) in nodes {
+        add(disk, path, node)?;
+    }
+    Ok(())
 }
 
 /// Whether the file at a path holds these bytes. No link is followed.
@@ -28,44 +63,29 @@ pub(crate) fn holds(alloc: Global, disk: &MemDisk, path: &str, bytes: &[u8]) -> 
     }
 }
 
-/// `1` in place of each `one`.
-pub(crate) fn one_to_digit(alloc: Global) -> Swap<'static> {
-    Swap {
-        alloc,
-        find: b"one",
-        with: b"1",
-    }
-}
-
-/// These texts as globs.
-pub(crate) fn globs_of(alloc: Global, texts: &[&str]) -> Result<Globs, Fail> {
-    let mut globs = Globs::new(alloc);
-    for text in texts {
-        globs.push(text)?;
-    }
-    Ok(globs)
-}
-
-/// What is told of a command: its counts, or the text of its fault.
-pub(crate) fn text_of(alloc: Global, answer: &Result<Report, SweepFault>) -> Result<String, Fail> {
-    match answer {
-        Ok(report) => {
-            let (chosen, changed, replaced) = (report.chosen, report.changed, report.replaced);
-            Ok(format!(in alloc; "chosen {chosen}, changed {changed}, replaced {replaced}")?)
-        }
-        Err(fault) => Ok(format!(in alloc; "{fault}")?),
-    }
-}
-
-/// Rewrites the files below a root that these globs choose, and gives what is told.
-pub(crate) fn swept(
+/// The first of these paths at which no file holds the bytes beside it.
+pub(crate) fn first_other_bytes<'a>(
     alloc: Global,
-    disk: &mut MemDisk,
-    root: &str,
-    globs: &[&str],
-    replacer: &Swap<'_>,
-) -> Result<String, Fail> {
-    let globs = globs_of(alloc, globs)?;
-    let answer = sweep(alloc, disk, root, &globs, replacer);
-    text_of(alloc, &answer)
+    disk: &MemDisk,
+    files: &[(&'a str, &[u8])],
+) -> Result<Option<&'a str>, Fail> {
+    for (path, bytes) in files {
+        if !holds(alloc, disk, path, bytes)? {
+            return Ok(Some(*path));
+        }
+    }
+    Ok(None)
+}
+
+/// The first of these paths at which a file has not the mode beside it, or there is one in place of none.
+pub(crate) fn first_other_mode<'a>(
+    disk: &MemDisk,
+    modes: &[(&'a str, Option<u32>)],
+) -> Option<&'a str> {
+    for (path, mode) in modes {
+        if disk.mode_at(path) != *mode {
+            return Some(*path);
+        }
+    }
+    None
 }

@@ -1,34 +1,33 @@
 //! Disks that fail under a command.
 
-use crate::disks::{NEW, OLD, holds, one_to_digit, swept};
+use crate::commands::{one_to_digit, swept, tells};
+use crate::disks::{NEW, Node, OLD, fill, first_other_mode, holds};
 use sd_edge::MemDisk;
 use std::alloc::Global;
 use std::test::Fail;
 
 /// Three files in two folders.
-fn three_files(alloc: Global) -> Result<MemDisk, Fail> {
-    let mut disk = MemDisk::new(alloc);
-    for folder in ["/t", "/t/a", "/t/b"] {
-        disk.add_dir(folder)?;
-    }
-    for path in PATHS {
-        disk.add_file(path, OLD, 0o640)?;
-    }
-    Ok(disk)
-}
+const THREE_FILES: &[(&str, Node<'static>)] = &[
+    ("/t", Node::Folder),
+    ("/t/a", Node::Folder),
+    ("/t/b", Node::Folder),
+    ("/t/a/x", Node::File(OLD, 0o640)),
+    ("/t/a/y", Node::File(OLD, 0o640)),
+    ("/t/b/z", Node::File(OLD, 0o640)),
+];
 
 /// The paths of the three files, in the order of names.
-const PATHS: [&str; 3] = ["/t/a/x", "/t/a/y", "/t/b/z"];
+const PATHS: &[&str] = &["/t/a/x", "/t/a/y", "/t/b/z"];
 
-/// Puts `1` in place of each `one` in all three files, and gives what is told.
-fn told(alloc: Global, disk: &mut MemDisk) -> Result<String, Fail> {
-    swept(alloc, disk, "/t", &["**"], &one_to_digit(alloc))
+/// Puts `1` in place of each `one` in all files below a root, and gives what is told.
+fn told(alloc: Global, disk: &mut MemDisk, root: &str) -> Result<String, Fail> {
+    swept(alloc, disk, root, &["**"], &one_to_digit(alloc))
 }
 
 /// Whether each file but that at a path holds these bytes.
 fn others_hold(alloc: Global, disk: &MemDisk, path: &str, bytes: &[u8]) -> Result<bool, Fail> {
     for other in PATHS {
-        if other != path && !holds(alloc, disk, other, bytes)? {
+        if *other != path && !holds(alloc, disk, other, bytes)? {
             return Ok(false);
         }
     }
@@ -40,18 +39,28 @@ fn one_job(alloc: Global, path: &str, fault: &str) -> Result<String, Fail> {
     Ok(format!(in alloc; "failed processing files:\n\tFailedJobs(\n\t{path}: {fault}\n)")?)
 }
 
+/// Whether it is told that the one file at this path failed so.
+fn is_one_job(alloc: Global, text: &str, path: &str, fault: &str) -> Result<bool, Fail> {
+    let wanted = one_job(alloc, path, fault)?;
+    Ok(text == wanted.as_str())
+}
+
 const FAILED: &str = "input or output failed";
 
 const UNMOVED: &str = "failed to move file: input or output failed";
 
+/// Whether the file at a path is old or new.
+fn is_old_or_new(alloc: Global, disk: &MemDisk, path: &str) -> Result<bool, Fail> {
+    Ok(holds(alloc, disk, path, OLD)? || holds(alloc, disk, path, NEW)?)
+}
+
 /// Whether it is told that the one file at this path failed, and it is as its fault says: old before its move, and old or new from
 /// then on.
 fn is_failed(alloc: Global, disk: &MemDisk, text: &str, path: &str) -> Result<bool, Fail> {
-    let old = holds(alloc, disk, path, OLD)?;
-    let new = holds(alloc, disk, path, NEW)?;
-    let before = text == one_job(alloc, path, FAILED)?.as_str();
-    let since = text == one_job(alloc, path, UNMOVED)?.as_str();
-    Ok(before && old || since && (old || new))
+    if is_one_job(alloc, text, path, FAILED)? {
+        return holds(alloc, disk, path, OLD);
+    }
+    Ok(is_one_job(alloc, text, path, UNMOVED)? && is_old_or_new(alloc, disk, path)?)
 }
 
 /// Whether it is told that one file failed, which is as its fault says, and all others are new.
@@ -71,32 +80,91 @@ fn is_unlisted(alloc: Global, disk: &MemDisk, text: &str) -> Result<bool, Fail> 
     Ok(is_told && others_hold(alloc, disk, "", OLD)?)
 }
 
-/// How many calls the command makes.
-fn calls_of_all(alloc: Global) -> Result<u64, Fail> {
-    let mut disk = three_files(alloc)?;
-    let _told = told(alloc, &mut disk)?;
-    Ok(disk.calls())
+/// How many calls a command makes that rewrites all files below a root.
+fn calls_on(
+    alloc: Global,
+    disk: &mut MemDisk,
+    nodes: &[(&str, Node<'_>)],
+    root: &str,
+) -> Result<u64, Fail> {
+    fill(disk, nodes)?;
+    let swap = one_to_digit(alloc);
+    if tells(
+        alloc,
+        disk,
+        root,
+        &["**"],
+        &swap,
+        "chosen 3, changed 3, replaced 6",
+    )? {
+        Ok(disk.calls())
+    } else {
+        Err("not all files are rewritten".into())
+    }
+}
+
+/// The same on a new disk.
+fn calls_of(alloc: Global, nodes: &[(&str, Node<'_>)], root: &str) -> Result<u64, Fail> {
+    let mut disk = MemDisk::new(alloc);
+    calls_on(alloc, &mut disk, nodes, root)
+}
+
+/// What comes of a command on three files while the disk fails.
+#[derive(Drop)]
+enum Outcome {
+    /// It is told that nothing was written, and all files are old.
+    Unwritten,
+    /// Another failure is told, and what the test looks at is as it says.
+    AsTold,
+    /// What is told or what stands there is wrong.
+    Otherwise,
+}
+
+/// The mode of one file, and that nothing has a reserved name.
+const MODES: &[(&str, Option<u32>)] = &[
+    ("/t/a/x", Some(0o640)),
+    ("/t/a/.sd-0000.tmp", None),
+    ("/t/b/.sd-0000.tmp", None),
+];
+
+/// What came of a command that told this, where one call failed.
+fn outcome_of_fault(alloc: Global, disk: &MemDisk, text: &str) -> Result<Outcome, Fail> {
+    if disk.faults() != 1 || first_other_mode(disk, MODES).is_some() {
+        return Ok(Outcome::Otherwise);
+    }
+    if is_unlisted(alloc, disk, text)? {
+        return Ok(Outcome::Unwritten);
+    }
+    if has_one_failed(alloc, disk, text)? {
+        return Ok(Outcome::AsTold);
+    }
+    Ok(Outcome::Otherwise)
+}
+
+/// What comes of a command of which the call with this number fails.
+fn fail_one_call(alloc: Global, disk: &mut MemDisk, call: u64) -> Result<Outcome, Fail> {
+    fill(disk, THREE_FILES)?;
+    disk.fail_at(call)?;
+    let text = told(alloc, disk, "/t")?;
+    outcome_of_fault(alloc, disk, text.as_str())
+}
+
+/// The same on a new disk.
+fn with_one_fault(alloc: Global, call: u64) -> Result<Outcome, Fail> {
+    let mut disk = MemDisk::new(alloc);
+    fail_one_call(alloc, &mut disk, call)
 }
 
 #[test]
 fn one_fault_fails_one_file(rt: HostRuntime) -> Result<(), Fail> {
     let alloc = rt.alloc();
-    let calls = calls_of_all(alloc)?;
+    let calls = calls_of(alloc, THREE_FILES, "/t")?;
     let mut unlisted = 0_u64;
     for call in 1..=calls {
-        let mut disk = three_files(alloc)?;
-        disk.fail_at(call)?;
-        let text = told(alloc, &mut disk)?;
-        let text = text.as_str();
-        if is_unlisted(alloc, &disk, text)? {
-            unlisted = unlisted.saturating_add(1);
-        } else {
-            assert!(rt; has_one_failed(alloc, &disk, text)?, "call {call}: {text}");
+        match with_one_fault(alloc, call)? {
+            Outcome::Unwritten => unlisted = unlisted.saturating_add(1),
+            outcome => assert!(rt; matches!(outcome, Outcome::AsTold), "call {call}"),
         }
-        assert_eq!(rt; disk.faults(), 1, "call {call}");
-        assert_eq!(rt; disk.mode_at("/t/a/x"), Some(0o640), "call {call}");
-        assert_eq!(rt; disk.mode_at("/t/a/.sd-0000.tmp"), None, "call {call}");
-        assert_eq!(rt; disk.mode_at("/t/b/.sd-0000.tmp"), None, "call {call}");
     }
     // three lists with five entries, and three lengths; then six steps for each file
     assert!(rt;
@@ -110,19 +178,50 @@ fn one_fault_fails_one_file(rt: HostRuntime) -> Result<(), Fail> {
 const ALL_FAILED: &str =
     "failed processing files:\n\tFailedJobs(\n\t/t/a/x: input or output failed\n\t/t/a/y: input or output failed\n\t/t/b/z: input or output failed\n)";
 
+/// What came of a command that told this, where all calls from one on failed.
+fn outcome_of_stop(alloc: Global, disk: &MemDisk, text: &str) -> Result<Outcome, Fail> {
+    if text != ALL_FAILED {
+        let is_told = text.contains("failed");
+        return Ok(if is_told {
+            Outcome::AsTold
+        } else {
+            Outcome::Otherwise
+        });
+    }
+    if others_hold(alloc, disk, "", OLD)? {
+        return Ok(Outcome::Unwritten);
+    }
+    Ok(Outcome::Otherwise)
+}
+
+/// Runs the command on three files on a disk that stops at a call, and gives what is told.
+fn stopped(alloc: Global, disk: &mut MemDisk, call: u64) -> Result<String, Fail> {
+    fill(disk, THREE_FILES)?;
+    disk.stop_at(call);
+    told(alloc, disk, "/t")
+}
+
+/// What comes of a command on a disk that stops at this call.
+fn stop(alloc: Global, disk: &mut MemDisk, call: u64) -> Result<Outcome, Fail> {
+    let text = stopped(alloc, disk, call)?;
+    outcome_of_stop(alloc, disk, text.as_str())
+}
+
+/// The same on a new disk.
+fn with_a_stop(alloc: Global, call: u64) -> Result<Outcome, Fail> {
+    let mut disk = MemDisk::new(alloc);
+    stop(alloc, &mut disk, call)
+}
+
 #[test]
 fn a_disk_that_stops_fails_all_files_that_are_left(rt: HostRuntime) -> Result<(), Fail> {
     let alloc = rt.alloc();
     let mut all_failed = 0_u64;
-    for call in 1..=calls_of_all(alloc)? {
-        let mut disk = three_files(alloc)?;
-        disk.stop_at(call);
-        let text = told(alloc, &mut disk)?;
-        if text.as_str() == ALL_FAILED {
-            assert!(rt; others_hold(alloc, &disk, "", OLD)?, "call {call}");
-            all_failed = all_failed.saturating_add(1);
+    for call in 1..=calls_of(alloc, THREE_FILES, "/t")? {
+        match with_a_stop(alloc, call)? {
+            Outcome::Unwritten => all_failed = all_failed.saturating_add(1),
+            outcome => assert!(rt; matches!(outcome, Outcome::AsTold), "call {call}"),
         }
-        assert!(rt; text.as_str().contains("failed"), "call {call}: {text}");
     }
     assert!(rt; all_failed > 0);
     Ok(())
@@ -131,35 +230,48 @@ fn a_disk_that_stops_fails_all_files_that_are_left(rt: HostRuntime) -> Result<()
 /// Whether each file is old or new, with its mode.
 fn are_old_or_new(alloc: Global, disk: &MemDisk) -> Result<bool, Fail> {
     for path in PATHS {
-        let old = holds(alloc, disk, path, OLD)?;
-        let new = holds(alloc, disk, path, NEW)?;
-        if !(old || new) || disk.mode_at(path) != Some(0o640) {
+        if disk.mode_at(path) != Some(0o640) || !is_old_or_new(alloc, disk, path)? {
             return Ok(false);
         }
     }
     Ok(true)
 }
 
+/// Whether each file is old or new after a crash.
+fn is_whole(alloc: Global, disk: &MemDisk, choice: u64) -> Result<bool, Fail> {
+    let image = disk.crash(alloc, choice)?;
+    are_old_or_new(alloc, &image)
+}
+
+/// The first of the choices of a crash after which a file is neither old nor new, where the disk stopped at a call.
+fn first_broken_on(alloc: Global, disk: &mut MemDisk, call: u64) -> Result<Option<u64>, Fail> {
+    let _told = stopped(alloc, disk, call)?;
+    for choice in 0..16 {
+        if !is_whole(alloc, disk, choice)? {
+            return Ok(Some(choice));
+        }
+    }
+    Ok(None)
+}
+
+/// The same on a new disk.
+fn first_broken(alloc: Global, call: u64) -> Result<Option<u64>, Fail> {
+    let mut disk = MemDisk::new(alloc);
+    first_broken_on(alloc, &mut disk, call)
+}
+
 #[test]
 fn a_crash_leaves_each_file_old_or_new(rt: HostRuntime) -> Result<(), Fail> {
     let alloc = rt.alloc();
-    for call in 1..=calls_of_all(alloc)? {
-        let mut disk = three_files(alloc)?;
-        disk.stop_at(call);
-        let _told = told(alloc, &mut disk)?;
-        for choice in 0..16 {
-            let image = disk.crash(alloc, choice)?;
-            assert!(rt;
-                are_old_or_new(alloc, &image)?,
-                "call {call}, choice {choice}"
-            );
-        }
+    for call in 1..=calls_of(alloc, THREE_FILES, "/t")? {
+        let broken = first_broken(alloc, call)?;
+        assert_eq!(rt; broken, None, "call {call}");
     }
     Ok(())
 }
 
 /// Roots that lead to `/t`, and the path of the last file below each.
-const ROOTS: [(&str, &str); 4] = [
+const ROOTS: &[(&str, &str)] = &[
     ("/t/", "/t/b/z"),
     ("t", "t/b/z"),
     ("/t/a/..", "/t/a/../b/z"),
@@ -167,26 +279,50 @@ const ROOTS: [(&str, &str); 4] = [
 ];
 
 /// Three files in two folders, and a link to the folder of both.
-fn linked(alloc: Global) -> Result<MemDisk, Fail> {
-    let mut disk = three_files(alloc)?;
-    disk.add_link("/l", "t")?;
-    Ok(disk)
+const LINKED: &[(&str, Node<'static>)] = &[
+    ("/t", Node::Folder),
+    ("/t/a", Node::Folder),
+    ("/t/b", Node::Folder),
+    ("/t/a/x", Node::File(OLD, 0o640)),
+    ("/t/a/y", Node::File(OLD, 0o640)),
+    ("/t/b/z", Node::File(OLD, 0o640)),
+    ("/l", Node::Link("t")),
+];
+
+/// Runs the command below a root on a disk of which one call fails, and gives what is told.
+fn told_at_fault(alloc: Global, disk: &mut MemDisk, root: &str, call: u64) -> Result<String, Fail> {
+    fill(disk, LINKED)?;
+    disk.fail_at(call)?;
+    told(alloc, disk, root)
+}
+
+/// The same on a new disk.
+fn told_with_fault(alloc: Global, root: &str, call: u64) -> Result<String, Fail> {
+    let mut disk = MemDisk::new(alloc);
+    told_at_fault(alloc, &mut disk, root, call)
+}
+
+/// Whether the file at a path is told to be the one that failed, where the last call below a root fails.
+fn is_last_told(alloc: Global, root: &str, path: &str) -> Result<bool, Fail> {
+    // the last call puts the last file's new name on the medium
+    let last = calls_of(alloc, LINKED, root)?;
+    let text = told_with_fault(alloc, root, last)?;
+    is_one_job(alloc, text.as_str(), path, UNMOVED)
+}
+
+/// The first root below which another path is told.
+fn first_mistold(alloc: Global) -> Result<Option<&'static str>, Fail> {
+    for (root, path) in ROOTS {
+        if !is_last_told(alloc, root, path)? {
+            return Ok(Some(*root));
+        }
+    }
+    Ok(None)
 }
 
 #[test]
 fn a_failed_file_is_told_by_the_root_as_it_was_given(rt: HostRuntime) -> Result<(), Fail> {
-    let alloc = rt.alloc();
-    for (root, path) in ROOTS {
-        let mut disk = linked(alloc)?;
-        let text = swept(alloc, &mut disk, root, &["**"], &one_to_digit(alloc))?;
-        assert_eq!(rt; text.as_str(), "chosen 3, changed 3, replaced 6", "{root}");
-        // the last call puts the last file's new name on the medium
-        let last = disk.calls();
-        let mut disk = linked(alloc)?;
-        disk.fail_at(last)?;
-        let text = swept(alloc, &mut disk, root, &["**"], &one_to_digit(alloc))?;
-        let wanted = one_job(alloc, path, UNMOVED)?;
-        assert_eq!(rt; text.as_str(), wanted.as_str(), "{root}");
-    }
+    let mistold = first_mistold(rt.alloc())?;
+    assert_eq!(rt; mistold, None);
     Ok(())
 }

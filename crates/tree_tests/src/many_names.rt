@@ -1,64 +1,114 @@
 //! Folders whose reserved names are taken.
 
-use crate::disks::{holds, one_to_digit, swept};
+use crate::commands::{Command, first_wrong_on};
+use crate::disks::{Node, fill};
 use sd_edge::MemDisk;
 use std::alloc::Global;
 use std::test::Fail;
 
-/// A folder with a file and so many of the reserved names, each that of an empty file, and another folder with a file.
-fn with_names(alloc: Global, names: u64) -> Result<MemDisk, Fail> {
-    let mut disk = MemDisk::new(alloc);
-    for folder in ["/t", "/t/a", "/t/b"] {
-        disk.add_dir(folder)?;
-    }
-    for number in 0..names {
-        let path = format!(in alloc; "/t/a/.sd-{number:04x}.tmp")?;
-        disk.add_file(path.as_str(), b"", 0o640)?;
-    }
-    disk.add_file("/t/a/x", b"one", 0o640)?;
-    disk.add_file("/t/b/y", b"one", 0o640)?;
-    Ok(disk)
+/// Two folders.
+const FOLDERS: &[(&str, Node<'static>)] = &[
+    ("/t", Node::Folder),
+    ("/t/a", Node::Folder),
+    ("/t/b", Node::Folder),
+];
+
+/// A file in each.
+const FILES: &[(&str, Node<'static>)] = &[
+    ("/t/a/x", Node::File(b"one", 0o640)),
+    ("/t/b/y", Node::File(b"one", 0o640)),
+];
+
+/// Adds an empty file with the reserved name of a number.
+fn add_name(alloc: Global, disk: &mut MemDisk, number: u64) -> Result<(), Fail> {
+    let path = format!(in alloc; "/t/a/.sd-{number:04x}.tmp")?;
+    Ok(disk.add_file(path.as_str(), b"", 0o640)?)
 }
+
+/// Adds empty files with so many of the reserved names in the first folder.
+fn add_names(alloc: Global, disk: &mut MemDisk, names: u64) -> Result<(), Fail> {
+    for number in 0..names {
+        add_name(alloc, disk, number)?;
+    }
+    Ok(())
+}
+
+/// What is not as wanted of commands on two folders, in the first of which so many of the reserved names are taken.
+fn wrong_with_names(
+    alloc: Global,
+    disk: &mut MemDisk,
+    names: u64,
+    commands: &[Command<'static>],
+) -> Result<Option<&'static str>, Fail> {
+    fill(disk, FOLDERS)?;
+    add_names(alloc, disk, names)?;
+    fill(disk, FILES)?;
+    first_wrong_on(alloc, disk, commands)
+}
+
+/// What is not as wanted of such commands, or `a call failed` where one did.
+fn wrong_without_faults(
+    alloc: Global,
+    disk: &mut MemDisk,
+    names: u64,
+    commands: &[Command<'static>],
+) -> Result<Option<&'static str>, Fail> {
+    let wrong = wrong_with_names(alloc, disk, names, commands)?;
+    if wrong.is_none() && disk.faults() != 0 {
+        return Ok(Some("a call failed"));
+    }
+    Ok(wrong)
+}
+
+/// The same on a new disk.
+fn first_wrong_with_names(
+    alloc: Global,
+    names: u64,
+    commands: &[Command<'static>],
+) -> Result<Option<&'static str>, Fail> {
+    let mut disk = MemDisk::new(alloc);
+    wrong_without_faults(alloc, &mut disk, names, commands)
+}
+
+/// A command on two files, of which one can't be rewritten.
+const ON_ONE_OF_TWO: &[Command<'static>] = &[Command {
+    root: "/t",
+    globs: &["*/x", "*/y"],
+    find: b"one",
+    with: b"1",
+    told: "failed processing files:\n\tFailedJobs(\n\t/t/a/x: no free temporary name\n)",
+    bytes: &[
+        ("/t/a/x", b"one"),
+        ("/t/b/y", b"1"),
+        ("/t/a/.sd-0000.tmp", b""),
+        ("/t/a/.sd-ffff.tmp", b""),
+    ],
+    modes: &[],
+}];
 
 #[test]
 fn a_file_in_a_folder_without_a_free_reserved_name_fails_alone(
     rt: HostRuntime,
 ) -> Result<(), Fail> {
-    let alloc = rt.alloc();
-    let mut disk = with_names(alloc, 65536)?;
-    let told = swept(
-        alloc,
-        &mut disk,
-        "/t",
-        &["*/x", "*/y"],
-        &one_to_digit(alloc),
-    )?;
-    assert_eq!(rt;
-        told.as_str(),
-        "failed processing files:\n\tFailedJobs(\n\t/t/a/x: no free temporary name\n)"
-    );
-    assert!(rt; holds(alloc, &disk, "/t/a/x", b"one")?);
-    assert!(rt; holds(alloc, &disk, "/t/b/y", b"1")?);
-    assert!(rt; holds(alloc, &disk, "/t/a/.sd-0000.tmp", b"")?);
-    assert!(rt; holds(alloc, &disk, "/t/a/.sd-ffff.tmp", b"")?);
-    assert_eq!(rt; disk.faults(), 0);
+    let wrong = first_wrong_with_names(rt.alloc(), 65536, ON_ONE_OF_TWO)?;
+    assert_eq!(rt; wrong, None);
     Ok(())
 }
 
+/// A command on two files.
+const ON_BOTH: &[Command<'static>] = &[Command {
+    root: "/t",
+    globs: &["*/x", "*/y"],
+    find: b"one",
+    with: b"1",
+    told: "chosen 2, changed 2, replaced 2",
+    bytes: &[("/t/a/x", b"1"), ("/t/a/.sd-0002.tmp", b"")],
+    modes: &[("/t/a/.sd-0003.tmp", None)],
+}];
+
 #[test]
 fn the_first_free_reserved_name_is_enough(rt: HostRuntime) -> Result<(), Fail> {
-    let alloc = rt.alloc();
-    let mut disk = with_names(alloc, 3)?;
-    let told = swept(
-        alloc,
-        &mut disk,
-        "/t",
-        &["*/x", "*/y"],
-        &one_to_digit(alloc),
-    )?;
-    assert_eq!(rt; told.as_str(), "chosen 2, changed 2, replaced 2");
-    assert!(rt; holds(alloc, &disk, "/t/a/x", b"1")?);
-    assert!(rt; holds(alloc, &disk, "/t/a/.sd-0002.tmp", b"")?);
-    assert_eq!(rt; disk.mode_at("/t/a/.sd-0003.tmp"), None);
+    let wrong = first_wrong_with_names(rt.alloc(), 3, ON_BOTH)?;
+    assert_eq!(rt; wrong, None);
     Ok(())
 }
