@@ -82,27 +82,54 @@ pub(crate) fn line(alloc: Global, item: &Result<DirEntry, Error>) -> Result<Stri
     }
 }
 
+/// Puts an item behind a text, as a line with this end.
+pub(crate) fn push_line(
+    alloc: Global,
+    text: &mut String,
+    item: &Result<DirEntry, Error>,
+    end: &str,
+) -> Result<(), AllocError> {
+    let line = line(alloc, item)?;
+    text.push_str(line.as_str())?;
+    text.push_str(end)
+}
+
 /// What a walk gives up to its end, a line an item.
-pub(crate) fn text_of<W: Walk + Drop>(alloc: Global, walk: W) -> Result<String, Fail>
+pub(crate) fn text_of<W: Walk + Drop>(alloc: Global, walk: W) -> Result<String, AllocError>
     requires can { W.can_next walk }
     requires ends { IsFinite (W.remaining walk) }
 {
     let mut text = String::new(alloc);
     for item in walk {
-        text.push_str(line(alloc, &item)?.as_str())?;
-        text.push('\n')?;
+        push_line(alloc, &mut text, &item, "\n")?;
     }
     Ok(text)
 }
 
-/// These lines as one text.
-pub(crate) fn joined(alloc: Global, lines: &[&str]) -> Result<String, Fail> {
-    let mut text = String::new(alloc);
+/// Whether a text is these lines, each with its end.
+fn is_joined(text: &str, lines: &[&str]) -> bool {
+    let mut rest = text;
     for line in lines {
-        text.push_str(line)?;
-        text.push('\n')?;
+        match rest.strip_prefix(*line) {
+            Some(end) => rest = end,
+            None => return false,
+        }
+        match rest.strip_prefix("\n") {
+            Some(later) => rest = later,
+            None => return false,
+        }
     }
-    Ok(text)
+    rest.is_empty()
+}
+
+/// A text is this one.
+pub(crate) fn check_text(rt: &(impl Abort + AllocGlobal), given: &str, wanted: &str) {
+    assert_eq!(rt; given, wanted);
+}
+
+/// A text is these lines.
+pub(crate) fn check_lines(rt: &(impl Abort + AllocGlobal), given: &str, lines: &[&str]) {
+    assert!(rt; is_joined(given, lines), "given: {given}");
 }
 
 /// What a root gives under these options, in the disk's order.
@@ -113,7 +140,7 @@ pub(crate) fn unsorted<D: Disk>(
     settings: &[Setting],
 ) -> Result<String, Fail> {
     let walk = asked(alloc, root, settings)?;
-    text_of(alloc, walk.into_iter(disk))
+    Ok(text_of(alloc, walk.into_iter(disk))?)
 }
 
 /// What a root gives under these options, sorted by file name.
@@ -124,11 +151,41 @@ pub(crate) fn sorted<D: Disk>(
     settings: &[Setting],
 ) -> Result<String, Fail> {
     let walk = asked(alloc, root, settings)?.sort_by_file_name();
-    text_of(alloc, walk.into_iter(disk))
+    Ok(text_of(alloc, walk.into_iter(disk))?)
 }
 
 /// The bounds on open lists that walks are tried with, and how many lists they allow.
-const BOUNDS: [(usize, u64); 5] = [(0, 1), (1, 1), (2, 2), (3, 3), (10, 10)];
+const BOUNDS: &[(usize, u64)] = &[(0, 1), (1, 1), (2, 2), (3, 3), (10, 10)];
+
+/// A disk never had more lists open than these.
+pub(crate) fn check_lists(rt: &(impl Abort + AllocGlobal), disk: &MemDisk, lists: u64) {
+    let most = disk.lists_most();
+    assert!(rt; most <= lists, "{most} lists were open, of {lists}");
+}
+
+/// What a root gives sorted by file name, with so many lists open at most.
+fn sorted_within(
+    alloc: Global,
+    disk: &mut MemDisk,
+    root: &str,
+    settings: &[Setting],
+    bound: usize,
+) -> Result<String, Fail> {
+    let walk = asked(alloc, root, settings)?.max_open(bound);
+    Ok(text_of(alloc, walk.sort_by_file_name().into_iter(disk))?)
+}
+
+/// The same in the disk's order.
+fn unsorted_within(
+    alloc: Global,
+    disk: &mut MemDisk,
+    root: &str,
+    settings: &[Setting],
+    bound: usize,
+) -> Result<String, Fail> {
+    let walk = asked(alloc, root, settings)?.max_open(bound);
+    Ok(text_of(alloc, walk.into_iter(disk))?)
+}
 
 /// Whatever the bound on open lists, a root gives these lines under these options sorted by file name, and keeps the bound.
 pub(crate) fn check_sorted(
@@ -138,15 +195,10 @@ pub(crate) fn check_sorted(
     settings: &[Setting],
     lines: &[&str],
 ) -> Result<(), Fail> {
-    let alloc = rt.alloc();
-    let wanted = joined(alloc, lines)?;
     for (bound, lists) in BOUNDS {
-        let walk = asked(alloc, root, settings)?
-            .max_open(bound)
-            .sort_by_file_name();
-        let given = text_of(alloc, walk.into_iter(disk))?;
-        assert_eq!(rt; given.as_str(), wanted.as_str(), "{root}, {bound} open");
-        assert!(rt; disk.lists_most() <= lists, "{root}, {bound} open");
+        let given = sorted_within(rt.alloc(), disk, root, settings, *bound)?;
+        check_lines(rt, given.as_str(), lines);
+        check_lists(rt, disk, *lists);
     }
     Ok(())
 }
@@ -159,13 +211,10 @@ pub(crate) fn check_unsorted(
     settings: &[Setting],
     lines: &[&str],
 ) -> Result<(), Fail> {
-    let alloc = rt.alloc();
-    let wanted = joined(alloc, lines)?;
     for (bound, lists) in BOUNDS {
-        let walk = asked(alloc, root, settings)?.max_open(bound);
-        let given = text_of(alloc, walk.into_iter(disk))?;
-        assert_eq!(rt; given.as_str(), wanted.as_str(), "{root}, {bound} open");
-        assert!(rt; disk.lists_most() <= lists, "{root}, {bound} open");
+        let given = unsorted_within(rt.alloc(), disk, root, settings, *bound)?;
+        check_lines(rt, given.as_str(), lines);
+        check_lists(rt, disk, *lists);
     }
     Ok(())
 }

@@ -3,7 +3,7 @@
 ghost use Rattle.std.specs.Prelude.{◌≡◌, ◌<◌, ◌≤◌, ◌⊎◌};
 ghost use Rattle.sd_edge.specs.Count.{HasRisen};
 
-use crate::asking::{Setting, asked, sorted, unsorted};
+use crate::asking::{Setting, asked, check_text, sorted, unsorted};
 use crate::links::linked;
 use crate::rows::foo;
 use sd_edge::{Disk, DiskFault, Ident, ListId, MemDisk, Meta, RawEntry, Text};
@@ -167,21 +167,31 @@ fn endless(alloc: Global) -> Result<FakeDisk, Fail> {
 }
 
 /// The kind of the error that collecting an endless disk ends with.
-fn refused_endless(
+fn refused(
     alloc: Global,
+    disk: &mut FakeDisk,
     settings: &[Setting],
     cap: u64,
 ) -> Result<Option<ErrorKind>, Fail> {
     if cap == 0 {
         return Err("no cap".into());
     }
-    let mut disk = endless(alloc)?;
     let walk = asked(alloc, "/t", settings)?;
-    let collected = walk.into_iter(&mut disk).collect_capped(cap);
+    let collected = walk.into_iter(disk).collect_capped(cap);
     Ok(match collected {
         Ok(_) => None,
         Err(error) => Some(error.kind()),
     })
+}
+
+/// The same of an endless disk of its own.
+fn refused_endless(
+    alloc: Global,
+    settings: &[Setting],
+    cap: u64,
+) -> Result<Option<ErrorKind>, Fail> {
+    let mut disk = endless(alloc)?;
+    refused(alloc, &mut disk, settings, cap)
 }
 
 #[test]
@@ -199,43 +209,51 @@ fn an_endless_disk_has_too_many_entries(rt: HostRuntime) -> Result<(), Fail> {
     Ok(())
 }
 
+/// The disk of `foo`, where the directory at this path vanishes.
+fn vanishing(alloc: Global, path: &str) -> Result<FakeDisk, Fail> {
+    let gone = Text::new(alloc, path)?;
+    Ok(FakeDisk::new(foo(alloc)?, Difference::Vanishing(gone)))
+}
+
+/// The disk of `foo`, where it isn't told what stands at this path.
+fn unknown(alloc: Global, path: &str) -> Result<FakeDisk, Fail> {
+    let unknown = Text::new(alloc, path)?;
+    Ok(FakeDisk::new(foo(alloc)?, Difference::Unknown(unknown)))
+}
+
 #[test]
 fn a_directory_may_vanish_before_it_is_opened(rt: HostRuntime) -> Result<(), Fail> {
     let alloc = rt.alloc();
     let settings = [Setting::FollowLinks(true)];
-    let difference = Difference::Vanishing(Text::new(alloc, "foo/abc")?);
-    let mut disk = FakeDisk::new(foo(alloc)?, difference);
+    let mut disk = vanishing(alloc, "foo/abc")?;
     let given = sorted(alloc, &mut disk, "foo", &settings)?;
     let wanted =
         "0 d foo\n1 d foo/abc\n1 ! IO error for operation on foo/abc: input or output failed\n1 f foo/def\n";
-    assert_eq!(rt; given.as_str(), wanted);
+    check_text(&rt, given.as_str(), wanted);
     let given = unsorted(alloc, &mut disk, "foo", &[])?;
     let wanted =
         "0 d foo\n1 f foo/def\n1 d foo/abc\n1 ! IO error for operation on foo/abc: input or output failed\n";
-    assert_eq!(rt; given.as_str(), wanted);
+    check_text(&rt, given.as_str(), wanted);
     Ok(())
 }
 
 #[test]
 fn a_root_may_vanish_before_it_is_opened(rt: HostRuntime) -> Result<(), Fail> {
     let alloc = rt.alloc();
-    let mut disk = FakeDisk::new(foo(alloc)?, Difference::Vanishing(Text::new(alloc, "foo")?));
+    let mut disk = vanishing(alloc, "foo")?;
     let given = unsorted(alloc, &mut disk, "foo", &[])?;
     let wanted = "0 d foo\n0 ! IO error for operation on foo: input or output failed\n";
-    assert_eq!(rt; given.as_str(), wanted);
+    check_text(&rt, given.as_str(), wanted);
     Ok(())
 }
 
 #[test]
 fn a_directory_that_vanished_is_foreign(rt: HostRuntime) -> Result<(), Fail> {
     let alloc = rt.alloc();
-    let mut disk = FakeDisk::new(
-        foo(alloc)?,
-        Difference::Unknown(Text::new(alloc, "foo/abc")?),
-    );
+    let mut disk = unknown(alloc, "foo/abc")?;
     let settings = [Setting::SameFileSystem(true)];
     let given = sorted(alloc, &mut disk, "foo", &settings)?;
     let wanted = "0 d foo\n1 d foo/abc\n1 f foo/def\n";
-    assert_eq!(rt; given.as_str(), wanted);
+    check_text(&rt, given.as_str(), wanted);
     Ok(())
 }

@@ -2,9 +2,10 @@
 
 ghost use Rattle.std.specs.Iterator.{IsFinite};
 
-use crate::asking::{Setting, asked, joined, line, text_of};
+use crate::asking::{Setting, asked, check_lines, check_text, push_line, text_of};
 use crate::rows::foo;
-use std::alloc::Global;
+use sd_edge::MemDisk;
+use std::alloc::{AllocError, Global};
 use std::process::Abort;
 use std::test::Fail;
 use walkdir::{DirEntry, Error, Walk};
@@ -15,19 +16,19 @@ fn is_at(item: &Result<DirEntry, Error>, path: &str) -> bool {
 }
 
 /// What a walk gives, a line an item, where the directory of an entry of this path is left. Entries that were just entered are marked.
-fn text_leaving<W: Walk + Drop>(alloc: Global, walk: W, path: &str) -> Result<String, Fail>
+fn text_leaving<W: Walk + Drop>(alloc: Global, walk: W, path: &str) -> Result<String, AllocError>
     requires can { W.can_next walk }
     requires ends { IsFinite (W.remaining walk) }
 {
     let mut walk = walk;
     let mut text = String::new(alloc);
     while let Some(item) = walk.next() {
-        text.push_str(line(alloc, &item)?.as_str())?;
-        text.push_str(if walk.just_entered() {
+        let end = if walk.just_entered() {
             " entered\n"
         } else {
             "\n"
-        })?;
+        };
+        push_line(alloc, &mut text, &item, end)?;
         if is_at(&item, path) {
             walk.skip_current_dir();
         }
@@ -36,7 +37,7 @@ fn text_leaving<W: Walk + Drop>(alloc: Global, walk: W, path: &str) -> Result<St
 }
 
 /// What a walk gives after a directory was left before its first item.
-fn text_after_leaving<W: Walk + Drop>(alloc: Global, walk: W) -> Result<String, Fail>
+fn text_after_leaving<W: Walk + Drop>(alloc: Global, walk: W) -> Result<String, AllocError>
     requires can { W.can_next walk }
     requires ends { IsFinite (W.remaining walk) }
 {
@@ -49,40 +50,44 @@ fn text_after_leaving<W: Walk + Drop>(alloc: Global, walk: W) -> Result<String, 
 fn foo_leaving(alloc: Global, settings: &[Setting], path: &str) -> Result<String, Fail> {
     let mut disk = foo(alloc)?;
     let walk = asked(alloc, "foo", settings)?.sort_by_file_name();
-    text_leaving(alloc, walk.into_iter(&mut disk), path)
+    Ok(text_leaving(alloc, walk.into_iter(&mut disk), path)?)
+}
+
+/// `foo` gives this text sorted by file name under these options, where the directory of an entry of this path is left.
+fn check_leaving(
+    rt: &(impl Abort + AllocGlobal),
+    settings: &[Setting],
+    path: &str,
+    wanted: &str,
+) -> Result<(), Fail> {
+    let given = foo_leaving(rt.alloc(), settings, path)?;
+    check_text(rt, given.as_str(), wanted);
+    Ok(())
 }
 
 #[test]
 fn directories_are_left(rt: HostRuntime) -> Result<(), Fail> {
-    let alloc = rt.alloc();
     let abc = "0 d foo entered\n1 d foo/abc entered\n1 f foo/def\n";
     let file = "0 d foo entered\n1 d foo/abc entered\n2 f foo/abc/qrs\n1 f foo/def\n";
     for max_open in [1, 2, 10] {
         let settings = [Setting::MaxOpen(max_open)];
-        let given = foo_leaving(alloc, &settings, "foo/abc")?;
-        assert_eq!(rt; given.as_str(), abc, "{max_open} open");
-        let given = foo_leaving(alloc, &settings, "foo/abc/qrs")?;
-        assert_eq!(rt; given.as_str(), file, "{max_open} open");
-        let given = foo_leaving(alloc, &settings, "foo")?;
-        assert_eq!(rt; given.as_str(), "0 d foo entered\n", "{max_open} open");
+        check_leaving(&rt, &settings, "foo/abc", abc)?;
+        check_leaving(&rt, &settings, "foo/abc/qrs", file)?;
+        check_leaving(&rt, &settings, "foo", "0 d foo entered\n")?;
     }
     Ok(())
 }
 
 #[test]
 fn a_directory_at_the_greatest_depth_counts_as_entered(rt: HostRuntime) -> Result<(), Fail> {
-    let given = foo_leaving(rt.alloc(), &[Setting::MaxDepth(1)], "foo/abc")?;
     let wanted = "0 d foo entered\n1 d foo/abc entered\n1 f foo/def\n";
-    assert_eq!(rt; given.as_str(), wanted);
-    Ok(())
+    check_leaving(&rt, &[Setting::MaxDepth(1)], "foo/abc", wanted)
 }
 
 #[test]
 fn after_its_contents_a_directory_is_left_with_its_siblings(rt: HostRuntime) -> Result<(), Fail> {
-    let given = foo_leaving(rt.alloc(), &[Setting::ContentsFirst(true)], "foo/abc")?;
     let wanted = "2 f foo/abc/qrs\n2 f foo/abc/tuv\n1 d foo/abc\n0 d foo\n";
-    assert_eq!(rt; given.as_str(), wanted);
-    Ok(())
+    check_leaving(&rt, &[Setting::ContentsFirst(true)], "foo/abc", wanted)
 }
 
 #[test]
@@ -91,8 +96,22 @@ fn nothing_is_left_before_the_first_item(rt: HostRuntime) -> Result<(), Fail> {
     let mut disk = foo(alloc)?;
     let walk = asked(alloc, "foo", &[Setting::MaxDepth(1)])?;
     let given = text_after_leaving(alloc, walk.into_iter(&mut disk))?;
-    assert_eq!(rt; given.as_str(), "0 d foo\n1 f foo/def\n1 d foo/abc\n");
+    check_text(&rt, given.as_str(), "0 d foo\n1 f foo/def\n1 d foo/abc\n");
     Ok(())
+}
+
+/// What `foo` gives without entries of a name, sorted by file name under these options.
+fn text_without(
+    alloc: Global,
+    disk: &mut MemDisk,
+    settings: &[Setting],
+    name: &str,
+) -> Result<String, Fail> {
+    let walk = asked(alloc, "foo", settings)?
+        .sort_by_file_name()
+        .into_iter(disk)
+        .filter_entry(|entry: &DirEntry| entry.file_name() != name);
+    Ok(text_of(alloc, walk)?)
 }
 
 /// A filter on names gives these lines of `foo`, sorted by file name under these options.
@@ -102,18 +121,9 @@ fn check_without(
     name: &str,
     lines: &[&str],
 ) -> Result<(), Fail> {
-    let alloc = rt.alloc();
-    let mut disk = foo(alloc)?;
-    let walk = asked(alloc, "foo", settings)?
-        .sort_by_file_name()
-        .into_iter(&mut disk)
-        .filter_entry(|entry: &DirEntry| entry.file_name() != name);
-    let given = text_of(alloc, walk)?;
-    assert_eq!(rt;
-        given.as_str(),
-        joined(alloc, lines)?.as_str(),
-        "without {name}"
-    );
+    let mut disk = foo(rt.alloc())?;
+    let given = text_without(rt.alloc(), &mut disk, settings, name)?;
+    check_lines(rt, given.as_str(), lines);
     Ok(())
 }
 
@@ -148,46 +158,72 @@ fn filters_under_contents_first_refuse_the_directory_alone(rt: HostRuntime) -> R
     Ok(())
 }
 
+/// What `foo` gives where a filter refuses everything.
+fn text_of_nothing(
+    alloc: Global,
+    disk: &mut MemDisk,
+    contents_first: bool,
+) -> Result<String, Fail> {
+    let walk = asked(alloc, "foo", &[Setting::ContentsFirst(contents_first)])?
+        .into_iter(disk)
+        .filter_entry(|_: &DirEntry| false);
+    Ok(text_of(alloc, walk)?)
+}
+
 #[test]
 fn filters_may_refuse_everything(rt: HostRuntime) -> Result<(), Fail> {
-    let alloc = rt.alloc();
     for contents_first in [false, true] {
-        let mut disk = foo(alloc)?;
-        let walk = asked(alloc, "foo", &[Setting::ContentsFirst(contents_first)])?
-            .into_iter(&mut disk)
-            .filter_entry(|_: &DirEntry| false);
-        assert_eq!(rt; text_of(alloc, walk)?.as_str(), "");
+        let mut disk = foo(rt.alloc())?;
+        let given = text_of_nothing(rt.alloc(), &mut disk, contents_first)?;
+        check_text(&rt, given.as_str(), "");
     }
     Ok(())
+}
+
+/// What `foo` gives without `qrs`, and where a second filter refuses the root.
+fn text_without_root(alloc: Global, disk: &mut MemDisk) -> Result<String, Fail> {
+    let walk = asked(alloc, "foo", &[])?
+        .into_iter(disk)
+        .filter_entry(|entry: &DirEntry| entry.file_name() != "qrs")
+        .filter_entry(|entry: &DirEntry| !entry.file_type().is_dir() || entry.depth() > 0);
+    Ok(text_of(alloc, walk)?)
+}
+
+/// What `foo` gives without `qrs`, where a second filter was put on and taken off again.
+fn text_within_filter(alloc: Global, disk: &mut MemDisk) -> Result<String, Fail> {
+    let walk = asked(alloc, "foo", &[])?
+        .into_iter(disk)
+        .filter_entry(|entry: &DirEntry| entry.file_name() != "qrs")
+        .filter_entry(|entry: &DirEntry| !entry.file_type().is_file() || entry.depth() > 1)
+        .into_walk();
+    Ok(text_of(alloc, walk)?)
 }
 
 #[test]
 fn filters_stand_on_filters(rt: HostRuntime) -> Result<(), Fail> {
     let alloc = rt.alloc();
     let mut disk = foo(alloc)?;
-    let walk = asked(alloc, "foo", &[])?
-        .into_iter(&mut disk)
-        .filter_entry(|entry: &DirEntry| entry.file_name() != "qrs")
-        .filter_entry(|entry: &DirEntry| !entry.file_type().is_dir() || entry.depth() > 0);
-    assert_eq!(rt; text_of(alloc, walk)?.as_str(), "");
-    let walk = asked(alloc, "foo", &[])?
-        .into_iter(&mut disk)
-        .filter_entry(|entry: &DirEntry| entry.file_name() != "qrs")
-        .filter_entry(|entry: &DirEntry| !entry.file_type().is_file() || entry.depth() > 1)
-        .into_walk();
+    let given = text_without_root(alloc, &mut disk)?;
+    check_text(&rt, given.as_str(), "");
+    let given = text_within_filter(alloc, &mut disk)?;
     let wanted = "0 d foo\n1 f foo/def\n1 d foo/abc\n2 f foo/abc/tuv\n";
-    assert_eq!(rt; text_of(alloc, walk)?.as_str(), wanted);
+    check_text(&rt, given.as_str(), wanted);
     Ok(())
+}
+
+/// What `foo` gives without `def`, where the directory of an entry of this path is left.
+fn filtered_leaving(alloc: Global, disk: &mut MemDisk, path: &str) -> Result<String, Fail> {
+    let walk = asked(alloc, "foo", &[])?
+        .into_iter(disk)
+        .filter_entry(|entry: &DirEntry| entry.file_name() != "def");
+    Ok(text_leaving(alloc, walk, path)?)
 }
 
 #[test]
 fn directories_of_filtered_walks_are_left(rt: HostRuntime) -> Result<(), Fail> {
-    let alloc = rt.alloc();
-    let mut disk = foo(alloc)?;
-    let walk = asked(alloc, "foo", &[])?
-        .into_iter(&mut disk)
-        .filter_entry(|entry: &DirEntry| entry.file_name() != "def");
-    let given = text_leaving(alloc, walk, "foo/abc")?;
-    assert_eq!(rt; given.as_str(), "0 d foo entered\n1 d foo/abc entered\n");
+    let mut disk = foo(rt.alloc())?;
+    let given = filtered_leaving(rt.alloc(), &mut disk, "foo/abc")?;
+    let wanted = "0 d foo entered\n1 d foo/abc entered\n";
+    check_text(&rt, given.as_str(), wanted);
     Ok(())
 }

@@ -1,11 +1,27 @@
 //! Links that are followed.
 
 use crate::asking::{Setting, check_sorted, check_unsorted};
-use sd_edge::MemDisk;
+use sd_edge::{BuildFault, MemDisk};
 use std::alloc::Global;
 use std::test::Fail;
 
 const FOLLOWED: [Setting; 1] = [Setting::FollowLinks(true)];
+
+/// Adds these directories.
+fn add_folders(disk: &mut MemDisk, folders: &[&str]) -> Result<(), BuildFault> {
+    for folder in folders {
+        disk.add_dir(folder)?;
+    }
+    Ok(())
+}
+
+/// Adds these links with their targets.
+fn add_links(disk: &mut MemDisk, links: &[(&str, &str)]) -> Result<(), BuildFault> {
+    for (path, target) in links {
+        disk.add_link(path, target)?;
+    }
+    Ok(())
+}
 
 /// A disk with these directories, and then these links with their targets.
 pub(crate) fn linked(
@@ -14,12 +30,8 @@ pub(crate) fn linked(
     links: &[(&str, &str)],
 ) -> Result<MemDisk, Fail> {
     let mut disk = MemDisk::new(alloc);
-    for folder in folders {
-        disk.add_dir(folder)?;
-    }
-    for (path, target) in links {
-        disk.add_link(path, target)?;
-    }
+    add_folders(&mut disk, folders)?;
+    add_links(&mut disk, links)?;
     Ok(disk)
 }
 

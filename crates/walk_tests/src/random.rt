@@ -2,14 +2,14 @@
 
 ghost use Rattle.std.specs.Iterator.{IsFinite};
 
-use crate::asking::{asked, line};
+use crate::asking::{asked, check_lists, line};
 use crate::trees::{Question, Random, random_question, random_tree};
 use sd_edge::{Disk, MemDisk};
-use std::alloc::Global;
+use std::alloc::{AllocError, Global};
 use std::ops::Range;
 use std::process::Abort;
 use std::test::Fail;
-use walkdir::{Error, Walk};
+use walkdir::{DirEntry, Error, Walk};
 
 /// What a walk gave: the lines of its items but those of failures, and how many failures it told.
 #[derive(Drop)]
@@ -18,21 +18,31 @@ struct Answer {
     failures: u64,
 }
 
+impl Answer {
+    /// Adds an item.
+    fn add(&mut self, alloc: Global, item: &Result<DirEntry, Error>) -> Result<(), AllocError> {
+        if matches!(item, Err(Error::Disk { .. })) {
+            self.failures = self.failures.saturating_add(1);
+            return Ok(());
+        }
+        self.lines.push(line(alloc, item)?)?;
+        Ok(())
+    }
+}
+
 /// What a walk gives.
-fn items_of<W: Walk + Drop>(alloc: Global, walk: W) -> Result<Answer, Fail>
+fn items_of<W: Walk + Drop>(alloc: Global, walk: W) -> Result<Answer, AllocError>
     requires can { W.can_next walk }
     requires ends { IsFinite (W.remaining walk) }
 {
-    let mut lines = Vec::new(alloc);
-    let mut failures = 0_u64;
+    let mut answer = Answer {
+        lines: Vec::new(alloc),
+        failures: 0,
+    };
     for item in walk {
-        if matches!(item, Err(Error::Disk { .. })) {
-            failures = failures.saturating_add(1);
-        } else {
-            lines.push(line(alloc, &item)?)?;
-        }
+        answer.add(alloc, &item)?;
     }
-    Ok(Answer { lines, failures })
+    Ok(answer)
 }
 
 /// What is given, with so many lists open at most.
@@ -44,9 +54,9 @@ fn answered(
 ) -> Result<Answer, Fail> {
     let walk = asked(alloc, question.root, &question.settings)?.max_open(max_open);
     if question.sorts {
-        items_of(alloc, walk.sort_by_file_name().into_iter(disk))
+        Ok(items_of(alloc, walk.sort_by_file_name().into_iter(disk))?)
     } else {
-        items_of(alloc, walk.into_iter(disk))
+        Ok(items_of(alloc, walk.into_iter(disk))?)
     }
 }
 
@@ -115,22 +125,46 @@ fn world(alloc: Global, seed: u64) -> Result<(MemDisk, Question), Fail> {
     Ok((disk, random_question(&mut random)))
 }
 
+/// With so many lists open at most, the same is given as is given whole, no call fails, and the bound is kept.
+fn check_bound(
+    rt: &(impl Abort + AllocGlobal),
+    disk: &mut MemDisk,
+    question: &Question,
+    max_open: usize,
+    whole: &[String],
+) -> Result<(), Fail> {
+    let given = answered(rt.alloc(), disk, question, max_open)?;
+    assert!(rt; given.lines.as_slice() == whole, "{max_open} open");
+    assert_eq!(rt; given.failures, 0, "{max_open} open");
+    check_lists(rt, disk, max_open as u64);
+    Ok(())
+}
+
+/// The same of each bound.
+fn check_all_bounds(
+    rt: &(impl Abort + AllocGlobal),
+    disk: &mut MemDisk,
+    question: &Question,
+) -> Result<(), Fail> {
+    let whole = answered(rt.alloc(), disk, question, 1)?;
+    for max_open in [1, 2, 3, 10] {
+        check_bound(rt, disk, question, max_open, &whole.lines)?;
+    }
+    Ok(())
+}
+
+/// No list of a disk is open.
+fn check_closed(rt: &(impl Abort + AllocGlobal), disk: &mut MemDisk) -> Result<(), Fail> {
+    let open = lists_open(disk)?;
+    assert_eq!(rt; open, 0);
+    Ok(())
+}
+
 /// Where no call fails, the same is given whatever the bound on open lists, which is kept, and no list stays open.
 fn check_bounds(rt: &(impl Abort + AllocGlobal), seed: u64) -> Result<(), Fail> {
-    let alloc = rt.alloc();
-    let (mut disk, question) = world(alloc, seed)?;
-    let whole = answered(alloc, &mut disk, &question, 1)?;
-    for max_open in [1, 2, 3, 10] {
-        let given = answered(alloc, &mut disk, &question, max_open)?;
-        assert!(rt; given.lines == whole.lines, "tree {seed}, {max_open} open");
-        assert_eq!(rt; given.failures, 0, "tree {seed}, {max_open} open");
-        assert!(rt;
-            disk.lists_most() <= max_open as u64,
-            "tree {seed}, {max_open} open"
-        );
-    }
-    assert_eq!(rt; lists_open(&mut disk)?, 0, "tree {seed}");
-    Ok(())
+    let (mut disk, question) = world(rt.alloc(), seed)?;
+    check_all_bounds(rt, &mut disk, &question)?;
+    check_closed(rt, &mut disk)
 }
 
 /// Makes so many calls, whatever they answer.
@@ -165,20 +199,26 @@ fn check_failure(
     Ok(())
 }
 
+/// Where each call of a walk fails in turn, so many failures are told, and the rest is some of what is given where none fails.
+fn check_each_failure(
+    rt: &(impl Abort + AllocGlobal),
+    disk: &mut MemDisk,
+    question: &Question,
+    max_open: usize,
+) -> Result<(), Fail> {
+    let whole = answered(rt.alloc(), disk, question, max_open)?;
+    for call in 1..=disk.calls() {
+        check_failure(rt, disk, question, max_open, &whole.lines, call)?;
+    }
+    Ok(())
+}
+
 /// With each call of a walk failing in turn, the bound on open lists is kept, and no list stays open.
 fn check_failures(rt: &(impl Abort + AllocGlobal), seed: u64, max_open: usize) -> Result<(), Fail> {
-    let alloc = rt.alloc();
-    let (mut disk, question) = world(alloc, seed)?;
-    let whole = answered(alloc, &mut disk, &question, max_open)?;
-    for call in 1..=disk.calls() {
-        check_failure(rt, &mut disk, &question, max_open, &whole.lines, call)?;
-    }
-    assert!(rt;
-        disk.lists_most() <= max_open as u64,
-        "tree {seed}, {max_open} open"
-    );
-    assert_eq!(rt; lists_open(&mut disk)?, 0, "tree {seed}, {max_open} open");
-    Ok(())
+    let (mut disk, question) = world(rt.alloc(), seed)?;
+    check_each_failure(rt, &mut disk, &question, max_open)?;
+    check_lists(rt, &disk, max_open as u64);
+    check_closed(rt, &mut disk)
 }
 
 /// The same of each of these trees, for each bound.

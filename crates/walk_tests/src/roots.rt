@@ -1,13 +1,12 @@
 //! Roots of all kinds.
 
 use crate::asking::{Setting, check_sorted};
-use sd_edge::MemDisk;
-use std::alloc::Global;
+use sd_edge::{BuildFault, MemDisk};
+use std::process::Abort;
 use std::test::Fail;
 
-/// A disk with a directory, a file, a pipe, and links to each and to nothing. The directory is on another device than what holds it.
-fn roots(alloc: Global) -> Result<MemDisk, Fail> {
-    let mut disk = MemDisk::new(alloc);
+/// Adds a directory, a file, a pipe, and links to each and to nothing. The directory is on another device than what holds it.
+fn add_roots(disk: &mut MemDisk) -> Result<(), BuildFault> {
     disk.add_dir("/t")?;
     disk.add_file("/t/a.txt", b"one two one", 0o640)?;
     disk.add_file("/f", b"one", 0o640)?;
@@ -15,8 +14,15 @@ fn roots(alloc: Global) -> Result<MemDisk, Fail> {
     disk.add_link("/l", "t")?;
     disk.add_link("/to_f", "f")?;
     disk.add_link("/broken", "none")?;
-    disk.set_dev("/t", 2)?;
-    Ok(disk)
+    disk.set_dev("/t", 2)
+}
+
+/// A root that is one of those gives these lines under these options.
+fn check_root(rt: &(impl Abort + AllocGlobal), case: &Case) -> Result<(), Fail> {
+    let (root, settings, lines) = *case;
+    let mut disk = MemDisk::new(rt.alloc());
+    add_roots(&mut disk)?;
+    check_sorted(rt, &mut disk, root, settings, lines)
 }
 
 /// A root, options, and the lines that they give.
@@ -28,7 +34,7 @@ const NOT_FOLLOWED: &[Setting] = &[Setting::FollowRootLinks(false)];
 
 const ONE_DEVICE: &[Setting] = &[Setting::SameFileSystem(true)];
 
-const LINKS: [Case; 10] = [
+const LINKS: &[Case] = &[
     ("/l", &[], &["0 l /l", "1 f /l/a.txt"]),
     ("/l", NOT_FOLLOWED, &["0 l /l"]),
     ("/l", FOLLOWED, &["0 l>d /l", "1 f /l/a.txt"]),
@@ -49,7 +55,7 @@ const LINKS: [Case; 10] = [
     ),
 ];
 
-const OTHERS: [Case; 9] = [
+const OTHERS: &[Case] = &[
     ("/t", &[], &["0 d /t", "1 f /t/a.txt"]),
     ("t/", &[], &["0 d t/", "1 f t/a.txt"]),
     ("/t/.", &[], &["0 d /t/.", "1 f /t/./a.txt"]),
@@ -87,18 +93,16 @@ const OTHERS: [Case; 9] = [
 
 #[test]
 fn a_root_may_be_a_link(rt: HostRuntime) -> Result<(), Fail> {
-    for (root, settings, lines) in LINKS {
-        let mut disk = roots(rt.alloc())?;
-        check_sorted(&rt, &mut disk, root, settings, lines)?;
+    for case in LINKS {
+        check_root(&rt, case)?;
     }
     Ok(())
 }
 
 #[test]
 fn a_root_may_be_anything_or_missing(rt: HostRuntime) -> Result<(), Fail> {
-    for (root, settings, lines) in OTHERS {
-        let mut disk = roots(rt.alloc())?;
-        check_sorted(&rt, &mut disk, root, settings, lines)?;
+    for case in OTHERS {
+        check_root(&rt, case)?;
     }
     Ok(())
 }

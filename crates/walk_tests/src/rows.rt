@@ -1,19 +1,26 @@
 //! Worked walks of small trees.
 
 use crate::asking::{Setting, asked, check_sorted, check_unsorted};
-use sd_edge::MemDisk;
+use crate::links::linked;
+use sd_edge::{BuildFault, MemDisk};
 use std::alloc::Global;
+use std::process::Abort;
 use std::test::Fail;
 use walkdir::{ErrorKind, device_num};
 
-/// A folder `foo` with `abc`, which holds two empty files, and `def`.
-pub(crate) fn foo(alloc: Global) -> Result<MemDisk, Fail> {
-    let mut disk = MemDisk::new(alloc);
+/// Adds a folder `foo` with `abc`, which holds two empty files, and `def`.
+fn add_foo(disk: &mut MemDisk) -> Result<(), BuildFault> {
     disk.add_dir("foo")?;
     disk.add_file("foo/def", b"def", 0o640)?;
     disk.add_dir("foo/abc")?;
     disk.add_file("foo/abc/tuv", b"", 0o640)?;
-    disk.add_file("foo/abc/qrs", b"", 0o640)?;
+    disk.add_file("foo/abc/qrs", b"", 0o640)
+}
+
+/// A disk with a folder `foo` with `abc`, which holds two empty files, and `def`.
+pub(crate) fn foo(alloc: Global) -> Result<MemDisk, Fail> {
+    let mut disk = MemDisk::new(alloc);
+    add_foo(&mut disk)?;
     Ok(disk)
 }
 
@@ -59,10 +66,7 @@ fn unsorted_walks_keep_the_order_of_the_disk(rt: HostRuntime) -> Result<(), Fail
 
 #[test]
 fn a_link_to_an_ancestor_is_a_loop(rt: HostRuntime) -> Result<(), Fail> {
-    let mut disk = MemDisk::new(rt.alloc());
-    disk.add_dir("/r")?;
-    disk.add_dir("/r/a")?;
-    disk.add_link("/r/a/l", "/r")?;
+    let mut disk = linked(rt.alloc(), &["/r", "/r/a"], &[("/r/a/l", "/r")])?;
     let lines = [
         "0 d /r",
         "1 d /r/a",
@@ -98,6 +102,18 @@ fn of_two_bounds_on_depths_that_cross_the_earlier_holds(rt: HostRuntime) -> Resu
     check_sorted(&rt, &mut disk, "foo", &beyond, &[])
 }
 
+/// The number of the device of what stands at a path.
+fn device_at(disk: &mut MemDisk, path: &str) -> Option<u64> {
+    device_num(disk, path).ok()
+}
+
+/// The folder `foo/abc` is on another device than `foo`.
+fn check_devices(rt: &(impl Abort + AllocGlobal), disk: &mut MemDisk) {
+    assert_eq!(rt; device_at(disk, "foo/abc"), Some(2));
+    assert_eq!(rt; device_at(disk, "foo"), Some(1));
+    assert_eq!(rt; device_at(disk, "none"), None);
+}
+
 #[test]
 fn directories_on_other_devices_are_not_entered(rt: HostRuntime) -> Result<(), Fail> {
     let mut disk = foo(rt.alloc())?;
@@ -105,37 +121,54 @@ fn directories_on_other_devices_are_not_entered(rt: HostRuntime) -> Result<(), F
     let lines = ["0 d foo", "1 d foo/abc", "1 f foo/def"];
     let settings = [Setting::SameFileSystem(true)];
     check_sorted(&rt, &mut disk, "foo", &settings, &lines)?;
-    assert_eq!(rt; device_num(&mut disk, "foo/abc")?, 2);
-    assert_eq!(rt; device_num(&mut disk, "foo")?, 1);
-    assert!(rt; device_num(&mut disk, "none").is_err());
+    check_devices(&rt, &mut disk);
     Ok(())
 }
 
 /// How many entries a walk of `foo` has by a cap, or the kind of its error.
-fn collected(alloc: Global, max_open: usize, cap: u64) -> Result<Result<usize, ErrorKind>, Fail> {
+fn collected(
+    alloc: Global,
+    disk: &mut MemDisk,
+    max_open: usize,
+    cap: u64,
+) -> Result<Result<usize, ErrorKind>, Fail> {
     if cap == 0 {
         return Err("no cap".into());
     }
-    let mut disk = foo(alloc)?;
     let walk = asked(alloc, "foo", &[Setting::MaxOpen(max_open)])?;
-    let entries = walk.into_iter(&mut disk).collect_capped(cap);
+    let entries = walk.into_iter(disk).collect_capped(cap);
     Ok(match entries {
         Ok(entries) => Ok(entries.len()),
         Err(error) => Err(error.kind()),
     })
 }
 
+/// Caps, and what collecting a walk of `foo` by each comes to.
+const CAPS: &[(u64, Result<usize, ErrorKind>)] = &[
+    (5, Ok(5)),
+    (u64::MAX, Ok(5)),
+    (4, Err(ErrorKind::TooMany)),
+    (1, Err(ErrorKind::TooMany)),
+];
+
+/// Collecting a walk of `foo` by a cap comes to this.
+fn check_cap(
+    rt: &(impl Abort + AllocGlobal),
+    max_open: usize,
+    cap: u64,
+    wanted: Result<usize, ErrorKind>,
+) -> Result<(), Fail> {
+    let mut disk = foo(rt.alloc())?;
+    let given = collected(rt.alloc(), &mut disk, max_open, cap)?;
+    assert!(rt; given == wanted, "{max_open} open, {cap} at most");
+    Ok(())
+}
+
 #[test]
 fn walks_are_collected_up_to_a_cap(rt: HostRuntime) -> Result<(), Fail> {
     for max_open in [1, 2, 10] {
-        for (cap, wanted) in [
-            (5, Ok(5)),
-            (u64::MAX, Ok(5)),
-            (4, Err(ErrorKind::TooMany)),
-            (1, Err(ErrorKind::TooMany)),
-        ] {
-            let given = collected(rt.alloc(), max_open, cap)?;
-            assert_eq!(rt; given, wanted, "{max_open} open, {cap} at most");
+        for (cap, wanted) in CAPS {
+            check_cap(&rt, max_open, *cap, *wanted)?;
         }
     }
     Ok(())

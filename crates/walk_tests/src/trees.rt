@@ -4,7 +4,7 @@ ghost use Rattle.std.specs.Prelude.{◌<◌};
 
 use crate::asking::Setting;
 use sd_edge::MemDisk;
-use std::alloc::Global;
+use std::alloc::{AllocError, Global};
 use std::test::Fail;
 
 /// Pseudorandom numbers.
@@ -67,6 +67,18 @@ fn target<'a>(random: &mut Random, paths: &'a [String]) -> &'a str {
 /// The nodes that a random tree has below its root.
 const NODES: u64 = 8;
 
+/// A path below the root or one of these folders.
+fn random_path(
+    alloc: Global,
+    random: &mut Random,
+    folders: &[String],
+    number: u64,
+) -> Result<String, AllocError> {
+    let first = random.below(10);
+    let folder = one_of(random, folders);
+    format!(in alloc; "{folder}/{first}{number}")
+}
+
 /// A tree below `/r`, with links, on two devices, and a link `/l` to `/r`.
 pub(crate) fn random_tree(alloc: Global, random: &mut Random) -> Result<MemDisk, Fail> {
     let mut disk = MemDisk::new(alloc);
@@ -74,9 +86,7 @@ pub(crate) fn random_tree(alloc: Global, random: &mut Random) -> Result<MemDisk,
     disk.add_link("/l", "r")?;
     let mut folders = Vec::new(alloc);
     for number in 0..NODES {
-        let first = random.below(10);
-        let folder = one_of(random, &folders);
-        let path = format!(in alloc; "{folder}/{first}{number}")?;
+        let path = random_path(alloc, random, &folders, number)?;
         if add(random, &mut disk, path.as_str(), &folders)? {
             folders.push(path)?;
         }
