@@ -2,11 +2,12 @@
 //!
 //! A line is a path, or `!` and the text of a fault.
 
-use chosen_files::{Choice, ChoiceFault, choose_capped, read_globs};
+use crate::disks::{Nodes, fill_all};
+use chosen_files::{Choice, ChoiceFault, GlobsError, choose_capped, read_globs};
 use glob_match::Glob;
+use sd_base::Text;
 use sd_edge::{Globs, MemDisk};
 use std::alloc::Global;
-use std::process::Abort;
 use std::test::Fail;
 
 /// These texts as globs.
@@ -18,10 +19,15 @@ pub(crate) fn globs_of(alloc: Global, texts: &[&str]) -> Result<Globs, Fail> {
     Ok(globs)
 }
 
+/// These globs as they are read.
+pub(crate) fn read(alloc: Global, globs: &Globs) -> Result<Vec<Glob>, GlobsError> {
+    read_globs(alloc, globs)
+}
+
 /// These texts as globs that were read.
-fn read(alloc: Global, texts: &[&str]) -> Result<Vec<Glob>, Fail> {
+fn read_texts(alloc: Global, texts: &[&str]) -> Result<Vec<Glob>, Fail> {
     let globs = globs_of(alloc, texts)?;
-    Ok(read_globs(alloc, &globs)?)
+    Ok(read(alloc, &globs)?)
 }
 
 /// What is chosen below a root. Callers are told nothing of it, so that a test is quickly proved.
@@ -38,19 +44,28 @@ fn asked(
     choose_capped(alloc, disk, root, globs, cap)
 }
 
+/// Adds paths to a text, each as a line.
+fn push_paths(text: &mut String, paths: &[Text]) -> Result<(), Fail> {
+    for path in paths {
+        text.push_str(path.as_str())?;
+        text.push('\n')?;
+    }
+    Ok(())
+}
+
+/// Paths as lines.
+fn text_of_paths(alloc: Global, paths: &[Text]) -> Result<String, Fail> {
+    let mut text = String::new(alloc);
+    push_paths(&mut text, paths)?;
+    Ok(text)
+}
+
 /// A choice as lines.
 fn text_of(alloc: Global, choice: &Result<Choice, ChoiceFault>) -> Result<String, Fail> {
-    let mut text = String::new(alloc);
     match choice {
-        Ok(choice) => {
-            for path in choice.paths.iter() {
-                text.push_str(path.as_str())?;
-                text.push('\n')?;
-            }
-        }
-        Err(fault) => text.push_str(format!(in alloc; "! {fault}\n")?.as_str())?,
+        Ok(choice) => text_of_paths(alloc, &choice.paths),
+        Err(fault) => Ok(format!(in alloc; "! {fault}\n")?),
     }
-    Ok(text)
 }
 
 /// What is chosen below a root by these globs, where fewer entries than the cap lie there.
@@ -61,33 +76,91 @@ pub(crate) fn chosen(
     globs: &[&str],
     cap: u64,
 ) -> Result<String, Fail> {
-    let globs = read(alloc, globs)?;
+    let globs = read_texts(alloc, globs)?;
     let choice = asked(alloc, disk, root, &globs, cap);
     text_of(alloc, &choice)
+}
+
+/// Whether that is this text.
+pub(crate) fn chooses(
+    alloc: Global,
+    disk: &mut MemDisk,
+    root: &str,
+    globs: &[&str],
+    cap: u64,
+    wanted: &str,
+) -> Result<bool, Fail> {
+    let given = chosen(alloc, disk, root, globs, cap)?;
+    Ok(given.as_str() == wanted)
+}
+
+/// Adds lines to a text.
+fn push_lines(text: &mut String, lines: &[&str]) -> Result<(), Fail> {
+    for line in lines {
+        text.push_str(line)?;
+        text.push('\n')?;
+    }
+    Ok(())
 }
 
 /// These lines as one text.
 fn joined(alloc: Global, lines: &[&str]) -> Result<String, Fail> {
     let mut text = String::new(alloc);
-    for line in lines {
-        text.push_str(line)?;
-        text.push('\n')?;
-    }
+    push_lines(&mut text, lines)?;
     Ok(text)
 }
 
-/// These globs choose these lines below a root, with ten lists open at most.
-pub(crate) fn check(
-    rt: &(impl Abort + AllocGlobal),
+/// Whether these globs choose these lines below a root, with ten lists open at most.
+pub(crate) fn gives(
+    alloc: Global,
     disk: &mut MemDisk,
     root: &str,
     globs: &[&str],
     lines: &[&str],
-) -> Result<(), Fail> {
-    let alloc = rt.alloc();
+) -> Result<bool, Fail> {
     let wanted = joined(alloc, lines)?;
-    let given = chosen(alloc, disk, root, globs, 1000)?;
-    assert_eq!(rt; given.as_str(), wanted.as_str(), "{root} {globs:?}");
-    assert!(rt; disk.lists_most() <= 10, "{root} {globs:?}");
-    Ok(())
+    let is_given = chooses(alloc, disk, root, globs, 1000, wanted.as_str())?;
+    Ok(is_given && disk.lists_most() <= 10)
+}
+
+/// A root, globs, and the lines that they give.
+pub(crate) type Case = (
+    &'static str,
+    &'static [&'static str],
+    &'static [&'static str],
+);
+
+/// The place of the first of these cases that isn't so.
+pub(crate) fn first_wrong_on(
+    alloc: Global,
+    disk: &mut MemDisk,
+    cases: &[Case],
+) -> Result<Option<usize>, Fail> {
+    for (place, (root, globs, lines)) in cases.iter().enumerate() {
+        if !gives(alloc, disk, root, globs, lines)? {
+            return Ok(Some(place));
+        }
+    }
+    Ok(None)
+}
+
+/// Adds the nodes of several lists to a disk, and then does as `first_wrong_on`.
+fn first_wrong_filled(
+    alloc: Global,
+    disk: &mut MemDisk,
+    lists: &[Nodes],
+    cases: &[Case],
+) -> Result<Option<usize>, Fail> {
+    fill_all(disk, lists)?;
+    first_wrong_on(alloc, disk, cases)
+}
+
+/// The same on a new disk.
+pub(crate) fn first_wrong(
+    alloc: Global,
+    lists: &[Nodes],
+    cases: &[Case],
+) -> Result<Option<usize>, Fail> {
+    let mut disk = MemDisk::new(alloc);
+    first_wrong_filled(alloc, &mut disk, lists, cases)
 }

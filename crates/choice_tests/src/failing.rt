@@ -1,41 +1,53 @@
 //! Caps, and disks that fail.
 
-use crate::asking::chosen;
+use crate::asking::{chooses, chosen};
+use crate::disks::{Node, Nodes, fill};
 use sd_edge::MemDisk;
 use std::alloc::Global;
 use std::test::Fail;
 
 /// A folder with a file, a folder with a file of its own, and a link: four entries below `/t`.
-fn four_entries(alloc: Global) -> Result<MemDisk, Fail> {
-    let mut disk = MemDisk::new(alloc);
-    disk.add_dir("/t")?;
-    disk.add_file("/t/a.txt", b"one", 0o640)?;
-    disk.add_dir("/t/s")?;
-    disk.add_file("/t/s/b.txt", b"one", 0o640)?;
-    disk.add_link("/t/up", "/")?;
-    Ok(disk)
-}
+const FOUR_ENTRIES: Nodes = &[
+    ("/t", Node::Folder),
+    ("/t/a.txt", Node::File(b"one", 0o640)),
+    ("/t/s", Node::Folder),
+    ("/t/s/b.txt", Node::File(b"one", 0o640)),
+    ("/t/up", Node::Link("/")),
+];
 
 const CHOSEN: &str = "/t/a.txt\n/t/s/b.txt\n";
 
 const TOO_MANY: &str = "! too many entries\n";
 
+/// Whether this is chosen on an empty disk that is given the entries, with a cap, and nothing below a file.
+fn caps_on(alloc: Global, disk: &mut MemDisk, cap: u64, wanted: &str) -> Result<bool, Fail> {
+    fill(disk, FOUR_ENTRIES)?;
+    Ok(
+        chooses(alloc, disk, "/t", &["**/*.txt"], cap, wanted)?
+            && chooses(alloc, disk, "/t/a.txt", &["**"], 1, "")?,
+    )
+}
+
+/// The same on a new disk.
+fn caps(alloc: Global, cap: u64, wanted: &str) -> Result<bool, Fail> {
+    let mut disk = MemDisk::new(alloc);
+    caps_on(alloc, &mut disk, cap, wanted)
+}
+
+/// Caps, and what is told of a choice with each.
+const CAPS: &[(u64, &str)] = &[
+    (1, TOO_MANY),
+    (3, TOO_MANY),
+    (4, TOO_MANY),
+    (5, CHOSEN),
+    (u64::MAX, CHOSEN),
+];
+
 #[test]
 fn as_many_entries_as_the_cap_are_too_many(rt: HostRuntime) -> Result<(), Fail> {
-    let alloc = rt.alloc();
-    let caps = [
-        (1, TOO_MANY),
-        (3, TOO_MANY),
-        (4, TOO_MANY),
-        (5, CHOSEN),
-        (u64::MAX, CHOSEN),
-    ];
-    for (cap, wanted) in caps {
-        let mut disk = four_entries(alloc)?;
-        let given = chosen(alloc, &mut disk, "/t", &["**/*.txt"], cap)?;
-        assert_eq!(rt; given.as_str(), wanted, "{cap} at most");
-        let given = chosen(alloc, &mut disk, "/t/a.txt", &["**"], 1)?;
-        assert_eq!(rt; given.as_str(), "", "a file as root");
+    for (cap, wanted) in CAPS {
+        let is_right = caps(rt.alloc(), *cap, wanted)?;
+        assert!(rt; is_right, "{cap} at most");
     }
     Ok(())
 }
@@ -53,11 +65,48 @@ fn is_failure(text: &str) -> bool {
     )
 }
 
+/// Chooses all files below `/t`, with a cap, and gives what is told.
+fn all(alloc: Global, disk: &mut MemDisk, cap: u64) -> Result<String, Fail> {
+    chosen(alloc, disk, "/t", &["**"], cap)
+}
+
+/// Adds the entries to an empty disk, and gives how many calls a choice of all files below `/t` makes.
+fn calls_on(alloc: Global, disk: &mut MemDisk) -> Result<u64, Fail> {
+    fill(disk, FOUR_ENTRIES)?;
+    let _chosen = all(alloc, disk, 1000)?;
+    Ok(disk.calls())
+}
+
 /// How many calls a choice of all files below `/t` makes.
 fn calls_of_a_choice(alloc: Global) -> Result<u64, Fail> {
-    let mut disk = four_entries(alloc)?;
-    let _chosen = chosen(alloc, &mut disk, "/t", &["**"], 1000)?;
-    Ok(disk.calls())
+    let mut disk = MemDisk::new(alloc);
+    calls_on(alloc, &mut disk)
+}
+
+/// Adds the entries to an empty disk of which the call with this number fails.
+fn fill_failing(disk: &mut MemDisk, call: u64) -> Result<(), Fail> {
+    fill(disk, FOUR_ENTRIES)?;
+    disk.fail_at(call)?;
+    Ok(())
+}
+
+/// Whether a choice of all files tells a failure.
+fn tells_failure(alloc: Global, disk: &mut MemDisk) -> Result<bool, Fail> {
+    let given = all(alloc, disk, 1000)?;
+    Ok(is_failure(given.as_str()))
+}
+
+/// Whether a choice on a disk of which a call fails tells that, and the next one chooses all.
+fn fails_once_on(alloc: Global, disk: &mut MemDisk, call: u64) -> Result<bool, Fail> {
+    fill_failing(disk, call)?;
+    let is_told = tells_failure(alloc, disk)? && disk.faults() == 1;
+    Ok(is_told && chooses(alloc, disk, "/t", &["**"], 1000, CHOSEN)?)
+}
+
+/// The same on a new disk.
+fn fails_once(alloc: Global, call: u64) -> Result<bool, Fail> {
+    let mut disk = MemDisk::new(alloc);
+    fails_once_on(alloc, &mut disk, call)
 }
 
 #[test]
@@ -66,29 +115,35 @@ fn each_failing_call_is_told(rt: HostRuntime) -> Result<(), Fail> {
     let calls = calls_of_a_choice(alloc)?;
     assert!(rt; calls >= 10, "two lists with four entries, and two lengths");
     for call in 1..=calls {
-        let mut disk = four_entries(alloc)?;
-        disk.fail_at(call)?;
-        let given = chosen(alloc, &mut disk, "/t", &["**"], 1000)?;
-        assert!(rt; is_failure(given.as_str()), "call {call}: {given}");
-        assert_eq!(rt; disk.faults(), 1, "call {call}");
-        let again = chosen(alloc, &mut disk, "/t", &["**"], 1000)?;
-        assert_eq!(rt; again.as_str(), CHOSEN, "call {call}");
+        let is_right = fails_once(alloc, call)?;
+        assert!(rt; is_right, "call {call}");
     }
     Ok(())
+}
+
+/// Whether a choice with a cap that is too small tells the failure of a call where there was one, else the cap.
+fn tells_first_on(alloc: Global, disk: &mut MemDisk, call: u64) -> Result<bool, Fail> {
+    fill_failing(disk, call)?;
+    let given = all(alloc, disk, 4)?;
+    if disk.faults() == 0 {
+        Ok(given.as_str() == TOO_MANY)
+    } else {
+        Ok(is_failure(given.as_str()))
+    }
+}
+
+/// The same on a new disk.
+fn tells_first(alloc: Global, call: u64) -> Result<bool, Fail> {
+    let mut disk = MemDisk::new(alloc);
+    tells_first_on(alloc, &mut disk, call)
 }
 
 #[test]
 fn a_fault_or_the_cap_is_told_by_what_comes_first(rt: HostRuntime) -> Result<(), Fail> {
     let alloc = rt.alloc();
     for call in 1..=calls_of_a_choice(alloc)? {
-        let mut disk = four_entries(alloc)?;
-        disk.fail_at(call)?;
-        let given = chosen(alloc, &mut disk, "/t", &["**"], 4)?;
-        if disk.faults() == 0 {
-            assert_eq!(rt; given.as_str(), TOO_MANY, "call {call}");
-        } else {
-            assert!(rt; is_failure(given.as_str()), "call {call}: {given}");
-        }
+        let is_right = tells_first(alloc, call)?;
+        assert!(rt; is_right, "call {call}");
     }
     Ok(())
 }

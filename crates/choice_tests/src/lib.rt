@@ -4,6 +4,8 @@
 #[cfg(test)]
 mod asking;
 #[cfg(test)]
+mod disks;
+#[cfg(test)]
 mod failing;
 #[cfg(test)]
 mod listing;

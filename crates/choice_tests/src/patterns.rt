@@ -1,18 +1,25 @@
 //! Globs as they are read.
 
-use crate::asking::{check, globs_of};
-use chosen_files::{GlobsError, read_globs};
-use sd_edge::MemDisk;
+use crate::asking::{gives, globs_of, read};
+use crate::disks::{add_file, add_folder};
+use chosen_files::GlobsError;
+use sd_edge::{Globs, MemDisk};
 use std::alloc::Global;
 use std::test::Fail;
 
 /// How many of these globs are read, or why they aren't.
-fn read(alloc: Global, texts: &[&str]) -> Result<Result<usize, GlobsError>, Fail> {
+fn count_of(alloc: Global, globs: &Globs) -> Result<usize, GlobsError> {
+    Ok(read(alloc, globs)?.len())
+}
+
+/// How many of these texts are read, or which one is the first that is invalid.
+fn outcome_of(alloc: Global, texts: &[&str]) -> Result<Result<usize, usize>, Fail> {
     let globs = globs_of(alloc, texts)?;
-    Ok(match read_globs(alloc, &globs) {
-        Ok(globs) => Ok(globs.len()),
-        Err(error) => Err(error),
-    })
+    match count_of(alloc, &globs) {
+        Ok(count) => Ok(Ok(count)),
+        Err(GlobsError::Invalid(place)) => Ok(Err(place)),
+        Err(GlobsError::NoMemory) => Err("out of memory".into()),
+    }
 }
 
 /// Eleven braces, each within another.
@@ -21,7 +28,7 @@ const TOO_DEEP: &str = "{{{{{{{{{{{}}}}}}}}}}}";
 /// Globs, and how many are read or which one is the first that is invalid.
 type Case = (&'static [&'static str], Result<usize, usize>);
 
-const CASES: [Case; 10] = [
+const CASES: &[Case] = &[
     (&[], Ok(0)),
     (&["*", "**/a", "!b", "[]a]", "{a,{b,}}", "\\\\"], Ok(6)),
     (&["{{{{{{{{{{}}}}}}}}}}"], Ok(1)),
@@ -37,35 +44,63 @@ const CASES: [Case; 10] = [
 #[test]
 fn the_first_invalid_glob_is_told(rt: HostRuntime) -> Result<(), Fail> {
     for (texts, wanted) in CASES {
-        let wanted = wanted.map_err(GlobsError::Invalid);
-        assert_eq!(rt; read(rt.alloc(), texts)?, wanted, "{texts:?}");
+        let outcome = outcome_of(rt.alloc(), texts)?;
+        assert_eq!(rt; outcome, *wanted, "{texts:?}");
     }
     Ok(())
 }
 
-#[test]
-fn a_glob_of_many_stars_is_answered_at_once(rt: HostRuntime) -> Result<(), Fail> {
-    let alloc = rt.alloc();
-    let mut path = String::from_str(alloc, "/t/")?;
+/// Adds this path and many a letter to a text.
+fn push_long_path(path: &mut String) -> Result<(), Fail> {
+    path.push_str("/t/")?;
     for _ in 0..3000 {
         path.push('a')?;
     }
+    Ok(())
+}
+
+/// Whether globs of many stars choose a file with a long path, or none, as they should.
+fn is_answered_on(alloc: Global, disk: &mut MemDisk, path: &str) -> Result<bool, Fail> {
+    add_folder(disk, "/t")?;
+    add_file(disk, path, b"one", 0o600)?;
+    Ok(
+        gives(alloc, disk, "/t", &["*a*a*a*a*a*b"], &[])?
+            && gives(alloc, disk, "/t", &["*a*a*a*a*a*"], &[path])?,
+    )
+}
+
+/// The same on a new disk.
+fn is_answered(alloc: Global, path: &str) -> Result<bool, Fail> {
     let mut disk = MemDisk::new(alloc);
-    disk.add_dir("/t")?;
-    disk.add_file(path.as_str(), b"one", 0o600)?;
-    check(&rt, &mut disk, "/t", &["*a*a*a*a*a*b"], &[])?;
-    check(&rt, &mut disk, "/t", &["*a*a*a*a*a*"], &[path.as_str()])
+    is_answered_on(alloc, &mut disk, path)
+}
+
+/// The same of a path that it makes.
+fn is_long_path_answered(alloc: Global) -> Result<bool, Fail> {
+    let mut path = String::new(alloc);
+    push_long_path(&mut path)?;
+    is_answered(alloc, path.as_str())
+}
+
+#[test]
+fn a_glob_of_many_stars_is_answered_at_once(rt: HostRuntime) -> Result<(), Fail> {
+    let is_right = is_long_path_answered(rt.alloc())?;
+    assert!(rt; is_right);
+    Ok(())
+}
+
+/// Whether an error has this text.
+fn has_text(alloc: Global, error: &GlobsError, text: &str) -> Result<bool, Fail> {
+    let given = format!(in alloc; "{error}")?;
+    Ok(given.as_str() == text)
 }
 
 #[test]
 fn errors_of_globs_have_texts(rt: HostRuntime) -> Result<(), Fail> {
     let alloc = rt.alloc();
-    let error = GlobsError::Invalid(3);
-    assert_eq!(rt;
-        format!(in alloc; "{error}")?.as_str(),
-        "invalid glob at place 3"
-    );
-    let error = GlobsError::NoMemory;
-    assert_eq!(rt; format!(in alloc; "{error}")?.as_str(), "out of memory");
+    let is_invalid = has_text(alloc, &GlobsError::Invalid(3), "invalid glob at place 3")?;
+    assert!(rt; is_invalid);
+    let is_no_memory = has_text(alloc, &GlobsError::NoMemory, "out of memory")?;
+    assert!(rt; is_no_memory);
     Ok(())
 }

@@ -1,47 +1,13 @@
 //! Disks and sinks that fail.
 
-use crate::disks::{NEW_A, NEW_B, OLD_A, OLD_B, held, is_as_built, small_disk};
-use crate::in_turn::{fault_of, rewritten};
-use crate::shown::shown;
+use crate::disks::{NEW_A, NEW_B, OLD_A, OLD_B, both_hold, fill, has_modes, holds};
+use crate::in_turn::{is_fault_of, rewritten};
+use crate::shown::{ends_with, is_right_on, sink};
 use sd_edge::{MemDisk, MemSink};
 use std::alloc::Global;
 use std::test::Fail;
 
-const BOTH: [&str; 2] = ["/t/a.txt", "/t/b.md"];
-
-/// What became of a file.
-#[derive(Clone, Copy, Debug, PartialEq, Eq)]
-enum State {
-    Old,
-    New,
-    Neither,
-}
-
-/// What became of the file at a path, by its bytes before and after its rewriting.
-fn state_of(
-    alloc: Global,
-    disk: &MemDisk,
-    path: &str,
-    old: &[u8],
-    new: &[u8],
-) -> Result<State, Fail> {
-    let held = held(alloc, disk, path)?;
-    if held.as_slice() == old {
-        Ok(State::Old)
-    } else if held.as_slice() == new {
-        Ok(State::New)
-    } else {
-        Ok(State::Neither)
-    }
-}
-
-/// What became of both files.
-fn states(alloc: Global, disk: &MemDisk) -> Result<(State, State), Fail> {
-    Ok((
-        state_of(alloc, disk, "/t/a.txt", OLD_A, NEW_A)?,
-        state_of(alloc, disk, "/t/b.md", OLD_B, NEW_B)?,
-    ))
-}
+const BOTH: &[&str] = &["/t/a.txt", "/t/b.md"];
 
 const A_FAILED: &str = "/t/a.txt: input or output failed";
 
@@ -51,32 +17,58 @@ const B_FAILED: &str = "/t/b.md: input or output failed";
 
 const B_UNMOVED: &str = "/t/b.md: failed to move file: input or output failed";
 
-/// The jobs that one failing call of the disk may bring, and what becomes of the files: the one of the call is old before its move
+/// The jobs that one failing call of the disk may bring, and what the files hold then: the one of the call is old before its move
 /// and old or new from then on, and the other is new.
-const ENDS: [(&str, State, State); 6] = [
-    (A_FAILED, State::Old, State::New),
-    (A_UNMOVED, State::Old, State::New),
-    (A_UNMOVED, State::New, State::New),
-    (B_FAILED, State::New, State::Old),
-    (B_UNMOVED, State::New, State::Old),
-    (B_UNMOVED, State::New, State::New),
+const ENDS: &[(&str, &[u8], &[u8])] = &[
+    (A_FAILED, OLD_A, NEW_B),
+    (A_UNMOVED, OLD_A, NEW_B),
+    (A_UNMOVED, NEW_A, NEW_B),
+    (B_FAILED, NEW_A, OLD_B),
+    (B_UNMOVED, NEW_A, OLD_B),
+    (B_UNMOVED, NEW_A, NEW_B),
 ];
 
 /// Whether one failing call may end so.
-fn may_end(alloc: Global, fault: &str, a: State, b: State) -> Result<bool, Fail> {
-    for (job, state_a, state_b) in ENDS {
-        if state_a == a && state_b == b && fault_of(alloc, &[job])?.as_str() == fault {
+fn may_end(alloc: Global, disk: &MemDisk, fault: &str) -> Result<bool, Fail> {
+    for (job, a, b) in ENDS {
+        if is_fault_of(alloc, fault, &[*job])? && both_hold(alloc, disk, a, b)? {
             return Ok(true);
         }
     }
     Ok(false)
 }
 
+/// Rewrites both files on an empty disk that it fills, and gives how many calls that makes.
+fn calls_on(alloc: Global, disk: &mut MemDisk) -> Result<u64, Fail> {
+    fill(disk)?;
+    let _fault = rewritten(alloc, disk, NEW_B, BOTH)?;
+    Ok(disk.calls())
+}
+
 /// How many calls the rewriting of both files makes.
 fn calls_of_both(alloc: Global) -> Result<u64, Fail> {
-    let mut disk = small_disk(alloc)?;
-    let _fault = rewritten(alloc, &mut disk, NEW_B, &BOTH)?;
-    Ok(disk.calls())
+    let mut disk = MemDisk::new(alloc);
+    calls_on(alloc, &mut disk)
+}
+
+/// Rewrites both files on a disk of which the call with this number fails, and gives the text of the fault.
+fn fault_at(alloc: Global, disk: &mut MemDisk, call: u64) -> Result<String, Fail> {
+    fill(disk)?;
+    disk.fail_at(call)?;
+    rewritten(alloc, disk, NEW_B, BOTH)
+}
+
+/// Whether that fails one file, which is as its fault says.
+fn fails_one_on(alloc: Global, disk: &mut MemDisk, call: u64) -> Result<bool, Fail> {
+    let fault = fault_at(alloc, disk, call)?;
+    let is_one = disk.faults() == 1 && has_modes(disk);
+    Ok(is_one && may_end(alloc, disk, fault.as_str())?)
+}
+
+/// The same on a new disk.
+fn fails_one(alloc: Global, call: u64) -> Result<bool, Fail> {
+    let mut disk = MemDisk::new(alloc);
+    fails_one_on(alloc, &mut disk, call)
 }
 
 #[test]
@@ -85,68 +77,118 @@ fn one_fault_fails_one_file(rt: HostRuntime) -> Result<(), Fail> {
     let calls = calls_of_both(alloc)?;
     assert!(rt; calls >= 12, "six steps for each file");
     for call in 1..=calls {
-        let mut disk = small_disk(alloc)?;
-        disk.fail_at(call)?;
-        let fault = rewritten(alloc, &mut disk, NEW_B, &BOTH)?;
-        let (a, b) = states(alloc, &disk)?;
-        assert!(rt;
-            may_end(alloc, fault.as_str(), a, b)?,
-            "call {call}: {a:?} {b:?} {fault}"
-        );
-        assert_eq!(rt; disk.faults(), 1, "call {call}");
-        assert_eq!(rt; disk.mode_at("/t/a.txt"), Some(0o640), "call {call}");
-        assert_eq!(rt; disk.mode_at("/t/b.md"), Some(0o600), "call {call}");
-        assert_eq!(rt; disk.mode_at("/t/.sd-0000.tmp"), None, "call {call}");
+        let is_right = fails_one(alloc, call)?;
+        assert!(rt; is_right, "call {call}");
     }
     Ok(())
+}
+
+/// Rewrites both files on a disk that stops at a call, and gives whether a fault is told.
+fn is_stop_told(alloc: Global, disk: &mut MemDisk, call: u64) -> Result<bool, Fail> {
+    fill(disk)?;
+    disk.stop_at(call);
+    let fault = rewritten(alloc, disk, NEW_B, BOTH)?;
+    Ok(!fault.is_empty())
+}
+
+/// Each file, and what it holds before and after its rewriting.
+const OLD_AND_NEW: &[(&str, &[u8], &[u8])] = &[
+    ("/t/a.txt", OLD_A, NEW_A),
+    ("/t/b.md", OLD_B, NEW_B),
+];
+
+/// Whether each file is old or new.
+fn are_old_or_new(alloc: Global, disk: &MemDisk) -> Result<bool, Fail> {
+    for (path, old, new) in OLD_AND_NEW {
+        if !holds(alloc, disk, path, old)? && !holds(alloc, disk, path, new)? {
+            return Ok(false);
+        }
+    }
+    Ok(true)
+}
+
+/// Whether a stop at a call is told, and leaves each file old or new.
+fn stops_on(alloc: Global, disk: &mut MemDisk, call: u64) -> Result<bool, Fail> {
+    Ok(is_stop_told(alloc, disk, call)? && are_old_or_new(alloc, disk)?)
+}
+
+/// The same on a new disk.
+fn stops(alloc: Global, call: u64) -> Result<bool, Fail> {
+    let mut disk = MemDisk::new(alloc);
+    stops_on(alloc, &mut disk, call)
 }
 
 #[test]
 fn a_disk_that_stops_leaves_each_file_old_or_new(rt: HostRuntime) -> Result<(), Fail> {
     let alloc = rt.alloc();
     for call in 1..=calls_of_both(alloc)? {
-        let mut disk = small_disk(alloc)?;
-        disk.stop_at(call);
-        let fault = rewritten(alloc, &mut disk, NEW_B, &BOTH)?;
-        assert!(rt; !fault.is_empty(), "call {call}");
-        let (a, b) = states(alloc, &disk)?;
-        assert_ne!(rt; a, State::Neither, "call {call}");
-        assert_ne!(rt; b, State::Neither, "call {call}");
+        let is_right = stops(alloc, call)?;
+        assert!(rt; is_right, "call {call}");
     }
     Ok(())
 }
 
 const SHOWN: &[u8] = b"----- FILE /t/a.txt -----\n1 two 1\n----- FILE /t/b.md -----\n1\n";
 
-/// The text of the first of both files.
-const FIRST: &[u8] = b"----- FILE /t/a.txt -----\n1 two 1\n";
+/// What is told of a preview that fails.
+const FAILED: &str = "input or output failed";
+
+/// Shows both files into a sink that fails, and gives whether that is told and what was written is a start of all.
+fn fails_in(alloc: Global, disk: &mut MemDisk, out: &mut MemSink) -> Result<bool, Fail> {
+    let is_told = ends_with(alloc, disk, out, BOTH, FAILED)?;
+    Ok(is_told && SHOWN.starts_with(out.bytes()) && out.faults() == 1)
+}
+
+/// The same on an empty disk that it fills, in a sink with room for so many bytes.
+fn fails_for_room_on(alloc: Global, disk: &mut MemDisk, room: usize) -> Result<bool, Fail> {
+    fill(disk)?;
+    let mut out = sink(alloc, room)?;
+    fails_in(alloc, disk, &mut out)
+}
+
+/// The same on a new disk.
+fn fails_for_room(alloc: Global, room: usize) -> Result<bool, Fail> {
+    let mut disk = MemDisk::new(alloc);
+    fails_for_room_on(alloc, &mut disk, room)
+}
 
 #[test]
 fn a_sink_that_fails_ends_a_preview(rt: HostRuntime) -> Result<(), Fail> {
     let alloc = rt.alloc();
     for room in 0..SHOWN.len() {
-        let mut disk = small_disk(alloc)?;
-        let mut out = MemSink::new(alloc, room)?;
-        let fault = shown(alloc, &mut disk, &mut out, &BOTH)?;
-        assert_eq!(rt; fault.as_str(), "input or output failed", "room for {room}");
-        assert!(rt; SHOWN.starts_with(out.bytes()), "room for {room}");
-        assert_eq!(rt; out.faults(), 1, "room for {room}");
-        assert!(rt; is_as_built(alloc, &disk)?, "room for {room}");
+        let is_right = fails_for_room(alloc, room)?;
+        assert!(rt; is_right, "room for {room}");
     }
     Ok(())
+}
+
+/// The text of the first of both files.
+const FIRST: &str = "----- FILE /t/a.txt -----\n1 two 1\n";
+
+/// Whether a preview of both files ends after this text where a call fails.
+fn ends_after_on(
+    alloc: Global,
+    disk: &mut MemDisk,
+    call: u64,
+    text: &'static str,
+) -> Result<bool, Fail> {
+    fill(disk)?;
+    disk.fail_at(call)?;
+    is_right_on(alloc, disk, &(BOTH, text, FAILED))
+}
+
+/// The same on a new disk.
+fn ends_after(alloc: Global, call: u64, text: &'static str) -> Result<bool, Fail> {
+    let mut disk = MemDisk::new(alloc);
+    ends_after_on(alloc, &mut disk, call, text)
 }
 
 #[test]
 fn a_disk_that_fails_ends_a_preview(rt: HostRuntime) -> Result<(), Fail> {
     let alloc = rt.alloc();
-    for (call, text) in [(1, b"".as_slice()), (2, FIRST)] {
-        let mut disk = small_disk(alloc)?;
-        disk.fail_at(call)?;
-        let mut out = MemSink::new(alloc, 1000)?;
-        let fault = shown(alloc, &mut disk, &mut out, &BOTH)?;
-        assert_eq!(rt; fault.as_str(), "input or output failed", "call {call}");
-        assert_eq!(rt; out.bytes(), text, "call {call}");
-        assert!(rt; is_as_built(alloc, &disk)?, "call {call}");
+    for (call, text) in [(1, ""), (2, FIRST)] {
+        let is_right = ends_after(alloc, call, text)?;
+        assert!(rt; is_right, "call {call}");
     }
     Ok(())
 }

@@ -1,12 +1,40 @@
 //! Named files, rewritten in turn.
 
-use crate::disks::{NEW_A, NEW_B, OLD_A, OLD_B, holds, owned, small_disk};
+use crate::disks::{NEW_A, NEW_B, OLD_A, OLD_B, all_hold, fill, has_modes, owned};
 use crate::swapping::Swap;
+use many_files::FilesFault;
 use named_files::rewrite_named;
+use sd_base::Text;
 use sd_edge::MemDisk;
 use std::alloc::Global;
-use std::process::Abort;
 use std::test::Fail;
+
+/// A text in place of each `one`.
+pub(crate) fn for_one(alloc: Global, with: &[u8]) -> Swap<'_> {
+    Swap {
+        alloc,
+        find: b"one",
+        with,
+    }
+}
+
+/// Rewrites the named files.
+fn answer_of(
+    alloc: Global,
+    disk: &mut MemDisk,
+    paths: Vec<Text>,
+    swap: &Swap<'_>,
+) -> Result<(), FilesFault> {
+    rewrite_named(alloc, disk, paths, swap)
+}
+
+/// The text of the fault; none where there is no fault.
+fn text_of(alloc: Global, answer: &Result<(), FilesFault>) -> Result<String, Fail> {
+    match answer {
+        Ok(()) => Ok(String::new(alloc)),
+        Err(fault) => Ok(format!(in alloc; "{fault}")?),
+    }
+}
 
 /// Rewrites the named files, with a text in place of each `one`, and gives the text of the fault; none where each was rewritten.
 pub(crate) fn rewritten(
@@ -15,34 +43,40 @@ pub(crate) fn rewritten(
     with: &[u8],
     paths: &[&str],
 ) -> Result<String, Fail> {
-    let replacer = Swap {
-        alloc,
-        find: b"one",
-        with,
-    };
+    let swap = for_one(alloc, with);
     let paths = owned(alloc, paths)?;
-    match rewrite_named(alloc, disk, paths, &replacer) {
-        Ok(()) => Ok(String::new(alloc)),
-        Err(fault) => Ok(format!(in alloc; "{fault}")?),
+    let answer = answer_of(alloc, disk, paths, &swap);
+    text_of(alloc, &answer)
+}
+
+/// Adds the text of the fault that tells these jobs.
+fn push_fault(text: &mut String, jobs: &[&str]) -> Result<(), Fail> {
+    text.push_str("failed processing files:\n\tFailedJobs(\n")?;
+    for job in jobs {
+        text.push('\t')?;
+        text.push_str(job)?;
+        text.push('\n')?;
     }
+    text.push(')')?;
+    Ok(())
 }
 
 /// The text of the fault that tells these jobs; none where there is no job.
-pub(crate) fn fault_of(alloc: Global, jobs: &[&str]) -> Result<String, Fail> {
+fn fault_of(alloc: Global, jobs: &[&str]) -> Result<String, Fail> {
     let mut text = String::new(alloc);
-    if jobs.is_empty() {
-        return Ok(text);
+    if !jobs.is_empty() {
+        push_fault(&mut text, jobs)?;
     }
-    text.push_str("failed processing files:\n\tFailedJobs(\n")?;
-    for job in jobs {
-        text.push_str(format!(in alloc; "\t{job}\n")?.as_str())?;
-    }
-    text.push(')')?;
     Ok(text)
 }
 
+/// Whether this is the text of the fault that tells these jobs, or it is empty and there is no job.
+pub(crate) fn is_fault_of(alloc: Global, text: &str, jobs: &[&str]) -> Result<bool, Fail> {
+    let wanted = fault_of(alloc, jobs)?;
+    Ok(text == wanted.as_str())
+}
+
 /// Files that are named, the text that takes the place of `one`, what `/t/a.txt` and `/t/b.md` hold then, and the jobs.
-#[derive(Clone, Copy)]
 struct Row {
     paths: &'static [&'static str],
     with: &'static [u8],
@@ -51,26 +85,37 @@ struct Row {
     jobs: &'static [&'static str],
 }
 
-/// Names the files of a row on a disk of its own.
-fn check(rt: &(impl Abort + AllocGlobal), row: &Row) -> Result<(), Fail> {
-    let alloc = rt.alloc();
-    let mut disk = small_disk(alloc)?;
-    let paths = row.paths;
-    let wanted = fault_of(alloc, row.jobs)?;
-    let fault = rewritten(alloc, &mut disk, row.with, paths)?;
-    assert_eq!(rt; fault.as_str(), wanted.as_str(), "{paths:?}");
-    assert!(rt; holds(alloc, &disk, "/t/a.txt", row.a)?, "{paths:?}");
-    assert!(rt; holds(alloc, &disk, "/t/b.md", row.b)?, "{paths:?}");
-    assert!(rt; holds(alloc, &disk, "/t/two", b"two")?, "{paths:?}");
-    assert!(rt; holds(alloc, &disk, "/t/empty", b"")?, "{paths:?}");
-    assert_eq!(rt; disk.mode_at("/t/a.txt"), Some(0o640), "{paths:?}");
-    assert_eq!(rt; disk.mode_at("/t/b.md"), Some(0o600), "{paths:?}");
-    assert_eq!(rt; disk.mode_at("/t/.sd-0000.tmp"), None, "{paths:?}");
-    assert_eq!(rt; disk.faults(), 0, "{paths:?}");
-    Ok(())
+/// Rewrites the files of a row, and gives whether its jobs are told.
+fn tells_jobs(alloc: Global, disk: &mut MemDisk, row: &Row) -> Result<bool, Fail> {
+    let fault = rewritten(alloc, disk, row.with, row.paths)?;
+    is_fault_of(alloc, fault.as_str(), row.jobs)
 }
 
-const DONE: [Row; 6] = [
+/// Rewrites the files of a row on an empty disk that it fills, and gives whether all is as the row says.
+fn is_right_on(alloc: Global, disk: &mut MemDisk, row: &Row) -> Result<bool, Fail> {
+    fill(disk)?;
+    let is_told = tells_jobs(alloc, disk, row)?;
+    let is_clean = disk.faults() == 0 && has_modes(disk);
+    Ok(is_told && is_clean && all_hold(alloc, disk, row.a, row.b)?)
+}
+
+/// The same on a new disk.
+fn is_right(alloc: Global, row: &Row) -> Result<bool, Fail> {
+    let mut disk = MemDisk::new(alloc);
+    is_right_on(alloc, &mut disk, row)
+}
+
+/// The names of the first row of which something is not as it says.
+fn first_wrong(alloc: Global, rows: &[Row]) -> Result<Option<&'static [&'static str]>, Fail> {
+    for row in rows {
+        if !is_right(alloc, row)? {
+            return Ok(Some(row.paths));
+        }
+    }
+    Ok(None)
+}
+
+const DONE: &[Row] = &[
     Row {
         paths: &[],
         with: b"1",
@@ -118,13 +163,12 @@ const DONE: [Row; 6] = [
 
 #[test]
 fn files_are_rewritten_in_turn(rt: HostRuntime) -> Result<(), Fail> {
-    for row in DONE {
-        check(&rt, &row)?;
-    }
+    let wrong = first_wrong(rt.alloc(), DONE)?;
+    assert_eq!(rt; wrong, None);
     Ok(())
 }
 
-const FAILED: [Row; 6] = [
+const FAILED: &[Row] = &[
     Row {
         paths: &["/t/b.md", "/t/none"],
         with: b"1",
@@ -188,8 +232,7 @@ const FAILED: [Row; 6] = [
 
 #[test]
 fn exactly_the_failed_files_are_told(rt: HostRuntime) -> Result<(), Fail> {
-    for row in FAILED {
-        check(&rt, &row)?;
-    }
+    let wrong = first_wrong(rt.alloc(), FAILED)?;
+    assert_eq!(rt; wrong, None);
     Ok(())
 }

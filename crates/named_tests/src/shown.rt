@@ -1,50 +1,119 @@
 //! What named files would become, shown.
 
-use crate::disks::{is_as_built, owned, small_disk};
+use crate::disks::{fill, is_as_built, owned};
+use crate::in_turn::for_one;
 use crate::swapping::Swap;
-use named_files::preview_named;
+use named_files::{PreviewFault, preview_named};
+use sd_base::{NoMemory, Text};
 use sd_edge::{MemDisk, MemSink};
 use std::alloc::Global;
-use std::process::Abort;
 use std::test::Fail;
 
-/// Shows the named files with `1` in place of each `one`, and gives the text of the fault; none where each was shown.
-pub(crate) fn shown(
+/// Shows the named files.
+fn answer_of(
     alloc: Global,
     disk: &mut MemDisk,
     out: &mut MemSink,
-    paths: &[&str],
-) -> Result<String, Fail> {
-    let replacer = Swap {
-        alloc,
-        find: b"one",
-        with: b"1",
-    };
-    let paths = owned(alloc, paths)?;
-    match preview_named(alloc, disk, out, paths, &replacer) {
+    paths: Vec<Text>,
+    swap: &Swap<'_>,
+) -> Result<(), PreviewFault> {
+    preview_named(alloc, disk, out, paths, swap)
+}
+
+/// The text of the fault; none where there is no fault.
+fn text_of(alloc: Global, answer: &Result<(), PreviewFault>) -> Result<String, Fail> {
+    match answer {
         Ok(()) => Ok(String::new(alloc)),
         Err(fault) => Ok(format!(in alloc; "{fault}")?),
     }
 }
 
-/// Files that are named, what is written of them, and the fault.
-type Row = (&'static [&'static str], &'static str, &'static str);
-
-/// Shows the files of a row, which changes nothing.
-fn check(rt: &(impl Abort + AllocGlobal), row: &Row) -> Result<(), Fail> {
-    let alloc = rt.alloc();
-    let (paths, text, fault) = *row;
-    let mut disk = small_disk(alloc)?;
-    let mut out = MemSink::new(alloc, 1000)?;
-    let given = shown(alloc, &mut disk, &mut out, paths)?;
-    assert_eq!(rt; given.as_str(), fault, "{paths:?}");
-    assert_eq!(rt; out.bytes(), text.as_bytes(), "{paths:?}");
-    assert!(rt; is_as_built(alloc, &disk)?, "{paths:?}");
-    assert_eq!(rt; disk.faults(), 0, "{paths:?}");
-    Ok(())
+/// Shows the named files with `1` in place of each `one`, and gives the text of the fault; none where each was shown.
+fn shown(
+    alloc: Global,
+    disk: &mut MemDisk,
+    out: &mut MemSink,
+    paths: &[&str],
+) -> Result<String, Fail> {
+    let swap = for_one(alloc, b"1");
+    let paths = owned(alloc, paths)?;
+    let answer = answer_of(alloc, disk, out, paths, &swap);
+    text_of(alloc, &answer)
 }
 
-const DONE: [Row; 8] = [
+/// Shows the named files, and gives whether that ends with this fault.
+fn tells(
+    alloc: Global,
+    disk: &mut MemDisk,
+    out: &mut MemSink,
+    paths: &[&str],
+    fault: &str,
+) -> Result<bool, Fail> {
+    let given = shown(alloc, disk, out, paths)?;
+    Ok(given.as_str() == fault)
+}
+
+/// The same, and whether that changes nothing.
+pub(crate) fn ends_with(
+    alloc: Global,
+    disk: &mut MemDisk,
+    out: &mut MemSink,
+    paths: &[&str],
+    fault: &str,
+) -> Result<bool, Fail> {
+    Ok(tells(alloc, disk, out, paths, fault)? && is_as_built(alloc, disk)?)
+}
+
+/// A sink with room for so many bytes.
+pub(crate) fn sink(alloc: Global, room: usize) -> Result<MemSink, NoMemory> {
+    MemSink::new(alloc, room)
+}
+
+/// Files that are named, what is written of them, and the fault.
+pub(crate) type Row = (&'static [&'static str], &'static str, &'static str);
+
+/// Shows the files of a row into a sink, and gives whether all is as the row says.
+fn is_right_in(
+    alloc: Global,
+    disk: &mut MemDisk,
+    out: &mut MemSink,
+    row: &Row,
+) -> Result<bool, Fail> {
+    let (paths, text, fault) = *row;
+    let is_told = ends_with(alloc, disk, out, paths, fault)?;
+    Ok(is_told && out.bytes() == text.as_bytes())
+}
+
+/// The same in a new sink.
+pub(crate) fn is_right_on(alloc: Global, disk: &mut MemDisk, row: &Row) -> Result<bool, Fail> {
+    let mut out = sink(alloc, 1000)?;
+    is_right_in(alloc, disk, &mut out, row)
+}
+
+/// Does so on an empty disk that it fills, and gives whether no call fails either.
+fn is_right_filled(alloc: Global, disk: &mut MemDisk, row: &Row) -> Result<bool, Fail> {
+    fill(disk)?;
+    let is_right = is_right_on(alloc, disk, row)?;
+    Ok(is_right && disk.faults() == 0)
+}
+
+/// The same on a new disk.
+fn is_right(alloc: Global, row: &Row) -> Result<bool, Fail> {
+    let mut disk = MemDisk::new(alloc);
+    is_right_filled(alloc, &mut disk, row)
+}
+
+/// The names of the first row of which something is not as it says.
+fn first_wrong(alloc: Global, rows: &[Row]) -> Result<Option<&'static [&'static str]>, Fail> {
+    for row in rows {
+        if !is_right(alloc, row)? {
+            return Ok(Some(row.0));
+        }
+    }
+    Ok(None)
+}
+
+const DONE: &[Row] = &[
     (&[], "", ""),
     (&["/t/a.txt"], "1 two 1\n", ""),
     (&["/l"], "1 two 1\n", ""),
@@ -71,13 +140,12 @@ const DONE: [Row; 8] = [
 
 #[test]
 fn files_are_shown_as_they_would_be(rt: HostRuntime) -> Result<(), Fail> {
-    for row in DONE {
-        check(&rt, &row)?;
-    }
+    let wrong = first_wrong(rt.alloc(), DONE)?;
+    assert_eq!(rt; wrong, None);
     Ok(())
 }
 
-const FAILED: [Row; 7] = [
+const FAILED: &[Row] = &[
     (
         &["/t/b.md", "/t/none", "/t/a.txt"],
         "----- FILE /t/b.md -----\n1\n",
@@ -97,8 +165,7 @@ const FAILED: [Row; 7] = [
 
 #[test]
 fn the_first_fault_ends_a_preview(rt: HostRuntime) -> Result<(), Fail> {
-    for row in FAILED {
-        check(&rt, &row)?;
-    }
+    let wrong = first_wrong(rt.alloc(), FAILED)?;
+    assert_eq!(rt; wrong, None);
     Ok(())
 }
