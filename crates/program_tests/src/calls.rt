@@ -16,6 +16,16 @@ fn one_by_1(alloc: Global) -> Result<Replacer, ReplacerFault> {
     Replacer::new(alloc, "one", "1", false, None, 0)
 }
 
+/// Sweeps `/t` under no cap of the caller's.
+fn sweep_all(
+    alloc: Global,
+    disk: &mut MemDisk,
+    globs: &Words,
+    replacer: &Replacer,
+) -> Result<Report, SweepFault> {
+    sweep(alloc, disk, "/t", globs, replacer)
+}
+
 /// Sweeps `/t`, under a cap where there is one.
 fn sweep_under(
     alloc: Global,
@@ -26,18 +36,12 @@ fn sweep_under(
 ) -> Result<Report, SweepFault> {
     match cap {
         Some(cap) if cap > 0 => sweep_capped(alloc, disk, "/t", globs, replacer, cap),
-        _ => sweep(alloc, disk, "/t", globs, replacer),
+        _ => sweep_all(alloc, disk, globs, replacer),
     }
 }
 
-/// The report of a sweep of `/t`, which has three entries, under a cap, or none where there are too many. Replacers are let go where they are
-/// used, so that tests are quickly proved.
-fn swept(alloc: Global, disk: &mut MemDisk, cap: Option<u64>) -> Result<Option<Report>, Fail> {
-    disk.add_dir("/t/sub")?;
-    let globs = listed(alloc, &["**"])?;
-    let replacer = one_by_1(alloc)?;
-    let answer = sweep_under(alloc, disk, &globs, &replacer, cap);
-    drop(replacer);
+/// The report of a sweep, or none where there were too many entries.
+fn report_of(answer: Result<Report, SweepFault>) -> Result<Option<Report>, Fail> {
     match answer {
         Ok(report) => Ok(Some(report)),
         Err(SweepFault::TooMany) => Ok(None),
@@ -45,55 +49,137 @@ fn swept(alloc: Global, disk: &mut MemDisk, cap: Option<u64>) -> Result<Option<R
     }
 }
 
+/// The report of a sweep of `/t`, under a cap where there is one. Replacers are let go where they are used, so that tests are quickly
+/// proved.
+fn swept_under(
+    alloc: Global,
+    disk: &mut MemDisk,
+    globs: &Words,
+    cap: Option<u64>,
+) -> Result<Option<Report>, Fail> {
+    let replacer = one_by_1(alloc)?;
+    let answer = sweep_under(alloc, disk, globs, &replacer, cap);
+    drop(replacer);
+    report_of(answer)
+}
+
+/// The report of a sweep of `/t`, which has three entries, under a cap, or none where there are too many.
+fn swept(alloc: Global, disk: &mut MemDisk, cap: Option<u64>) -> Result<Option<Report>, Fail> {
+    disk.add_dir("/t/sub")?;
+    let globs = listed(alloc, &["**"])?;
+    swept_under(alloc, disk, &globs, cap)
+}
+
+/// A cap, the report of a sweep under it, and what files hold then.
+type Sweep = (
+    Option<u64>,
+    Option<Report>,
+    &'static [(&'static str, &'static [u8])],
+);
+
+/// A sweep of a disk does as it is to.
+fn check_sweep_on(
+    rt: &(impl Abort + AllocGlobal),
+    disk: &mut MemDisk,
+    wanted: Sweep,
+) -> Result<(), Fail> {
+    let (cap, report, files) = wanted;
+    let answer = swept(rt.alloc(), disk, cap)?;
+    assert_eq!(rt; answer, report, "cap {cap:?}");
+    check_files(rt, disk, files)
+}
+
+/// A sweep of `two_files` does as it is to.
+fn check_sweep(rt: &(impl Abort + AllocGlobal), wanted: Sweep) -> Result<(), Fail> {
+    let mut disk = two_files(rt.alloc())?;
+    check_sweep_on(rt, &mut disk, wanted)
+}
+
+/// What the files hold before and after a sweep.
+const OLD: &[(&str, &[u8])] = &[("/t/a.txt", b"one two one"), ("/t/b.md", b"one")];
+
+const NEW: &[(&str, &[u8])] = &[("/t/a.txt", b"1 two 1"), ("/t/b.md", b"1")];
+
+/// The report of a sweep of all.
+const ALL: Option<Report> = Some(Report {
+    chosen: 2,
+    changed: 2,
+    replaced: 3,
+});
+
+const SWEEPS: &[Sweep] = &[
+    (Some(1), None, OLD),
+    (Some(2), None, OLD),
+    (Some(3), None, OLD),
+    (Some(4), ALL, NEW),
+    (None, ALL, NEW),
+];
+
 #[test]
 fn a_sweep_has_a_cap_on_entries(rt: HostRuntime) -> Result<(), Fail> {
-    for cap in 1..=3 {
-        let mut disk = two_files(rt.alloc())?;
-        let answer = swept(rt.alloc(), &mut disk, Some(cap))?;
-        assert!(rt; answer.is_none(), "cap {cap}");
-        check_files(
-            &rt,
-            &disk,
-            &[("/t/a.txt", b"one two one"), ("/t/b.md", b"one")],
-        )?;
-    }
-    for cap in [Some(4), None] {
-        let mut disk = two_files(rt.alloc())?;
-        let report = swept(rt.alloc(), &mut disk, cap)?;
-        let wanted = Some(Report {
-            chosen: 2,
-            changed: 2,
-            replaced: 3,
-        });
-        assert_eq!(rt; report, wanted, "cap {cap:?}");
-        check_files(&rt, &disk, &[("/t/a.txt", b"1 two 1"), ("/t/b.md", b"1")])?;
+    for wanted in SWEEPS {
+        check_sweep(&rt, *wanted)?;
     }
     Ok(())
 }
 
-/// What is written of an input under a cap of eight bytes, and whether the input is too long.
-fn streamed(alloc: Global, input: &[u8]) -> Result<(MemSink, bool), Fail> {
-    let mut source = MemSource::new(alloc, input, 3)?;
-    let mut sink = MemSink::new(alloc, 100)?;
-    let replacer = one_by_1(alloc)?;
-    let answer = replace_stream(alloc, &mut source, &mut sink, &replacer, 8);
-    drop(replacer);
+/// Replaces in an input under a cap of eight bytes.
+fn stream_under(
+    alloc: Global,
+    source: &mut MemSource,
+    sink: &mut MemSink,
+    replacer: &Replacer,
+) -> Result<(), StreamFault> {
+    replace_stream(alloc, source, sink, replacer, 8)
+}
+
+/// Whether an input was too long.
+fn was_too_long(answer: Result<(), StreamFault>) -> Result<bool, Fail> {
     match answer {
-        Ok(()) => Ok((sink, false)),
-        Err(StreamFault::InputTooLong) => Ok((sink, true)),
+        Ok(()) => Ok(false),
+        Err(StreamFault::InputTooLong) => Ok(true),
         Err(_) => Err("another fault")?,
     }
 }
 
+/// Replaces in an input under a cap of eight bytes, and gives whether it is too long.
+fn streamed(alloc: Global, source: &mut MemSource, sink: &mut MemSink) -> Result<bool, Fail> {
+    let replacer = one_by_1(alloc)?;
+    let answer = stream_under(alloc, source, sink, &replacer);
+    drop(replacer);
+    was_too_long(answer)
+}
+
+/// An input, what is written of it under a cap of eight bytes, and whether it is too long.
+type Stream = (&'static [u8], &'static [u8], bool);
+
+/// What is written to a sink of an input is as it is to be.
+fn check_stream_to(
+    rt: &(impl Abort + AllocGlobal),
+    sink: &mut MemSink,
+    wanted: Stream,
+) -> Result<(), Fail> {
+    let (input, written, too_long) = wanted;
+    let mut source = MemSource::new(rt.alloc(), input, 3)?;
+    let is_too_long = streamed(rt.alloc(), &mut source, sink)?;
+    drop(source);
+    assert_eq!(rt; sink.bytes(), written);
+    assert_eq!(rt; is_too_long, too_long);
+    Ok(())
+}
+
+/// The same, with the sink made.
+fn check_stream(rt: &(impl Abort + AllocGlobal), wanted: Stream) -> Result<(), Fail> {
+    let mut sink = MemSink::new(rt.alloc(), 100)?;
+    check_stream_to(rt, &mut sink, wanted)
+}
+
+const STREAMS: &[Stream] = &[(b"one two o", b"", true), (b"one two ", b"1 two ", false)];
+
 #[test]
 fn a_stream_has_a_cap_on_bytes(rt: HostRuntime) -> Result<(), Fail> {
-    for (input, written, too_long) in [
-        (b"one two o".as_slice(), b"".as_slice(), true),
-        (b"one two ", b"1 two ", false),
-    ] {
-        let (sink, is_too_long) = streamed(rt.alloc(), input)?;
-        assert_eq!(rt; sink.bytes(), written);
-        assert_eq!(rt; is_too_long, too_long);
+    for wanted in STREAMS {
+        check_stream(&rt, *wanted)?;
     }
     Ok(())
 }
@@ -107,41 +193,114 @@ enum Work {
     PreviewOfFile,
 }
 
-/// The app that replaces `one` by `1` in standard input, or in `/t/b.md`.
-fn app_of(alloc: Global, work: Work) -> Result<App, Fail> {
-    let source = match work {
-        Work::Input | Work::PreviewOfInput => AppSource::Stdin,
-        Work::File | Work::PreviewOfFile => AppSource::Files(listed(alloc, &["/t/b.md"])?),
-    };
-    Ok(App::new(source, one_by_1(alloc)?))
+/// Standard input, or the file `/t/b.md`.
+fn source_of(alloc: Global, work: Work) -> Result<AppSource, Fail> {
+    match work {
+        Work::Input | Work::PreviewOfInput => Ok(AppSource::Stdin),
+        Work::File | Work::PreviewOfFile => Ok(AppSource::Files(listed(alloc, &["/t/b.md"])?)),
+    }
 }
 
-/// What an app writes.
-fn app_writes(alloc: Global, disk: &mut MemDisk, work: Work) -> Result<MemSink, Fail> {
-    let mut input = MemSource::new(alloc, b"no one", 3)?;
-    let mut out = MemSink::new(alloc, 100)?;
-    let preview = matches!(work, Work::PreviewOfInput | Work::PreviewOfFile);
-    let app = app_of(alloc, work)?;
-    let answer = app.run(alloc, preview, disk, &mut input, &mut out);
-    drop(app);
-    let is_done = answer.is_ok();
-    drop(answer);
-    if is_done { Ok(out) } else { Err("a fault")? }
+/// Runs an app, and gives whether that goes without a fault.
+fn is_done(
+    alloc: Global,
+    app: &App,
+    preview: bool,
+    disk: &mut MemDisk,
+    input: &mut MemSource,
+    out: &mut MemSink,
+) -> bool {
+    let answer = app.run(alloc, preview, disk, input, out);
+    answer.is_ok()
 }
+
+/// Runs an app as `is_done` does, and lets it go.
+fn is_done_once(
+    alloc: Global,
+    app: App,
+    preview: bool,
+    disk: &mut MemDisk,
+    input: &mut MemSource,
+    out: &mut MemSink,
+) -> bool {
+    let is_done = is_done(alloc, &app, preview, disk, input, out);
+    drop(app);
+    is_done
+}
+
+/// Makes the app that replaces `one` by `1` in a source, and runs it, which gives whether that goes without a fault.
+fn is_run_on(
+    alloc: Global,
+    source: AppSource,
+    preview: bool,
+    disk: &mut MemDisk,
+    input: &mut MemSource,
+    out: &mut MemSink,
+) -> Result<bool, Fail> {
+    let replacer = one_by_1(alloc)?;
+    let app = App::new(source, replacer);
+    Ok(is_done_once(alloc, app, preview, disk, input, out))
+}
+
+/// Runs the app on standard input, or on `/t/b.md`, and gives whether that goes without a fault.
+fn is_run(
+    alloc: Global,
+    disk: &mut MemDisk,
+    input: &mut MemSource,
+    out: &mut MemSink,
+    work: Work,
+) -> Result<bool, Fail> {
+    let preview = matches!(work, Work::PreviewOfInput | Work::PreviewOfFile);
+    let source = source_of(alloc, work)?;
+    is_run_on(alloc, source, preview, disk, input, out)
+}
+
+/// What an app works on, what it writes, and what `/t/b.md` holds then.
+type Job = (Work, &'static [u8], &'static [u8]);
+
+/// An app does on a disk what it is to.
+fn check_app_on(
+    rt: &(impl Abort + AllocGlobal),
+    disk: &mut MemDisk,
+    out: &mut MemSink,
+    job: Job,
+) -> Result<(), Fail> {
+    let (work, written, held) = job;
+    let mut input = MemSource::new(rt.alloc(), b"no one", 3)?;
+    let is_run = is_run(rt.alloc(), disk, &mut input, out, work)?;
+    drop(input);
+    assert!(rt; is_run);
+    assert_eq!(rt; out.bytes(), written);
+    check_files(rt, disk, &[("/t/b.md", held)])
+}
+
+/// The same, with the sink made.
+fn check_app_with(
+    rt: &(impl Abort + AllocGlobal),
+    disk: &mut MemDisk,
+    job: Job,
+) -> Result<(), Fail> {
+    let mut out = MemSink::new(rt.alloc(), 100)?;
+    check_app_on(rt, disk, &mut out, job)
+}
+
+/// The same on `two_files`.
+fn check_app(rt: &(impl Abort + AllocGlobal), job: Job) -> Result<(), Fail> {
+    let mut disk = two_files(rt.alloc())?;
+    check_app_with(rt, &mut disk, job)
+}
+
+const JOBS: &[Job] = &[
+    (Work::Input, b"no 1", b"one"),
+    (Work::PreviewOfInput, b"no 1", b"one"),
+    (Work::PreviewOfFile, b"1\n", b"one"),
+    (Work::File, b"", b"1"),
+];
 
 #[test]
 fn an_app_replaces_input_or_files(rt: HostRuntime) -> Result<(), Fail> {
-    let alloc = rt.alloc();
-    for (work, written, held) in [
-        (Work::Input, b"no 1".as_slice(), b"one".as_slice()),
-        (Work::PreviewOfInput, b"no 1", b"one"),
-        (Work::PreviewOfFile, b"1\n", b"one"),
-        (Work::File, b"", b"1"),
-    ] {
-        let mut disk = two_files(alloc)?;
-        let out = app_writes(alloc, &mut disk, work)?;
-        assert_eq!(rt; out.bytes(), written);
-        check_files(&rt, &disk, &[("/t/b.md", held)])?;
+    for job in JOBS {
+        check_app(&rt, *job)?;
     }
     Ok(())
 }
@@ -172,17 +331,34 @@ fn carried(alloc: Global, why: &Why) -> Result<String, Fail> {
     }
 }
 
-/// What the error carries with which the words end on `two_files`.
-fn told(alloc: Global, words: &[&str]) -> Result<String, Fail> {
-    let list = listed(alloc, words)?;
-    let mut disk = two_files(alloc)?;
-    let mut input = MemSource::new(alloc, b"", 1)?;
-    let mut out = MemSink::new(alloc, 100)?;
-    let mut err = MemSink::new(alloc, 100)?;
-    let ended = run(alloc, &list, &mut disk, &mut input, &mut out, &mut err);
+/// Runs the words, and gives what the error carries with which they end.
+fn carried_of(
+    alloc: Global,
+    list: &Words,
+    disk: &mut MemDisk,
+    input: &mut MemSource,
+    out: &mut MemSink,
+    err: &mut MemSink,
+) -> Result<String, Fail> {
+    let ended = run(alloc, list, disk, input, out, err);
     let text = carried(alloc, &ended.why);
     drop(ended);
     text
+}
+
+/// What the error carries with which the words end on a disk.
+fn told_on(alloc: Global, disk: &mut MemDisk, words: &[&str]) -> Result<String, Fail> {
+    let list = listed(alloc, words)?;
+    let mut input = MemSource::new(alloc, b"", 1)?;
+    let mut out = MemSink::new(alloc, 100)?;
+    let mut err = MemSink::new(alloc, 100)?;
+    carried_of(alloc, &list, disk, &mut input, &mut out, &mut err)
+}
+
+/// What the error carries with which the words end on `two_files`.
+fn told(alloc: Global, words: &[&str]) -> Result<String, Fail> {
+    let mut disk = two_files(alloc)?;
+    told_on(alloc, &mut disk, words)
 }
 
 /// Words, and what the error carries: a text with a name's place and digits, a path with a job's fault, or a path.
@@ -193,11 +369,17 @@ const TOLD: &[(&[&str], &str)] = &[
     (&["-p", "one", "1", "/"], "/"),
 ];
 
+/// The words end with an error that carries this.
+fn check_told(rt: &(impl Abort + AllocGlobal), words: &[&str], carried: &str) -> Result<(), Fail> {
+    let text = told(rt.alloc(), words)?;
+    assert_eq!(rt; text.as_str(), carried);
+    Ok(())
+}
+
 #[test]
 fn errors_carry_what_they_tell_of(rt: HostRuntime) -> Result<(), Fail> {
     for (words, carried) in TOLD {
-        let text = told(rt.alloc(), words)?;
-        assert_eq!(rt; text.as_str(), *carried);
+        check_told(&rt, words, carried)?;
     }
     Ok(())
 }

@@ -1,16 +1,23 @@
 //! Named files, rewritten and previewed.
 
-use crate::running::{check, check_files, check_run, run_words, two_files};
+use crate::failing::{TOLD, outcome_on};
+use crate::running::{Run, check, check_files, run_words, two_files};
 use sd_edge::MemDisk;
 use std::alloc::Global;
 use std::process::Abort;
 use std::test::Fail;
 
+/// Adds an empty file and a link to a file.
+fn add_two(disk: &mut MemDisk) -> Result<(), Fail> {
+    disk.add_file("/t/empty", b"", 0o640)?;
+    disk.add_link("/link", "t/b.md")?;
+    Ok(())
+}
+
 /// `two_files` with an empty file and a link to a file.
 fn four_nodes(alloc: Global) -> Result<MemDisk, Fail> {
     let mut disk = two_files(alloc)?;
-    disk.add_file("/t/empty", b"", 0o640)?;
-    disk.add_link("/link", "t/b.md")?;
+    add_two(&mut disk)?;
     Ok(disk)
 }
 
@@ -29,7 +36,7 @@ type Row = (
     &'static [u8],
 );
 
-const REWRITTEN: [Row; 9] = [
+const REWRITTEN: &[Row] = &[
     (&["one", "1", "/t/a.txt"], 0, [b"1 two 1", b"one"], b""),
     (
         &["--", "one", "1", "/t/a.txt", "/t/b.md"],
@@ -79,20 +86,39 @@ const REWRITTEN: [Row; 9] = [
     ),
 ];
 
+/// Whether the link is still one, no temporary file is left, and no folder was listed.
+fn is_clear(disk: &MemDisk) -> bool {
+    disk.mode_at("/link").is_none()
+        && disk.mode_at("/t/.sd-0000.tmp").is_none()
+        && disk.lists_most() == 0
+}
+
+/// Words rewrite the files of a disk as their row has it.
+fn check_row_on(
+    rt: &(impl Abort + AllocGlobal),
+    disk: &mut MemDisk,
+    row: &Row,
+) -> Result<(), Fail> {
+    let (words, status, [a, b], err) = *row;
+    check(rt, disk, words, (status, b"", err))?;
+    assert!(rt; is_clear(disk), "{words:?}");
+    check_files(
+        rt,
+        disk,
+        &[("/t/a.txt", a), ("/t/b.md", b), ("/t/empty", b"")],
+    )
+}
+
+/// The same on a new disk.
+fn check_row(rt: &(impl Abort + AllocGlobal), row: &Row) -> Result<(), Fail> {
+    let mut disk = four_nodes(rt.alloc())?;
+    check_row_on(rt, &mut disk, row)
+}
+
 #[test]
 fn named_files_are_rewritten_in_turn(rt: HostRuntime) -> Result<(), Fail> {
-    for (words, status, [a, b], err) in REWRITTEN {
-        let mut disk = four_nodes(rt.alloc())?;
-        check(&rt, &mut disk, words, (status, b"", err))?;
-        check_files(
-            &rt,
-            &disk,
-            &[("/t/a.txt", a), ("/t/b.md", b), ("/t/empty", b"")],
-        )?;
-        // the link is still one, and no temporary file is left
-        assert_eq!(rt; disk.mode_at("/link"), None, "{words:?}");
-        assert_eq!(rt; disk.mode_at("/t/.sd-0000.tmp"), None, "{words:?}");
-        assert_eq!(rt; disk.lists_most(), 0, "{words:?}");
+    for row in REWRITTEN {
+        check_row(&rt, row)?;
     }
     Ok(())
 }
@@ -100,7 +126,7 @@ fn named_files_are_rewritten_in_turn(rt: HostRuntime) -> Result<(), Fail> {
 /// Words, what they print, and the error that is shown.
 type Preview = (&'static [&'static str], &'static [u8], &'static [u8]);
 
-const PREVIEWS: [Preview; 8] = [
+const PREVIEWS: &[Preview] = &[
     (&["-p", "--", "one", "1", "/t/a.txt"], b"1 two 1\n", b""),
     (
         &["-p", "--", "one", "1", "/t/a.txt", "/t/b.md"],
@@ -128,7 +154,7 @@ const PREVIEWS: [Preview; 8] = [
 ];
 
 /// Previews that end early.
-const ENDED: [Preview; 7] = [
+const ENDED: &[Preview] = &[
     (
         &["-p", "one", "1", "/t/none"],
         b"",
@@ -166,54 +192,101 @@ const ENDED: [Preview; 7] = [
     ),
 ];
 
-/// A preview shows this, and changes nothing.
-fn check_preview(
+/// A preview shows this on a disk, and changes nothing.
+fn check_preview_on(
     rt: &(impl Abort + AllocGlobal),
-    preview: Preview,
+    disk: &mut MemDisk,
+    preview: &Preview,
     status: u8,
 ) -> Result<(), Fail> {
-    let (words, out, err) = preview;
-    let mut disk = four_nodes(rt.alloc())?;
-    check(rt, &mut disk, words, (status, out, err))?;
-    assert_eq!(rt; disk.mode_at("/link"), None, "{words:?}");
-    check_files(rt, &disk, &OLD)
+    let (words, out, err) = *preview;
+    check(rt, disk, words, (status, out, err))?;
+    assert!(rt; disk.mode_at("/link").is_none(), "{words:?}");
+    check_files(rt, disk, &OLD)
 }
 
-#[test]
-fn previews_show_what_files_would_become(rt: HostRuntime) -> Result<(), Fail> {
-    for preview in PREVIEWS {
-        check_preview(&rt, preview, 0)?;
-    }
-    for preview in ENDED {
-        check_preview(&rt, preview, 1)?;
+/// The same on a new disk.
+fn check_preview(
+    rt: &(impl Abort + AllocGlobal),
+    preview: &Preview,
+    status: u8,
+) -> Result<(), Fail> {
+    let mut disk = four_nodes(rt.alloc())?;
+    check_preview_on(rt, &mut disk, preview, status)
+}
+
+/// Previews show this, and end with the same status.
+fn check_previews(
+    rt: &(impl Abort + AllocGlobal),
+    previews: &[Preview],
+    status: u8,
+) -> Result<(), Fail> {
+    for preview in previews {
+        check_preview(rt, preview, status)?;
     }
     Ok(())
 }
 
 #[test]
+fn previews_show_what_files_would_become(rt: HostRuntime) -> Result<(), Fail> {
+    check_previews(&rt, PREVIEWS, 0)?;
+    check_previews(&rt, ENDED, 1)
+}
+
+/// What a preview prints to 30 bytes of room.
+const SHORT: &[u8] = b"----- FILE /t/b.md -----\n1\n---";
+
+/// Whether a run printed as much as there was room for, and told that.
+fn is_short(run: &Run) -> bool {
+    run.outcome.status == 1
+        && run.outcome.cause == "File"
+        && run.out.bytes() == SHORT
+        && run.err.bytes() == TOLD
+}
+
+/// Whether a preview of two files is cut where it has no more room, and this is told.
+fn prints_short(alloc: Global, disk: &mut MemDisk) -> Result<bool, Fail> {
+    let words = &["-p", "one", "1", "/t/b.md", "/t/a.txt"];
+    let run = run_words(alloc, disk, words, 30)?;
+    Ok(is_short(&run))
+}
+
+/// A preview that is cut changes nothing.
+fn check_short(rt: &(impl Abort + AllocGlobal), disk: &mut MemDisk) -> Result<(), Fail> {
+    assert!(rt; prints_short(rt.alloc(), disk)?);
+    check_files(rt, disk, &OLD)
+}
+
+#[test]
 fn a_preview_that_cannot_be_written_is_told(rt: HostRuntime) -> Result<(), Fail> {
     let mut disk = four_nodes(rt.alloc())?;
-    let words = ["-p", "one", "1", "/t/b.md", "/t/a.txt"];
-    let run = run_words(rt.alloc(), &mut disk, &words, 30)?;
-    let out = b"----- FILE /t/b.md -----\n1\n---";
-    let err = b"error: input or output failed\n";
-    check_run(&rt, &run, &words, (1, out, err));
-    assert_eq!(rt; run.outcome.cause, "File");
-    check_files(&rt, &disk, &OLD)
+    check_short(&rt, &mut disk)
+}
+
+/// A path, and the cause by which its preview ends.
+const CAUSES: &[(&str, &str)] = &[
+    ("", "InvalidPath"),
+    ("/", "InvalidPath"),
+    ("/t", "File"),
+    ("/t/none", "File"),
+];
+
+/// Whether a preview of a path ends by a cause, while no call on the disk fails.
+fn ends_by_on(alloc: Global, disk: &mut MemDisk, path: &str, cause: &str) -> Result<bool, Fail> {
+    let ended = outcome_on(alloc, disk, &["-p", "one", "1", path])?;
+    Ok(ended.cause == cause && disk.faults() == 0)
+}
+
+/// The same on a new disk.
+fn ends_by(alloc: Global, path: &str, cause: &str) -> Result<bool, Fail> {
+    let mut disk = four_nodes(alloc)?;
+    ends_by_on(alloc, &mut disk, path, cause)
 }
 
 #[test]
 fn preview_faults_have_their_causes(rt: HostRuntime) -> Result<(), Fail> {
-    for (path, name) in [
-        ("", "InvalidPath"),
-        ("/", "InvalidPath"),
-        ("/t", "File"),
-        ("/t/none", "File"),
-    ] {
-        let mut disk = four_nodes(rt.alloc())?;
-        let run = run_words(rt.alloc(), &mut disk, &["-p", "one", "1", path], 100)?;
-        assert_eq!(rt; run.outcome.cause, name, "{path}");
-        assert_eq!(rt; disk.faults(), 0, "{path}");
+    for (path, cause) in CAUSES {
+        assert!(rt; ends_by(rt.alloc(), path, cause)?, "{path}");
     }
     Ok(())
 }

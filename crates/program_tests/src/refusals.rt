@@ -1,29 +1,55 @@
 //! Why a command fails, in which order it is told, and by what text.
 
-use crate::running::{check_files, check_run, run_on_input, run_words, two_files};
+use crate::running::{Run, check_files, check_run, run_on_input, run_words, two_files};
 use sd_core::Error;
+use sd_edge::MemDisk;
 use std::alloc::Global;
 use std::process::Abort;
 use std::test::Fail;
 
 /// Words, the name of how the run ends, and the error that is shown.
-type Row = (&'static [&'static str], &'static str, &'static [u8]);
+type Row<'a> = (&'a [&'a str], &'static str, &'static [u8]);
+
+/// A run ended so, with nothing printed or read.
+fn check_refusal(rt: &impl Abort, run: &Run, row: Row<'_>) {
+    let (words, name, err) = row;
+    let status = if name == "Usage" { 2 } else { 1 };
+    check_run(rt, run, words, (status, b"", err));
+    assert_eq!(rt; run.outcome.cause, name, "{words:?}");
+    assert!(rt; !run.has_read, "{words:?}");
+}
+
+/// The words end so on a disk.
+fn check_refused_run(
+    rt: &(impl Abort + AllocGlobal),
+    disk: &mut MemDisk,
+    row: Row<'_>,
+) -> Result<(), Fail> {
+    let run = run_words(rt.alloc(), disk, row.0, 1000)?;
+    check_refusal(rt, &run, row);
+    Ok(())
+}
+
+/// What the files hold before and after.
+const FILES: &[(&str, &[u8])] = &[("/t/a.txt", b"one two one"), ("/t/b.md", b"one")];
+
+/// The words end so on a disk, with no file changed; at most `calls` calls of it are made.
+fn check_refused_on(
+    rt: &(impl Abort + AllocGlobal),
+    disk: &mut MemDisk,
+    row: Row<'_>,
+    calls: u64,
+) -> Result<(), Fail> {
+    check_refused_run(rt, disk, row)?;
+    let (words, _, _) = row;
+    assert!(rt; disk.calls() <= calls, "{words:?}");
+    check_files(rt, disk, FILES)
+}
 
 /// The words end so on `two_files`, with nothing printed, read or changed; at most `calls` calls of the disk are made.
-fn check_refused(rt: &(impl Abort + AllocGlobal), row: Row, calls: u64) -> Result<(), Fail> {
-    let (words, name, err) = row;
+fn check_refused(rt: &(impl Abort + AllocGlobal), row: Row<'_>, calls: u64) -> Result<(), Fail> {
     let mut disk = two_files(rt.alloc())?;
-    let run = run_words(rt.alloc(), &mut disk, words, 1000)?;
-    let status = if name == "Usage" { 2 } else { 1 };
-    check_run(rt, &run, words, (status, b"", err));
-    assert_eq!(rt; run.outcome.cause, name, "{words:?}");
-    assert!(rt; disk.calls() <= calls, "{words:?}");
-    assert!(rt; !run.has_read, "{words:?}");
-    check_files(
-        rt,
-        &disk,
-        &[("/t/a.txt", b"one two one"), ("/t/b.md", b"one")],
-    )
+    check_refused_on(rt, &mut disk, row, calls)
 }
 
 const AMBIGUOUS: &[u8] =
@@ -35,7 +61,7 @@ const UNREADABLE: &[u8] = b"error: invalid regex regex parse error\n";
 const NOT_BUILT: &[u8] = b"error: not built yet\n";
 
 /// Each of these commands has all that the ones below it are refused for.
-const IN_ORDER: [Row; 5] = [
+const IN_ORDER: &[Row<'static>] = &[
     (
         &["-p", "-n", "1x", "--root", "/none", "--", "(", "$1a", "{a"],
         "Usage",
@@ -66,14 +92,14 @@ const IN_ORDER: [Row; 5] = [
 #[test]
 fn refusals_come_in_order_before_the_disk_is_called(rt: HostRuntime) -> Result<(), Fail> {
     for row in IN_ORDER {
-        check_refused(&rt, row, 0)?;
+        check_refused(&rt, *row, 0)?;
     }
     Ok(())
 }
 
 const MISSING: &[u8] = b"error: the root leads to nothing\n";
 
-const ROOTS: [Row; 5] = [
+const ROOTS: &[Row<'static>] = &[
     (
         &["--root", "/none", "--", "one", "1", "*"],
         "RootMissing",
@@ -100,12 +126,12 @@ const ROOTS: [Row; 5] = [
 #[test]
 fn a_missing_root_is_told(rt: HostRuntime) -> Result<(), Fail> {
     for row in ROOTS {
-        check_refused(&rt, row, 2)?;
+        check_refused(&rt, *row, 2)?;
     }
     Ok(())
 }
 
-const TEXTS: [Row; 14] = [
+const TEXTS: &[Row<'static>] = &[
     (&["(", "x", "/t/a.txt"], "Regex", UNREADABLE),
     (&["-p", "[a", "x", "/t/a.txt"], "Regex", UNREADABLE),
     (
@@ -167,32 +193,60 @@ const TEXTS: [Row; 14] = [
 #[test]
 fn refusals_have_their_texts(rt: HostRuntime) -> Result<(), Fail> {
     for row in TEXTS {
-        check_refused(&rt, row, 0)?;
+        check_refused(&rt, *row, 0)?;
     }
     Ok(())
+}
+
+/// Adds a letter so many times to a text.
+fn push_times(text: &mut String, letter: char, count: usize) -> Result<(), Fail> {
+    for _ in 0..count {
+        text.push(letter)?;
+    }
+    Ok(())
+}
+
+/// A pattern of so many groups, one in the other.
+fn nested(alloc: Global, depth: usize) -> Result<String, Fail> {
+    let mut pattern = String::new(alloc);
+    push_times(&mut pattern, '(', depth)?;
+    pattern.push('a')?;
+    push_times(&mut pattern, ')', depth)?;
+    Ok(pattern)
+}
+
+/// A run ended with this status, and tells of the depth where that is 1.
+fn check_nesting(rt: &impl Abort, run: &Run, depth: usize, status: u8) {
+    assert_eq!(rt; run.outcome.status, status, "{depth}");
+    let nests = run.err.bytes() == b"error: invalid regex regex nests too deep\n".as_slice();
+    assert_eq!(rt; nests, status == 1, "{depth}");
+}
+
+/// A pattern that nests so deep ends with this status.
+fn check_pattern(
+    rt: &(impl Abort + AllocGlobal),
+    pattern: &str,
+    depth: usize,
+    status: u8,
+) -> Result<(), Fail> {
+    let run = run_on_input(rt.alloc(), &[pattern, "x"], b"a")?;
+    check_nesting(rt, &run, depth, status);
+    Ok(())
+}
+
+/// The same, with the pattern made.
+fn check_depth(rt: &(impl Abort + AllocGlobal), depth: usize, status: u8) -> Result<(), Fail> {
+    let pattern = nested(rt.alloc(), depth)?;
+    check_pattern(rt, pattern.as_str(), depth, status)
 }
 
 #[test]
 fn a_pattern_of_251_nested_groups_is_refused(rt: HostRuntime) -> Result<(), Fail> {
-    let alloc = rt.alloc();
-    for (depth, status) in [(250, 0), (251, 1)] {
-        let mut pattern = String::new(alloc);
-        for _ in 0..depth {
-            pattern.push('(')?;
-        }
-        pattern.push('a')?;
-        for _ in 0..depth {
-            pattern.push(')')?;
-        }
-        let run = run_on_input(alloc, &[pattern.as_str(), "x"], b"a")?;
-        assert_eq!(rt; run.outcome.status, status, "{depth}");
-        let nests = run.err.bytes() == b"error: invalid regex regex nests too deep\n".as_slice();
-        assert_eq!(rt; nests, status == 1, "{depth}");
-    }
-    Ok(())
+    check_depth(&rt, 250, 0)?;
+    check_depth(&rt, 251, 1)
 }
 
-const BAD_GLOBS: [&str; 7] = [
+const BAD_GLOBS: &[&str] = &[
     "{a",
     "[!]",
     "[a",
@@ -202,66 +256,95 @@ const BAD_GLOBS: [&str; 7] = [
     "{{{{{{{{{{{}}}}}}}}}}}",
 ];
 
+/// A command with a glob is refused for it before the disk is called.
+fn check_bad_glob(rt: &(impl Abort + AllocGlobal), glob: &str) -> Result<(), Fail> {
+    let words = ["--root", "/none", "--", "one", "1", glob];
+    let err = b"error: invalid glob at place 0\n";
+    check_refused(rt, (&words, "BadGlob", err), 0)
+}
+
 #[test]
 fn invalid_globs_are_told(rt: HostRuntime) -> Result<(), Fail> {
     for glob in BAD_GLOBS {
-        let mut disk = two_files(rt.alloc())?;
-        let words = ["--root", "/none", "--", "one", "1", glob];
-        let run = run_words(rt.alloc(), &mut disk, &words, 1000)?;
-        check_run(
-            &rt,
-            &run,
-            &words,
-            (1, b"", b"error: invalid glob at place 0\n"),
-        );
-        assert_eq!(rt; disk.calls(), 0, "{glob}");
+        check_bad_glob(&rt, glob)?;
     }
     Ok(())
 }
 
-/// The error of a tree command whose call of that number fails.
-fn told_of_call(alloc: Global, call: u64) -> Result<String, Fail> {
-    let mut disk = two_files(alloc)?;
-    disk.fail_at(call)?;
-    let run = run_words(
-        alloc,
-        &mut disk,
-        &["--root", "/t", "--", "one", "1", "*"],
-        1000,
-    )?;
-    let name = run.outcome.cause;
-    Ok(format!(in alloc; "{name}, {}", str::from_utf8(run.err.bytes())?)?)
+const ALL: &[&str] = &["--root", "/t", "--", "one", "1", "*"];
+
+/// Whether a tree command on a disk ends as a walk does, with this error.
+fn ends_walk(alloc: Global, disk: &mut MemDisk, err: &[u8]) -> Result<bool, Fail> {
+    let run = run_words(alloc, disk, ALL, 1000)?;
+    Ok(run.outcome.cause == "Walk" && run.err.bytes() == err)
 }
+
+/// The same where the call of that number fails.
+fn ends_walk_at(alloc: Global, disk: &mut MemDisk, call: u64, err: &[u8]) -> Result<bool, Fail> {
+    disk.fail_at(call)?;
+    ends_walk(alloc, disk, err)
+}
+
+/// The same on `two_files`.
+fn is_told_of_call(alloc: Global, call: u64, err: &[u8]) -> Result<bool, Fail> {
+    let mut disk = two_files(alloc)?;
+    ends_walk_at(alloc, &mut disk, call, err)
+}
+
+/// Whether one of the first calls, where it fails, ends a tree command as a walk does, with this error.
+fn is_told(alloc: Global, err: &[u8]) -> Result<bool, Fail> {
+    let mut told = false;
+    for call in 1..=6 {
+        told = is_told_of_call(alloc, call, err)? || told;
+    }
+    Ok(told)
+}
+
+const OPENING: &[u8] = b"error: IO error for operation on /t: input or output failed\n";
+
+const LISTING: &[u8] = b"error: input or output failed\n";
 
 #[test]
 fn a_failing_listing_is_told_as_a_walk(rt: HostRuntime) -> Result<(), Fail> {
-    let alloc = rt.alloc();
-    let mut opening = false;
-    let mut listing = false;
-    for call in 1..=6 {
-        let told = told_of_call(alloc, call)?;
-        opening = opening
-            || told.as_str()
-                == "Walk, error: IO error for operation on /t: input or output failed\n";
-        listing = listing || told.as_str() == "Walk, error: input or output failed\n";
-    }
+    let opening = is_told(rt.alloc(), OPENING)?;
+    let listing = is_told(rt.alloc(), LISTING)?;
     assert!(rt; opening);
     assert!(rt; listing);
     Ok(())
 }
 
+/// An error is shown by this text.
+fn check_shown(rt: &(impl Abort + AllocGlobal), error: &Error, wanted: &str) -> Result<(), Fail> {
+    let text = format!(in rt.alloc(); "{error}")?;
+    assert_eq!(rt; text.as_str(), wanted);
+    Ok(())
+}
+
+/// An error is shown by this text where it is debugged.
+fn check_debugged(
+    rt: &(impl Abort + AllocGlobal),
+    error: &Error,
+    wanted: &str,
+) -> Result<(), Fail> {
+    let shown = format!(in rt.alloc(); "{error:?}")?;
+    assert_eq!(rt; shown.as_str(), wanted);
+    Ok(())
+}
+
+/// An error is shown by this text, debugged or not.
+fn check_texts(rt: &(impl Abort + AllocGlobal), error: &Error, wanted: &str) -> Result<(), Fail> {
+    check_shown(rt, error, wanted)?;
+    check_debugged(rt, error, wanted)
+}
+
+/// The same of an error that is let go here.
+fn check_error(rt: &(impl Abort + AllocGlobal), error: Error, wanted: &str) -> Result<(), Fail> {
+    check_texts(rt, &error, wanted)
+}
+
 #[test]
 fn errors_that_need_much_input_or_no_memory_have_texts(rt: HostRuntime) -> Result<(), Fail> {
-    let alloc = rt.alloc();
-    for (error, wanted) in [
-        (Error::TooMany, "too many entries"),
-        (Error::InputTooLong, "input too long"),
-        (Error::NoMemory, "out of memory"),
-    ] {
-        let text = format!(in alloc; "{error}")?;
-        assert_eq!(rt; text.as_str(), wanted);
-        let shown = format!(in alloc; "{error:?}")?;
-        assert_eq!(rt; shown.as_str(), wanted);
-    }
-    Ok(())
+    check_error(&rt, Error::TooMany, "too many entries")?;
+    check_error(&rt, Error::InputTooLong, "input too long")?;
+    check_error(&rt, Error::NoMemory, "out of memory")
 }

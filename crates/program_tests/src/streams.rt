@@ -2,6 +2,7 @@
 
 use crate::running::{check_run, listed, run_on_input, run_to_end};
 use sd_edge::{MemDisk, MemSink, MemSource};
+use std::alloc::Global;
 use std::process::Abort;
 use std::test::Fail;
 
@@ -16,7 +17,7 @@ fn check_input(rt: &(impl Abort + AllocGlobal), row: Row) -> Result<(), Fail> {
     Ok(())
 }
 
-const ROWS: [Row; 12] = [
+const ROWS: &[Row] = &[
     (
         &["-n", "1", "--", "one", "1"],
         b"one two one\n",
@@ -42,13 +43,13 @@ const ROWS: [Row; 12] = [
 #[test]
 fn input_is_replaced(rt: HostRuntime) -> Result<(), Fail> {
     for row in ROWS {
-        check_input(&rt, row)?;
+        check_input(&rt, *row)?;
     }
     Ok(())
 }
 
 /// Each option that changes what is written, in both spellings.
-const OPTIONS: [Row; 18] = [
+const OPTIONS: &[Row] = &[
     (&["a.", "x"], b"a.ab", b"xx"),
     (&["-F", "a.", "x"], b"a.ab", b"xab"),
     (&["--fixed-strings", "a.", "x"], b"a.ab", b"xab"),
@@ -72,13 +73,13 @@ const OPTIONS: [Row; 18] = [
 #[test]
 fn options_have_two_spellings(rt: HostRuntime) -> Result<(), Fail> {
     for row in OPTIONS {
-        check_input(&rt, row)?;
+        check_input(&rt, *row)?;
     }
     Ok(())
 }
 
 /// Commands in line mode.
-const LINES: [Row; 4] = [
+const LINES: &[Row] = &[
     (
         &["-l", "-n", "1", "--", "one", "1"],
         b"one one\none one\n",
@@ -100,7 +101,7 @@ const LINES: [Row; 4] = [
 #[test]
 fn lines_are_searched_by_themselves(rt: HostRuntime) -> Result<(), Fail> {
     for row in LINES {
-        check_input(&rt, row)?;
+        check_input(&rt, *row)?;
     }
     Ok(())
 }
@@ -114,21 +115,52 @@ fn a_line_feed_is_refused_in_line_mode(rt: HostRuntime) -> Result<(), Fail> {
     Ok(())
 }
 
-#[test]
-fn a_pattern_of_stars_answers_at_once(rt: HostRuntime) -> Result<(), Fail> {
-    let alloc = rt.alloc();
-    let list = listed(alloc, &["--", "(?:x*)*y", "z"])?;
+/// Two hundred thousand times `x`.
+fn many_x(alloc: Global) -> Result<Vec<u8>, Fail> {
     let mut bytes = Vec::new(alloc);
     for _ in 0..200_000 {
         bytes.push(b'x')?;
     }
-    let mut disk = MemDisk::new(alloc);
-    let mut input = MemSource::new(alloc, &bytes, 4096)?;
-    let mut out = MemSink::new(alloc, 200_000)?;
+    Ok(bytes)
+}
+
+/// The status with which a pattern of stars is replaced in an input.
+fn status_of(
+    alloc: Global,
+    disk: &mut MemDisk,
+    out: &mut MemSink,
+    bytes: &[u8],
+) -> Result<u8, Fail> {
+    let list = listed(alloc, &["--", "(?:x*)*y", "z"])?;
+    let mut input = MemSource::new(alloc, bytes, 4096)?;
     let mut err = MemSink::new(alloc, 0)?;
-    let ended = run_to_end(alloc, &list, &mut disk, &mut input, &mut out, &mut err);
-    assert_eq!(rt; ended.status, 0);
-    assert!(rt; out.bytes() == bytes.as_slice());
+    let ended = run_to_end(alloc, &list, disk, &mut input, out, &mut err);
+    Ok(ended.status)
+}
+
+/// The input is written as it is, without a call of the disk.
+fn check_unchanged_to(
+    rt: &(impl Abort + AllocGlobal),
+    disk: &mut MemDisk,
+    out: &mut MemSink,
+    bytes: &[u8],
+) -> Result<(), Fail> {
+    let status = status_of(rt.alloc(), disk, out, bytes)?;
+    assert_eq!(rt; status, 0);
+    assert!(rt; out.bytes() == bytes);
     assert_eq!(rt; disk.calls(), 0);
     Ok(())
+}
+
+/// The same, with the disk and the sink made.
+fn check_unchanged(rt: &(impl Abort + AllocGlobal), bytes: &[u8]) -> Result<(), Fail> {
+    let mut out = MemSink::new(rt.alloc(), 200_000)?;
+    let mut disk = MemDisk::new(rt.alloc());
+    check_unchanged_to(rt, &mut disk, &mut out, bytes)
+}
+
+#[test]
+fn a_pattern_of_stars_answers_at_once(rt: HostRuntime) -> Result<(), Fail> {
+    let bytes = many_x(rt.alloc())?;
+    check_unchanged(&rt, &bytes)
 }
