@@ -4,6 +4,9 @@ pub use Rattle.hir_tree.proofs.core_laws.CoreSpotsLemmas
 pub use Rattle.hir_tree.proofs.core_laws.CoresLemmas
 pub mod ListLemmas
 pub use Rattle.hir_tree.proofs.runs_laws.NumbersLemmas
+pub use Rattle.hir_tree.proofs.onward.AheadLemmas
+pub use Rattle.hir_tree.proofs.onward.FollowsLemmas
+pub use Rattle.hir_tree.proofs.onward.OnwardLemmas
 pub mod RunsComputing
 pub use Rattle.hir_tree.proofs.runs_laws.RunsLemmas
 pub use Rattle.hir_tree.proofs.plain_text.PlainTextLemmas

@@ -12,3 +12,7 @@ start_of groups = option_map (λ ends. ends.0) (ends_of groups 0)
 -- each group that is set ends where it begins or later, within a text of n bytes
 abbrev pub EachLiesWithin : ℕ → List (Option (ℕ × ℕ)) → Type 0
 EachLiesWithin n groups = (index : ℕ) (ends : ℕ × ℕ) → ends_of groups index ≡ Some ends → (ends.0 ≤ ends.1) × (ends.1 ≤ n)
+
+-- each group that is set begins at a place or after it
+abbrev pub EachLiesFrom : ℕ → List (Option (ℕ × ℕ)) → Type 0
+EachLiesFrom at groups = (index : ℕ) (ends : ℕ × ℕ) → ends_of groups index ≡ Some ends → at ≤ ends.0

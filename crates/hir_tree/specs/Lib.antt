@@ -5,6 +5,7 @@ pub mod Groups
 pub mod Hirs
 pub mod Laws
 pub mod Looks
+pub mod Onward
 pub mod PlainText
 pub mod Ranges
 pub mod Runs

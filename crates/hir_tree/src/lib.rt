@@ -17,6 +17,7 @@ mod hir;
 mod laws;
 mod lists;
 mod look;
+mod onward;
 mod plain_text;
 mod range_laws;
 mod ranges;
@@ -40,6 +41,10 @@ pub use hir::{Group, Hir, Hirs, Repeat};
 pub use laws::{a_set_takes_the_member_that_begins_at_a_place, characters_stand_beside_a_place};
 pub use lists::Bytes;
 pub use look::{Look, holds};
+pub use onward::{
+    a_pattern_without_looks_matches_by_what_follows, groups_lie_ahead, looks_nowhere,
+    patterns_look_nowhere_as_in_the_examples,
+};
 pub use plain_text::one_text_matches_where_it_stands;
 pub use range_laws::{a_set_has_one_list_of_ranges, a_set_has_what_its_ranges_hold};
 pub use runs_examples::{
