@@ -8,6 +8,7 @@ use Rattle.hir_tree.specs.Runs.{begin, in_set}
 use Rattle.hir_tree.specs.declared.look.Look.{Look}
 use Rattle.hir_core.specs.Program.{Way, way, spot_at, gives_within, gives}
 use Rattle.hir_core.specs.declared.scan.bits.Moves.{Moves}
+use Rattle.hir_core.specs.declared.scan.shifts.Shift.{Shift}
 use Rattle.hir_core.specs.declared.spot.Spot.{Spot}
 use Rattle.hir_core.specs.declared.spot.Spot.TheVariants as spot
 
@@ -165,3 +166,20 @@ pub record IsMoved (mask on stay i : ℕ) : Type 0 where
 abbrev pub AreMoved : List ℕ → ℕ → Moves → Type 0
 AreMoved rows count m =
     (i : ℕ) → i < count → (HasBit m.odd i → ⊥) → IsMoved (slice_index rows (256 * (i / 8) + 2 ^ (i % 8))) m.on m.stay i
+
+-- What a byte does that the spots of `takes` take, where the spots move on as `m` says: those that begin are tried at each byte, and those of
+-- `wide` may take a character that begins with a byte beyond ASCII.
+pub record IsShift (byte takes : ℕ) (m : Moves) (start wide : ℕ) (k : Shift) : Type 0 where
+  pub on : (i : ℕ) → i < 62 → HasBit takes i → HasBit m.on (i + 1) → HasBit k.on (i + 1)
+  pub stay : (i : ℕ) → HasBit takes i → HasBit m.stay i → HasBit k.stay i
+  pub begun : (i mask : ℕ) → i < 62 → HasBit start i → HasBit takes i → IsMoved mask m.on m.stay i → IsPart mask k.begun
+  pub kept : IsPart k.begun k.stay
+  pub odd : (i : ℕ) → HasBit takes i → HasBit m.odd i → HasBit k.odd i
+  pub beyond : 128 ≤ byte → IsPart wide k.odd
+  pub few_on : k.on < 2 ^ 62
+  pub few_stay : k.stay < 2 ^ 62
+
+-- each of these says what its byte does
+abbrev pub AreShifts : List ℕ → Moves → ℕ → ℕ → List Shift → Type 0
+AreShifts takes m start wide shifts =
+    (b : ℕ) (k : Shift) → b < length shifts → k ≡ slice_index_or shifts b k → IsShift b (slice_index takes b) m start wide k

@@ -1,16 +1,20 @@
 //! A filter that finds quickly where a match of a program may be.
 
-ghost use Rattle.std.specs.Prelude.{◌≡◌, ◌<◌, ◌≤◌, ◌^◌, ◌+◌, ◌⊎◌, ℕ, false, List, length, vec_len, slice_index, bit_and, IfOk, IfSome, IfNone};
+ghost use Rattle.std.specs.Prelude.{◌≡◌, ◌<◌, ◌≤◌, ◌+◌, ◌⊎◌, ℕ, false, List, length, vec_len, slice_index, bit_and, IfOk, IfSome, IfNone};
+ghost use Rattle.hir_core.specs.Masks.{AreShifts, HasBit-prop};
+ghost use Rattle.std.proofs.Props.{props};
 
 mod asked;
 mod bits;
 mod reach;
+mod shifts;
 mod takes;
 
 use crate::spot::Spot;
 use crate::{Look, holds};
 use bits::{Moves, SURE, joined, moves_in};
 use sd_base::NoMemory;
+use shifts::Shift;
 use std::alloc::Global;
 
 /// A filter: which places of a text may have a match. One bit for each spot that takes bytes.
@@ -25,6 +29,8 @@ pub struct Scan {
     after: Vec<u64>,
     /// How the spots move on by a byte, where the rows needn't be asked.
     moves: Moves,
+    /// What each byte does to the spots that may be tried, where they so move.
+    shifts: Vec<Shift>,
     /// The same as the rows have for each spot of the program, if it has few.
     firsts: Vec<u64>,
     /// The same for the start of the program.
@@ -39,8 +45,8 @@ pub struct Scan {
     strides: bool,
     ghost all_bytes: { vec_len takes ≡ 256 },
     ghost all_rows: { vec_len after ≡ 2048 },
-    ghost few_on: { moves.on < 2 ^ 62 },
-    ghost few_stay: { moves.stay < 2 ^ 62 },
+    ghost all_shifts: { vec_len shifts ≡ 256 },
+    ghost shift: { AreShifts takes.items moves start wide shifts.items } by { Prim.hlevel (props, HasBit-prop) },
 }
 
 /// How far the filter has looked.
@@ -85,6 +91,7 @@ impl Scan {
         let start = reach::mask_from(alloc, spots, of.as_slice(), 0, last_look)?;
         let moves = moves_in(after.as_slice(), of.len());
         let wide = takes::wide(spots, of.as_slice());
+        let shifts = shifts::shifts(alloc, takes.as_slice(), moves, start, wide)?;
         let strides = first_look.is_some() || takes::is_rare(takes.as_slice(), start);
         Ok(Some(Scan {
             of,
@@ -96,6 +103,7 @@ impl Scan {
             wide,
             first_look,
             last_look,
+            shifts,
             strides,
         }))
     }
@@ -236,19 +244,14 @@ impl Scan {
             return sight;
         }
         while sight.place < text.len() {
-            let tried = sight.state | self.start;
-            let byte = text[sight.place];
-            if byte >= 128 && tried & self.wide != 0 {
-                return sight;
-            }
-            let live = tried & self.takes[byte as usize];
-            if live & self.moves.odd != 0 {
+            let shift = self.shifts[text[sight.place] as usize];
+            if (sight.state | self.start) & shift.odd != 0 {
                 return sight;
             }
             let next = Sight {
                 from: sight.from,
                 place: sight.place + 1,
-                state: self.moves.shifted(live),
+                state: shift.after(sight.state),
             };
             sight = self.rested(text, next);
         }

@@ -11,7 +11,7 @@ use Rattle.hir_core.specs.Scan.{IsFilterOf, Looked, NoEnd, NoneBegins}
 use Rattle.hir_core.specs.declared.spot.Spot.{Spot}
 use Rattle.hir_core.specs.declared.scan.Scan.{Scan}
 use Rattle.hir_core.specs.declared.scan.Sight.{Sight}
-use Rattle.hir_core.proofs.scan.bits.MaskLemmas.{HasBit-none, HasBit-above, HasBit-apart, HasBit-and, HasBit-eight}
+use Rattle.hir_core.proofs.scan.bits.MaskLemmas.{HasBit-none, HasBit-above, HasBit-and, HasBit-eight}
 use Rattle.hir_core.proofs.scan.reach.DeadLemmas.{AreDead-none, Covers-part, IsDead-taker, spot_size-within, one_byte, NoRun-dead}
 
 -- the mask covers what comes after each spot that is live
@@ -34,13 +34,13 @@ CoversAfter-rows s live mask parts spots filter i lt has =
     (filter.follows i (live / 2 ^ (8 * (i / 8)) % 256) lt (omega arith) (HasBit-eight live i has))
 
 -- and what is moved on to, where no spot is odd
-pub CoversAfter-shift : (s : Scan) (live mask : ℕ) → bit_and live s.moves.odd ≡ 0
+pub CoversAfter-shift : (s : Scan) (live mask : ℕ) → ((i : ℕ) → HasBit live i → HasBit s.moves.odd i → ⊥)
     → ((i m : ℕ) → i < 62 → HasBit live i → IsMoved m s.moves.on s.moves.stay i → IsPart m mask) → CoversAfter s live mask
 CoversAfter-shift s live mask even parts spots filter i lt has =
     let small : 2 ^ (i % 8) < 2 ^ 8 = pow_below (i % 8) 8 (omega arith) in
     let row : ℕ = slice_index s.after.items (256 * (i / 8) + 2 ^ (i % 8)) in
     Covers-part spots s.of.items s.last_look row mask (next_of (spot_at spots (slice_index s.of.items i)))
-    (parts i row (omega (arith, filter.few)) has (filter.moves i lt (λ odd. HasBit-apart live s.moves.odd i even has odd)))
+    (parts i row (omega (arith, filter.few)) has (filter.moves i lt (even i has)))
     (filter.follows i (2 ^ (i % 8)) lt (omega arith) (HasBit-pow (i % 8)))
 
 -- What the filter does at a byte: the spots that are tried are those of the state, and those of the start unless no run begins there,

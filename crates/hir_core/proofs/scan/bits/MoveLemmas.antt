@@ -26,6 +26,14 @@ HasBit-and_right a b i h = lesser (bit_at a i) (bit_at b i) (bit_at-lt b i) (sym
     lesser : (x y : ℕ) → y < 2 → min x y ≡ 1 → y ≡ 1
     lesser x y l e = omega arith
 
+-- and of the first
+pub HasBit-and_left : (a b i : ℕ) → HasBit (bit_and a b) i → HasBit a i
+unfolding HasBit
+HasBit-and_left a b i h = lesser (bit_at a i) (bit_at b i) (bit_at-lt a i) (sym (bit_at_and a b i) ∙ h)
+  where
+    lesser : (x y : ℕ) → x < 2 → min x y ≡ 1 → x ≡ 1
+    lesser x y l e = omega arith
+
 -- a power that is small enough
 whole_power : (k : ℕ) → k < 64 → 1 * 2 ^ k % 2 ^ 64 ≡ 2 ^ k
 whole_power k low = let small : 2 ^ k < 2 ^ 64 = pow_below k 64 low in omega arith
@@ -47,7 +55,7 @@ HasBit-only k i low h = elim (cases_eq i k) [
 ]
 
 -- a bit that was shifted
-HasBit-shifted : (live i : ℕ) → i < 62 → HasBit live i → HasBit (live * 2 ^ 1 % 2 ^ 64) (i + 1)
+pub HasBit-shifted : (live i : ℕ) → i < 62 → HasBit live i → HasBit (live * 2 ^ 1 % 2 ^ 64) (i + 1)
 unfolding HasBit
 HasBit-shifted live i small h =
     let low : i + 1 < 64 = omega arith in
