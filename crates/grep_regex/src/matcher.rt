@@ -1,10 +1,10 @@
 //! Matchers of a pattern.
 
-ghost use Rattle.std.specs.Prelude.{◌≡◌, ◌<◌, ◌↔◌, ◌+◌, ℕ, length, option_map, true, IfOk, IfSome, IsSomeAnd, IsTrue};
+ghost use Rattle.std.specs.Prelude.{◌≡◌, ◌<◌, ◌↔◌, ◌+◌, ℕ, length, true, IfOk, IfSome, IsSomeAnd, IsTrue};
 ghost use Rattle.std.proofs.Props.{props};
 ghost use Rattle.grep_matcher.specs.ByteSets.{is_in};
 ghost use Rattle.grep_matcher.specs.NoMatch.{IsInNoMatch};
-ghost use Rattle.hir_tree.specs.PlainText.{text_of};
+ghost use Rattle.hir_tree.specs.Onward.{looks_nowhere};
 ghost use Rattle.hir_tree.specs.Spots.{groups_of};
 ghost use Rattle.hir_tree.specs.Tree.{tree_of};
 ghost use Rattle.grep_regex.specs.Matching.{EndsNoMatch, MatchesAreWhole, end_at, spans_at};
@@ -90,12 +90,11 @@ impl RegexMatcher {
         })
     }
 
-    /// The text that the pattern is: then it matches that text alone, wherever it stands. `None` where it isn't one, but has a
-    /// set, a look, a group, a repetition or a choice.
-    pub fn text(&self) -> Option<&[u8]>
-        ensures { option_map (λ text. text.now) result ≡ text_of self.now.searcher }
+    /// Whether no part of the pattern is a look: then what it matches from a place on rests on the bytes from there on alone.
+    pub fn looks_nowhere(&self) -> bool
+        ensures { result ≡ looks_nowhere (tree_of self.now.searcher) }
     {
-        self.pattern.searcher.text()
+        hir_tree::looks_nowhere(self.pattern.searcher.hir())
     }
 
     /// The slots of an earlier search, or else new ones.

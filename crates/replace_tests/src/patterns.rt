@@ -96,6 +96,44 @@ fn texts_give_way_to_texts_of_each_length(rt: HostRuntime) -> Result<(), Fail> {
     Ok(())
 }
 
+/// A pattern, a replacement text, what becomes of a text, and how many matches are replaced: new bytes that fit in the room of the
+/// old ones, that fit at first, that are as many, that are the same, and that would be others if a look saw them.
+const ROOMS: &[(&str, &str, &str, &str, u128)] = &[
+    (r"(\w)(\w)", "$2$1", "abcde", "badce", 2),
+    (r"-+(\w)", "$1", "--a--b-c--", "abc--", 3),
+    (
+        r"(\w+) (\w+)",
+        "$2 $1!",
+        "one two. three four. ",
+        "two one!. four three!. ",
+        2,
+    ),
+    ("(b)|a", "$1", "aabaab", "bb", 6),
+    ("[\u{e9}\u{e8}]", "e", "\u{e9}a\u{e8}b", "eaeb", 2),
+    ("(a)b|(b)", "$1$2$2", "ab.b.b.b", "a.bb.bb.bb", 4),
+    ("a(c)|(a)", "$1$2$2", "a.ac.ac.a", "aa.c.c.aa", 4),
+    ("a(b)?", "<$1>", "aabcca", "<><b>cc<>", 3),
+    (r"(\w)", "$1$1", "a.b", "aa.bb", 2),
+    ("(a)b|(b)", "$1$2$2", "abb", "abb", 2),
+    ("a(c)|(a)", "$1$2$2", "aac", "aac", 2),
+    ("(b+)", "$0", "abba", "abba", 1),
+    ("x*", "", "ab", "ab", 3),
+    ("x*", "", "axxb", "ab", 3),
+    ("(y)|x*", "$1", "xyx", "y", 3),
+    ("(q)", "$1$1", "two", "two", 0),
+    (r"\ba", ".", "aaa", ".aa", 1),
+    ("(?m)^a", r"\n", "aaa", "\naa", 1),
+];
+
+#[test]
+fn matches_give_way_in_their_room_or_beside(rt: HostRuntime) -> Result<(), Fail> {
+    for (find, with, old, new, count) in ROOMS {
+        let case = pattern(find, with);
+        check(&rt, &case, old.as_bytes(), new.as_bytes(), *count)?;
+    }
+    Ok(())
+}
+
 #[test]
 fn literal_texts_mean_themselves(rt: HostRuntime) -> Result<(), Fail> {
     for (find, with, old, new, count) in LITERALS {

@@ -1,1 +1,3 @@
 pub mod InPlaceLemmas
+pub mod OnwardLemmas
+pub mod RewriteLemmas

@@ -35,11 +35,11 @@ impl Replacer {
         ensures changed { IfOk result (Tells (Changes (replacement_of self.now)) content.now) }
         ensures few { IfOk result (AreFew content.now) }
     {
-        let mut search = Search::new(&self.matcher, content);
-        let Some(first) = search.next()? else {
+        let mut search = Search::new(&self.matcher);
+        let Some(first) = search.next(content)? else {
             return Ok(None);
         };
-        self.ask_for_groups(&mut search, first)?;
+        self.ask_for_groups(&mut search, content, first)?;
         let changed = self.replace_from(content, &mut search, first)?;
         Ok(Some(changed))
     }
@@ -80,19 +80,23 @@ impl Replacer {
     }
 
     /// Asks a search for groups, if there are references to them.
-    fn ask_for_groups(&self, search: &mut Search<'_>, found: Match) -> Result<(), NoMemory>
-        requires found { end_at (tree_of search.old.matcher.now.searcher) search.old.content.now found.start ≡ Some found.end }
-        requires within { found.end ≤ length search.old.content.now }
-        requires groups { AreOfMatch (tree_of search.old.matcher.now.searcher) search.old.content.now found.start search.old.groups }
-        ensures groups { OnOk result (AreOfMatch (tree_of search.old.matcher.now.searcher) search.old.content.now found.start search.new.groups) }
+    pub(crate) fn ask_for_groups(
+        &self,
+        search: &mut Search<'_>,
+        content: &[u8],
+        found: Match,
+    ) -> Result<(), NoMemory>
+        requires found { end_at (tree_of search.old.matcher.now.searcher) content.now found.start ≡ Some found.end }
+        requires within { found.end ≤ length content.now }
+        requires groups { AreOfMatch (tree_of search.old.matcher.now.searcher) content.now found.start search.old.groups }
+        ensures groups { OnOk result (AreOfMatch (tree_of search.old.matcher.now.searcher) content.now found.start search.new.groups) }
         ensures asked { OnOk result (SufficeFor self.now.template.pieces.items search.new.groups) }
         ensures pattern { search.new.matcher.now ≡ search.old.matcher.now }
-        ensures content { search.new.content.now ≡ search.old.content.now }
         ensures from { search.new.from ≡ search.old.from }
         ensures last { search.new.last ≡ search.old.last }
     {
         if self.template.has_references() {
-            search.ask_for_groups(found)?;
+            search.ask_for_groups(content, found)?;
         }
         Ok(())
     }
@@ -105,7 +109,6 @@ impl Replacer {
         first: Match,
     ) -> Result<Changed, NoMemory>
         requires pattern { search.old.matcher.now ≡ self.now.matcher }
-        requires content { search.old.content.now ≡ content.now }
         requires first { IsFirst (accepts None (end_at (tree_of self.now.matcher.searcher) content.now)) 0 (length content.now) (Some first) }
         requires after { IsAfter first search.old.from }
         requires last { search.old.last ≡ Some first.end }
@@ -122,7 +125,7 @@ impl Replacer {
             if quota.is_spent() {
                 return made.finish(content);
             }
-            match search.next()? {
+            match search.next(content)? {
                 None => return made.finish(content),
                 Some(next) => found = next,
             }
@@ -234,11 +237,12 @@ impl Replaces for Replacer {
         Replacer::change(self, content)
     }
 
-    // Where a text gives way to one that is no longer, no second room is taken.
+    // A pattern that looks behind would see new bytes in the place of old ones.
     fn rewrite(&self, content: Vec<u8>) -> Result<Rewritten, NoMemory> {
-        match self.text_in_place() {
-            Some(text) => self.rewrite_in_place(content, text),
-            None => self.rewrite_beside(content),
+        if self.limit == 0 && self.matcher.looks_nowhere() {
+            self.rewrite_in_place(content)
+        } else {
+            self.rewrite_beside(content)
         }
     }
 }

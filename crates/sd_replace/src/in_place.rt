@@ -1,70 +1,126 @@
 //! Changes in the room of the old bytes.
 
-ghost use Rattle.std.specs.Prelude.{◌≡◌, ◌<◌, ◌≤◌, ◌+◌, ◌-◌, ◌^◌, ◌++◌, IfOk, IfSome, length, drop, slice_range};
+ghost use Rattle.std.specs.Prelude.{◌≡◌, ◌≢◌, ◌<◌, ◌≤◌, ◌+◌, ◌-◌, ◌^◌, ◌++◌, [], ℕ, List, None, Some, true, false, IfOk, OnOk, length, drop, slice_range, take};
+ghost use Rattle.grep_matcher.specs.Cover.{IsAfter, IsFirst, accepts};
+ghost use Rattle.grep_matcher.specs.References.{LieIn, group_text};
+ghost use Rattle.grep_regex.specs.Matching.{end_at};
+ghost use Rattle.hir_tree.specs.Onward.{looks_nowhere};
+ghost use Rattle.hir_tree.specs.Tree.{tree_of};
 ghost use Rattle.sd_change.specs.Change.{AreFewIn, TellsRewritten};
-ghost use Rattle.sd_replace.specs.InPlace.{Ends, TakesPlace, made_of, put_over};
+ghost use Rattle.sd_replace.specs.InPlace.{Became, HasPut, IsRoomOf, TellsOf, made_of, put_over};
 ghost use Rattle.sd_replace.specs.Replacement.{Changes};
 ghost use Rattle.sd_replace.specs.Replacer.{replacement_of};
+ghost use Rattle.sd_replace.specs.Searching.{AreOfMatch, groups_or_none};
+ghost use Rattle.sd_replace.specs.Templates.{SufficeFor, pieces_text};
 
 use crate::Replacer;
-use grep_matcher::{Match, Matcher};
+use crate::searching::Search;
+use grep_matcher::Match;
+use grep_regex::RegexCaptures;
 use sd_base::NoMemory;
 use sd_change::{Changed, Rewritten};
+use std::alloc::Global;
 
 impl Replacer {
-    /// The text that takes the place of each match, where the old bytes have room for it: the pattern is one text, and this is
-    /// another that is no longer. `None` elsewhere.
-    pub(crate) fn text_in_place(&self) -> Option<&[u8]>
-        ensures { IfSome result (λ text. TakesPlace self.now text.now) }
-    {
-        let (Some(pattern), Some(text)) = (self.matcher.text(), self.template.text()) else {
-            return None;
-        };
-        let has_room = !pattern.is_empty() && text.len() <= pattern.len();
-        if has_room && text != pattern && self.limit == 0 {
-            Some(text)
-        } else {
-            None
-        }
-    }
-
-    /// Puts a text in the place of each match, in the room of the old bytes. Refuses for want of memory alone.
-    pub(crate) fn rewrite_in_place(
-        &self,
-        content: Vec<u8>,
-        text: &[u8],
-    ) -> Result<Rewritten, NoMemory>
-        requires { TakesPlace self.now text.now }
+    /// Changes bytes in their own room, for as long as that is not wanting. Refuses for want of memory alone.
+    pub(crate) fn rewrite_in_place(&self, content: Vec<u8>) -> Result<Rewritten, NoMemory>
+        requires limit { self.now.limit ≡ 0 }
+        requires onward { looks_nowhere (tree_of self.now.matcher.searcher) ≡ true }
         ensures rewritten { IfOk result (TellsRewritten (Changes (replacement_of self.now)) content.items) }
         ensures few { IfOk result (AreFewIn content.items) }
     {
-        hir_tree::one_text_matches_where_it_stands();
+        let bytes = content.as_slice();
+        let mut search = Search::new(&self.matcher);
+        let Some(first) = search.next(bytes)? else {
+            return Ok(Rewritten::Same(0));
+        };
+        self.ask_for_groups(&mut search, bytes, first)?;
+        self.rewrite_from(content, &mut search, first)
+    }
+
+    /// Puts a text in the place of each match, from match to match. The search found the first one last.
+    fn rewrite_from(
+        &self,
+        content: Vec<u8>,
+        search: &mut Search<'_>,
+        first: Match,
+    ) -> Result<Rewritten, NoMemory>
+        requires limit { self.now.limit ≡ 0 }
+        requires onward { looks_nowhere (tree_of self.now.matcher.searcher) ≡ true }
+        requires pattern { search.old.matcher.now ≡ self.now.matcher }
+        requires first { IsFirst (accepts None (end_at (tree_of self.now.matcher.searcher) content.items)) 0 (length content.items) (Some first) }
+        requires after { IsAfter first search.old.from }
+        requires last { search.old.last ≡ Some first.end }
+        requires groups { AreOfMatch (tree_of self.now.matcher.searcher) content.items first.start search.old.groups }
+        requires asked { SufficeFor self.now.template.pieces.items search.old.groups }
+        ensures rewritten { IfOk result (TellsRewritten (Changes (replacement_of self.now)) content.items) }
+        ensures few { IfOk result (AreFewIn content.items) }
+    {
+        hir_tree::a_pattern_without_looks_matches_by_what_follows();
+        hir_tree::groups_lie_ahead();
         let mut room = Room::new(content);
+        let mut text = Vec::new(self.alloc);
+        let mut found = first;
         'matches: loop {
-            match self.matcher.find_at(&room.bytes, room.read)? {
-                None => return Ok(room.finish()),
-                Some(found) => room.put(found, text),
+            self.put_one(&search.groups, found, &mut room, &mut text)?;
+            match search.next(&room.bytes)? {
+                None => return room.finish(),
+                Some(next) => found = next,
             }
         }
     }
+
+    /// Puts the text of a match in its place. One that is made of groups is made in `made`, whose memory serves for the next one.
+    fn put_one(
+        &self,
+        groups: &Option<RegexCaptures>,
+        found: Match,
+        room: &mut Room,
+        made: &mut Vec<u8>,
+    ) -> Result<(), NoMemory>
+        requires order { room.old.written ≤ room.old.read }
+        requires ahead { room.old.read ≤ found.start }
+        requires rises { found.start ≤ found.end }
+        requires within { found.end ≤ length room.old.bytes.items }
+        requires few { room.old.count + 1 < 2 ^ 128 }
+        requires lie { LieIn (groups_or_none groups.now) room.old.bytes.items }
+        ensures room { OnOk result ((bytes : List ℕ) → IsRoomOf bytes room.old → IsRoomOf bytes room.new) }
+        ensures made { OnOk result (made_of room.new ≡ (made_of room.old ++ slice_range room.old.bytes.items room.old.read found.start)
+            ++ pieces_text (group_text room.old.bytes.items (groups_or_none groups.now)) self.now.template.pieces.items) }
+        ensures order { OnOk result (room.new.written ≤ found.end) }
+        ensures read { OnOk result (room.new.read ≡ found.end) }
+        ensures count { OnOk result (room.new.count ≡ room.old.count + 1) }
+    {
+        if let Some(text) = self.template.text() {
+            return room.put(self.alloc, found, text);
+        }
+        made.clear();
+        self.template.append(&room.bytes, groups, made)?;
+        room.put(self.alloc, found, made)
+    }
 }
 
-/// Old bytes, of which those at the front have given way to new ones.
+/// Old bytes, of which those at the front give way to new ones, for as long as these fit.
 #[derive(Drop)]
 pub(crate) struct Room {
     bytes: Vec<u8>,
-    /// Up to where the new bytes stand.
+    /// Up to where new bytes are written.
     written: usize,
-    /// From where on the old ones stand.
+    /// From where on the old ones are still to come.
     read: usize,
     /// How many matches were replaced.
     count: u128,
+    /// Whether what is written differs from what stood there.
+    differs: bool,
+    /// All new bytes so far, once the room was wanting.
+    beside: Option<Vec<u8>>,
 }
 
 impl Room {
     /// Old bytes alone.
     fn new(bytes: Vec<u8>) -> Room
-        ensures bytes { result.bytes.items ≡ bytes.items }
+        ensures room { IsRoomOf bytes.items result }
+        ensures made { made_of result ≡ [] }
         ensures written { result.written ≡ 0 }
         ensures read { result.read ≡ 0 }
         ensures count { result.count ≡ 0 }
@@ -74,70 +130,182 @@ impl Room {
             written: 0,
             read: 0,
             count: 0,
+            differs: false,
+            beside: None,
         }
     }
 
+    /// Keeps the old bytes up to a match, and puts a text in its place. Refuses for want of memory alone.
+    fn put(&mut self, alloc: Global, found: Match, text: &[u8]) -> Result<(), NoMemory>
+        requires order { self.old.written ≤ self.old.read }
+        requires ahead { self.old.read ≤ found.start }
+        requires rises { found.start ≤ found.end }
+        requires within { found.end ≤ length self.old.bytes.items }
+        requires few { self.old.count + 1 < 2 ^ 128 }
+        ensures room { OnOk result ((bytes : List ℕ) → IsRoomOf bytes self.old → IsRoomOf bytes self.new) }
+        ensures made { OnOk result (made_of self.new ≡ (made_of self.old ++ slice_range self.old.bytes.items self.old.read found.start) ++ text.now) }
+        ensures order { OnOk result (self.new.written ≤ found.end) }
+        ensures read { OnOk result (self.new.read ≡ found.end) }
+        ensures count { OnOk result (self.new.count ≡ self.old.count + 1) }
+    {
+        self.keep_to(found.start())?;
+        self.add(alloc, found.end(), text)?;
+        self.read = found.end();
+        self.count += 1;
+        Ok(())
+    }
+
     /// Keeps the old bytes up to a place: they follow the new ones.
-    fn keep_to(&mut self, place: usize)
+    fn keep_to(&mut self, place: usize) -> Result<(), NoMemory>
         requires order { self.old.written ≤ self.old.read }
         requires ahead { self.old.read ≤ place }
         requires within { place ≤ length self.old.bytes.items }
-        ensures made { made_of self.new ≡ made_of self.old ++ slice_range self.old.bytes.items self.old.read place }
-        ensures left { drop place self.new.bytes.items ≡ drop place self.old.bytes.items }
-        ensures size { length self.new.bytes.items ≡ length self.old.bytes.items }
-        ensures written { self.new.written ≡ self.old.written + (place - self.old.read) }
+        ensures room { OnOk result ((bytes : List ℕ) → IsRoomOf bytes self.old → IsRoomOf bytes self.new) }
+        ensures made { OnOk result (made_of self.new ≡ made_of self.old ++ slice_range self.old.bytes.items self.old.read place) }
+        ensures size { OnOk result (length self.new.bytes.items ≡ length self.old.bytes.items) }
+        ensures order { OnOk result (self.new.written ≤ place) }
+        ensures read { OnOk result (self.new.read ≡ place) }
+        ensures count { OnOk result (self.new.count ≡ self.old.count) }
+    {
+        match &mut self.beside {
+            Some(made) => {
+                made.extend_from_slice(&self.bytes[self.read..place])?;
+                self.read = place;
+            }
+            None => self.move_to(place),
+        }
+        Ok(())
+    }
+
+    /// Writes the old bytes up to a place behind the new ones.
+    fn move_to(&mut self, place: usize)
+        requires order { self.old.written ≤ self.old.read }
+        requires ahead { self.old.read ≤ place }
+        requires within { place ≤ length self.old.bytes.items }
+        ensures put { HasPut self.old (slice_range self.old.bytes.items self.old.read place) self.new }
+        ensures order { self.new.written ≤ place }
         ensures read { self.new.read ≡ place }
         ensures count { self.new.count ≡ self.old.count }
+        ensures beside { self.new.beside ≡ self.old.beside }
     {
+        if self.written == self.read {
+            self.written = place;
+            self.read = place;
+            return;
+        }
+        self.differs = self.differs_by(&self.bytes[self.read..place]);
         move_down(&mut self.bytes, self.read, place, self.written);
         self.written += place - self.read;
         self.read = place;
     }
 
-    /// Keeps the old bytes up to a match, and puts a text in its place.
-    fn put(&mut self, found: Match, text: &[u8])
-        requires order { self.old.written ≤ self.old.read }
-        requires ahead { self.old.read ≤ found.start }
-        requires room { found.start + length text.now ≤ found.end }
-        requires within { found.end ≤ length self.old.bytes.items }
-        requires few { self.old.count + 1 < 2 ^ 128 }
-        ensures made { made_of self.new ≡ (made_of self.old ++ slice_range self.old.bytes.items self.old.read found.start) ++ text.now }
-        ensures left { drop found.end self.new.bytes.items ≡ drop found.end self.old.bytes.items }
-        ensures size { length self.new.bytes.items ≡ length self.old.bytes.items }
-        ensures written { self.new.written ≡ self.old.written + (found.start - self.old.read) + length text.now }
-        ensures read { self.new.read ≡ found.end }
-        ensures count { self.new.count ≡ self.old.count + 1 }
+    /// Adds a text to the new bytes: in the room up to a place, or beside the old ones where it doesn't fit.
+    fn add(&mut self, alloc: Global, end: usize, text: &[u8]) -> Result<(), NoMemory>
+        requires order { self.old.written ≤ end }
+        requires within { end ≤ length self.old.bytes.items }
+        ensures room { OnOk result ((bytes : List ℕ) → IsRoomOf bytes self.old → IsRoomOf bytes self.new) }
+        ensures made { OnOk result (made_of self.new ≡ made_of self.old ++ text.now) }
+        ensures order { OnOk result (self.new.written ≤ end) }
+        ensures count { OnOk result (self.new.count ≡ self.old.count) }
     {
-        self.keep_to(found.start());
+        if let Some(made) = &mut self.beside {
+            made.extend_from_slice(text)?;
+        } else if text.len() <= end - self.written {
+            self.write(text);
+        } else {
+            let made = self.made_beside(alloc, text)?;
+            self.beside = Some(made);
+        }
+        Ok(())
+    }
+
+    /// Writes a text behind the new bytes.
+    fn write(&mut self, text: &[u8])
+        requires { self.old.written + length text.now ≤ length self.old.bytes.items }
+        ensures put { HasPut self.old text.now self.new }
+        ensures count { self.new.count ≡ self.old.count }
+        ensures beside { self.new.beside ≡ self.old.beside }
+    {
+        self.differs = self.differs_by(text);
         write_at(&mut self.bytes, self.written, text);
         self.written += text.len();
-        self.read = found.end();
-        self.count += 1;
     }
 
-    /// How many bytes there are.
-    fn len(&self) -> usize
-        ensures { result ≡ length self.now.bytes.items }
+    /// Whether what is written differs from what stood there, once a piece more is written.
+    fn differs_by(&self, piece: &[u8]) -> bool
+        requires { self.now.written + length piece.now ≤ length self.now.bytes.items }
+        ensures { TellsOf self.now piece.now result }
     {
-        self.bytes.len()
+        self.differs || &self.bytes[self.written..self.written + piece.len()] != piece
     }
 
-    /// What the bytes have become, once the old ones that are left are kept.
-    fn finish(mut self) -> Rewritten
+    /// The new bytes in the room and a text, with memory for as many as there are old ones.
+    fn made_beside(&self, alloc: Global, text: &[u8]) -> Result<Vec<u8>, NoMemory>
+        requires { self.now.written ≤ length self.now.bytes.items }
+        ensures { IfOk result (λ made. made.items ≡ take self.now.written self.now.bytes.items ++ text.now) }
+    {
+        let mut made = Vec::with_capacity(alloc, self.bytes.len())?;
+        made.extend_from_slice(&self.bytes[..self.written])?;
+        made.extend_from_slice(text)?;
+        Ok(made)
+    }
+
+    /// What the bytes have become, once the old ones that are left are kept. Refuses for want of memory alone.
+    fn finish(mut self) -> Result<Rewritten, NoMemory>
         requires order { self.written ≤ self.read }
         requires within { self.read ≤ length self.bytes.items }
-        ensures { Ends self result }
+        ensures { (bytes : List ℕ) → IsRoomOf bytes self → IfOk result (Became bytes (made_of self ++ drop self.read self.bytes.items) self.count) }
     {
-        if self.count == 0 {
-            return Rewritten::Same(0);
+        let end = self.bytes.len();
+        self.keep_to(end)?;
+        Ok(self.told())
+    }
+
+    /// What the bytes have become, of which none is left.
+    fn told(self) -> Rewritten
+        requires { self.written ≤ length self.bytes.items }
+        ensures { (bytes : List ℕ) → IsRoomOf bytes self → Became bytes (made_of self) self.count result }
+    {
+        let count = self.count;
+        if !self.is_other() {
+            return Rewritten::Same(count);
         }
-        let end = self.len();
-        self.keep_to(end);
-        self.bytes.truncate(self.written);
-        Rewritten::Other(Changed {
-            new_bytes: self.bytes,
-            count: self.count,
-        })
+        let new_bytes = self.into_made();
+        Rewritten::Other(Changed { new_bytes, count })
+    }
+
+    /// Whether the new bytes are others than the old ones, of which none is left.
+    fn is_other(&self) -> bool
+        requires { self.now.written ≤ length self.now.bytes.items }
+        ensures same { (bytes : List ℕ) → IsRoomOf bytes self.now → result ≡ false → made_of self.now ≡ bytes }
+        ensures other { (bytes : List ℕ) → IsRoomOf bytes self.now → result ≡ true → made_of self.now ≢ bytes }
+    {
+        if self.differs {
+            return true;
+        }
+        match &self.beside {
+            Some(made) => *made != self.bytes,
+            None => self.written < self.bytes.len(),
+        }
+    }
+
+    /// The new bytes.
+    fn into_made(self) -> Vec<u8>
+        ensures { result.items ≡ made_of self }
+    {
+        let Room {
+            mut bytes,
+            written,
+            beside,
+            ..
+        } = self;
+        match beside {
+            Some(made) => made,
+            None => {
+                bytes.truncate(written);
+                bytes
+            }
+        }
     }
 }
 
@@ -148,9 +316,7 @@ fn move_down(bytes: &mut [u8], from: usize, to: usize, place: usize)
     requires within { to ≤ length bytes.old }
     ensures { bytes.new ≡ put_over bytes.old place (slice_range bytes.old from to) }
 {
-    if place < from {
-        bytes.copy_within(from..to, place);
-    }
+    bytes.copy_within(from..to, place);
 }
 
 /// Puts a text at a place.

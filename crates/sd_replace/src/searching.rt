@@ -17,7 +17,6 @@ use sd_base::NoMemory;
 #[derive(Drop)]
 pub(crate) struct Search<'a> {
     matcher: &'a RegexMatcher,
-    content: &'a [u8],
     /// The groups of the match that was found last, once they are asked for.
     pub(crate) groups: Option<RegexCaptures>,
     /// Where the search goes on.
@@ -29,16 +28,14 @@ pub(crate) struct Search<'a> {
 
 impl<'a> Search<'a> {
     /// A search from the start, which asks for no groups.
-    pub(crate) fn new(matcher: &'a RegexMatcher, content: &'a [u8]) -> Search<'a>
+    pub(crate) fn new(matcher: &'a RegexMatcher) -> Search<'a>
         ensures pattern { result.matcher.now ≡ matcher.now }
-        ensures content { result.content.now ≡ content.now }
         ensures start { result.from ≡ 0 }
         ensures none { result.last ≡ None }
         ensures groups { result.groups ≡ None }
     {
         Search {
             matcher,
-            content,
             groups: None,
             from: 0,
             last: None,
@@ -46,19 +43,17 @@ impl<'a> Search<'a> {
     }
 
     /// The next match, with its groups where they are asked for. Refuses for want of memory alone.
-    pub(crate) fn next(&mut self) -> Result<Option<Match>, NoMemory>
-        ensures found { IfOk result (IsFirst (accepts self.old.last (end_at (tree_of self.old.matcher.now.searcher) self.old.content.now))
-            self.old.from (length self.old.content.now)) }
-        ensures within { IfOk result (λ found. IfSome found (LiesWithin (length self.old.content.now))) }
+    pub(crate) fn next(&mut self, content: &[u8]) -> Result<Option<Match>, NoMemory>
+        ensures found { IfOk result (IsFirst (accepts self.old.last (end_at (tree_of self.old.matcher.now.searcher) content.now)) self.old.from (length content.now)) }
+        ensures within { IfOk result (λ found. IfSome found (LiesWithin (length content.now))) }
         ensures after { IfOk result (λ found. IfSome found (λ span. IsAfter span self.new.from)) }
         ensures last { IfOk result (λ found. IfSome found (λ span. self.new.last ≡ Some span.end)) }
         ensures groups { IfOk result (λ found. IfSome found (λ span.
-            AreOfMatch (tree_of self.old.matcher.now.searcher) self.old.content.now span.start self.new.groups)) }
+            AreOfMatch (tree_of self.old.matcher.now.searcher) content.now span.start self.new.groups)) }
         ensures asked { IsSome self.old.groups → IsSome self.new.groups }
         ensures pattern { self.new.matcher.now ≡ self.old.matcher.now }
-        ensures content { self.new.content.now ≡ self.old.content.now }
     {
-        let found = self.next_member()?;
+        let found = self.next_member(content)?;
         if let Some(span) = found {
             self.from = after(span);
             self.last = Some(span.end());
@@ -67,45 +62,37 @@ impl<'a> Search<'a> {
     }
 
     /// The first match from where the search goes on, but for an empty one at the end of the match before.
-    fn next_member(&mut self) -> Result<Option<Match>, NoMemory>
-        ensures found { IfOk result (IsFirst (accepts self.old.last (end_at (tree_of self.old.matcher.now.searcher) self.old.content.now))
-            self.old.from (length self.old.content.now)) }
-        ensures within { IfOk result (λ found. IfSome found (LiesWithin (length self.old.content.now))) }
+    fn next_member(&mut self, content: &[u8]) -> Result<Option<Match>, NoMemory>
+        ensures found { IfOk result (IsFirst (accepts self.old.last (end_at (tree_of self.old.matcher.now.searcher) content.now)) self.old.from (length content.now)) }
+        ensures within { IfOk result (λ found. IfSome found (LiesWithin (length content.now))) }
         ensures groups { IfOk result (λ found. IfSome found (λ span.
-            AreOfMatch (tree_of self.old.matcher.now.searcher) self.old.content.now span.start self.new.groups)) }
+            AreOfMatch (tree_of self.old.matcher.now.searcher) content.now span.start self.new.groups)) }
         ensures asked { IsSome self.old.groups → IsSome self.new.groups }
         ensures pattern { self.new.matcher.now ≡ self.old.matcher.now }
-        ensures content { self.new.content.now ≡ self.old.content.now }
         ensures from { self.new.from ≡ self.old.from }
         ensures last { self.new.last ≡ self.old.last }
     {
-        let first = first_at(self.matcher, self.content, self.from, &mut self.groups)?;
+        let first = first_at(self.matcher, content, self.from, &mut self.groups)?;
         let Some(found) = first else {
             return Ok(None);
         };
         if !(found.is_empty() && self.last == Some(found.end())) {
             return Ok(Some(found));
         }
-        first_at(
-            self.matcher,
-            self.content,
-            found.end() + 1,
-            &mut self.groups,
-        )
+        first_at(self.matcher, content, found.end() + 1, &mut self.groups)
     }
 
     /// Asks for the groups of the match that was found last, and of those to come. Refuses for want of memory alone.
-    pub(crate) fn ask_for_groups(&mut self, found: Match) -> Result<(), NoMemory>
-        requires found { end_at (tree_of self.old.matcher.now.searcher) self.old.content.now found.start ≡ Some found.end }
-        requires within { found.end ≤ length self.old.content.now }
-        ensures groups { OnOk result (AreOfMatch (tree_of self.old.matcher.now.searcher) self.old.content.now found.start self.new.groups) }
+    pub(crate) fn ask_for_groups(&mut self, content: &[u8], found: Match) -> Result<(), NoMemory>
+        requires found { end_at (tree_of self.old.matcher.now.searcher) content.now found.start ≡ Some found.end }
+        requires within { found.end ≤ length content.now }
+        ensures groups { OnOk result (AreOfMatch (tree_of self.old.matcher.now.searcher) content.now found.start self.new.groups) }
         ensures asked { OnOk result (IsSome self.new.groups) }
         ensures pattern { self.new.matcher.now ≡ self.old.matcher.now }
-        ensures content { self.new.content.now ≡ self.old.content.now }
         ensures from { self.new.from ≡ self.old.from }
         ensures last { self.new.last ≡ self.old.last }
     {
-        let groups = groups_at(self.matcher, self.content, found)?;
+        let groups = groups_at(self.matcher, content, found)?;
         self.groups = Some(groups);
         Ok(())
     }

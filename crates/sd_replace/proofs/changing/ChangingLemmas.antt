@@ -173,21 +173,19 @@ as_after quota replacement bytes done rest limits e =
     (subst (λ (n : ℕ). within_after quota.counted n bytes done rest ≡ []) limits.limit
     (subst (λ (s : List ℕ). within_after quota.counted quota.limit s done rest ≡ []) limits.content e))
 
--- what a search of the same pattern and bytes finds
-pub as_first : (m p : Pattern) (s bytes : List ℕ) (last : Option ℕ) (from : ℕ) (o : Option Span) → m ≡ p → s ≡ bytes
-    → IsFirst (accepts last (end_at (tree_of m.searcher) s)) from (length s) o → IsFirst (accepts last (end_at (tree_of p.searcher) bytes)) from (length bytes) o
-as_first m p s bytes last from o pattern content first =
-    subst (λ (t : List ℕ). IsFirst (accepts last (end_at (tree_of p.searcher) t)) from (length t) o) content
-    (subst (λ (q : Pattern). IsFirst (accepts last (end_at (tree_of q.searcher) s)) from (length s) o) pattern first)
+-- what a search of the same pattern finds
+pub as_first : (m p : Pattern) (bytes : List ℕ) (last : Option ℕ) (from : ℕ) (o : Option Span) → m ≡ p
+    → IsFirst (accepts last (end_at (tree_of m.searcher) bytes)) from (length bytes) o → IsFirst (accepts last (end_at (tree_of p.searcher) bytes)) from (length bytes) o
+as_first m p bytes last from o pattern first =
+    subst (λ (q : Pattern). IsFirst (accepts last (end_at (tree_of q.searcher) bytes)) from (length bytes) o) pattern first
 
 pub as_start : (preferred : ℕ → Option ℕ) (n from : ℕ) (last : Option ℕ) (o : Option Span) → last ≡ None → from ≡ 0 → IsFirst (accepts last preferred) from n o → IsFirst (accepts None preferred) 0 n o
 as_start preferred n from last o none start first =
     subst (λ (k : ℕ). IsFirst (accepts None preferred) k n o) start (subst (λ (l : Option ℕ). IsFirst (accepts l preferred) from n o) none first)
 
-pub as_match : (m p : Pattern) (s bytes : List ℕ) (place : ℕ) (asked : Option (List (Option Span))) → m ≡ p → s ≡ bytes
-    → AreOfMatch (tree_of m.searcher) s place asked → AreOfMatch (tree_of p.searcher) bytes place asked
-as_match m p s bytes place asked pattern content of =
-    subst (λ (t : List ℕ). AreOfMatch (tree_of p.searcher) t place asked) content (subst (λ (q : Pattern). AreOfMatch (tree_of q.searcher) s place asked) pattern of)
+pub as_match : (m p : Pattern) (bytes : List ℕ) (place : ℕ) (asked : Option (List (Option Span))) → m ≡ p
+    → AreOfMatch (tree_of m.searcher) bytes place asked → AreOfMatch (tree_of p.searcher) bytes place asked
+as_match m p bytes place asked pattern of = subst (λ (q : Pattern). AreOfMatch (tree_of q.searcher) bytes place asked) pattern of
 
 -- the search goes on behind the start of what it found
 pub onward : (span : Span) (next : ℕ) → span.start ≤ span.end → IsAfter span next → span.start < next

@@ -15,7 +15,7 @@ returns-in_default-clause-changed c =
     let search = c.new-search.result in
     nothing_changes (replacement_of self) bytes (lawful_ends (tree_of self.matcher.searcher) self.matcher.whole bytes) c.in_ok-first.field-0 c.in_default.not-Some
     (as_start (end_at (tree_of self.matcher.searcher) bytes) (length bytes) search.from search.last c.in_ok-first.field-0 c.new-search.ensures.none c.new-search.ensures.start
-    (as_first search.matcher.now self.matcher search.content.now bytes search.last search.from c.in_ok-first.field-0 c.new-search.ensures.pattern c.new-search.ensures.content c.in_ok-first.ensures.found))
+    (as_first search.matcher.now self.matcher bytes search.last search.from c.in_ok-first.field-0 c.new-search.ensures.pattern c.in_ok-first.ensures.found))
 
 pub returns-clause-changed : goal.returns-clause-changed
 returns-clause-changed c =
@@ -23,6 +23,6 @@ returns-clause-changed c =
     let bytes = c.args.content.now in
     let search = c.new-search.result in
     let first = as_start (end_at (tree_of self.matcher.searcher) bytes) (length bytes) search.from search.last (Some c.in-Some.first) c.new-search.ensures.none c.new-search.ensures.start
-    (as_first search.matcher.now self.matcher search.content.now bytes search.last search.from (Some c.in-Some.first) c.new-search.ensures.pattern c.new-search.ensures.content
-    (subst (λ (o : Option Span). IsFirst (accepts search.last (end_at (tree_of search.matcher.now.searcher) search.content.now)) search.from (length search.content.now) o) c.in-Some.is c.in_ok-first.ensures.found)) in
+    (as_first search.matcher.now self.matcher bytes search.last search.from (Some c.in-Some.first) c.new-search.ensures.pattern
+    (subst (λ (o : Option Span). IsFirst (accepts search.last (end_at (tree_of search.matcher.now.searcher) bytes)) search.from (length bytes) o) c.in-Some.is c.in_ok-first.ensures.found)) in
     (c.in_ok-changed.ensures.changed, something_changes (replacement_of self) self.matcher.whole bytes c.in_ok-changed.changed.new_bytes.items c.in_ok-changed.changed.count c.in-Some.first first c.in_ok-changed.ensures.changed)

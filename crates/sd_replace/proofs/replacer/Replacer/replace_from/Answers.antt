@@ -39,7 +39,6 @@ matches-init c =
       ahead = c.requires.after.0;
       onward = onward x search.from rises c.requires.after;
       pattern = c.requires.pattern;
-      content = c.requires.content;
       groups = c.requires.groups;
       asked = c.requires.asked;
     }
@@ -74,8 +73,8 @@ returns-in-None-clause-changed c =
     let done : List Span = stands.done ++ c.matches.found ∷ [] in
     let made = c.replace_one.new.made in
     let written = c.in_ok-replace_one.ensures.written stands.done stands.known stands.written in
-    let none = subst (λ (o : Option Span). IsFirst (accepts search.last (end_at (tree_of search.matcher.now.searcher) search.content.now)) search.from (length search.content.now) o) c.in-None.is c.in_ok-next.ensures.found in
-    let first = as_first search.matcher.now self.matcher search.content.now bytes search.last search.from None c.matches.invariant.pattern c.matches.invariant.content none in
+    let none = subst (λ (o : Option Span). IsFirst (accepts search.last (end_at (tree_of search.matcher.now.searcher) bytes)) search.from (length bytes) o) c.in-None.is c.in_ok-next.ensures.found in
+    let first = as_first search.matcher.now self.matcher bytes search.last search.from None c.matches.invariant.pattern none in
     finished (replacement_of self) bytes made c.finish-in-None.result c.finish-in-None.ensures.bytes c.finish-in-None.ensures.count (λ new_bytes count new counts.
     made_at_the_end (replacement_of self) bytes (lawful_ends (tree_of self.matcher.searcher) self.matcher.whole bytes) done search.from search.last stands.found made.new_bytes.items made.copied made.count written new_bytes count first new counts)
 
@@ -90,11 +89,11 @@ matches-preserved c =
     let preferred = end_at (tree_of self.matcher.searcher) bytes in
     let lawful = lawful_ends (tree_of self.matcher.searcher) self.matcher.whole bytes in
     let done : List Span = before.stands.done ++ c.matches.found ∷ [] in
-    let there = subst (λ (o : Option Span). IsFirst (accepts search.last (end_at (tree_of search.matcher.now.searcher) search.content.now)) search.from (length search.content.now) o) c.in-Some.is c.in_ok-next.ensures.found in
-    let first = as_first search.matcher.now self.matcher search.content.now bytes search.last search.from (Some x) before.pattern before.content there in
+    let there = subst (λ (o : Option Span). IsFirst (accepts search.last (end_at (tree_of search.matcher.now.searcher) bytes)) search.from (length bytes) o) c.in-Some.is c.in_ok-next.ensures.found in
+    let first = as_first search.matcher.now self.matcher bytes search.last search.from (Some x) before.pattern there in
     let after = subst (λ (o : Option Span). IfSome o (λ span. IsAfter span later.from)) c.in-Some.is c.in_ok-next.ensures.after in
     let last = subst (λ (o : Option Span). IfSome o (λ span. later.last ≡ Some span.end)) c.in-Some.is c.in_ok-next.ensures.last in
-    let groups = subst (λ (o : Option Span). IfSome o (λ span. AreOfMatch (tree_of search.matcher.now.searcher) search.content.now span.start later.groups)) c.in-Some.is c.in_ok-next.ensures.groups in
+    let groups = subst (λ (o : Option Span). IfSome o (λ span. AreOfMatch (tree_of search.matcher.now.searcher) bytes span.start later.groups)) c.in-Some.is c.in_ok-next.ensures.groups in
     let ends = lawful x.start x.end first.1 first.2.0 in
     let rises : x.start ≤ x.end = ends.0 in
     let starts : search.from ≤ x.start = first.0 in
@@ -114,7 +113,6 @@ matches-preserved c =
       ahead = after.0;
       onward = onward x later.from rises after;
       pattern = c.in_ok-next.ensures.pattern ∙ before.pattern;
-      content = c.in_ok-next.ensures.content ∙ before.content;
-      groups = as_match search.matcher.now self.matcher search.content.now bytes x.start later.groups before.pattern before.content groups;
+      groups = as_match search.matcher.now self.matcher bytes x.start later.groups before.pattern groups;
       asked = suffice_on self.template.pieces.items search.groups later.groups before.asked c.in_ok-next.ensures.asked;
     }

@@ -21,7 +21,6 @@ invariant-matches l = record {
   ahead : l.found.end ≤ l.search.from;
   onward : l.found.start < l.search.from;
   pattern : l.search.matcher.now ≡ l.self.matcher;
-  content : l.search.content.now ≡ l.content;
   groups : AreOfMatch (tree_of l.self.matcher.searcher) l.content l.found.start l.search.groups;
   asked : SufficeFor l.self.template.pieces.items l.search.groups;
 }
