@@ -1,6 +1,6 @@
 //! Searching texts for a pattern.
 
-ghost use Rattle.std.specs.Prelude.{◌≡◌, ◌+◌, ◌-◌, ◌*◌, ◌≤◌, length, replicate, None, is_some, option_map, IfOk, IfErr, IfSome};
+ghost use Rattle.std.specs.Prelude.{◌≡◌, ◌+◌, ◌-◌, ◌*◌, ◌≤◌, length, replicate, None, is_some, IfOk, IfErr, IfSome};
 ghost use Rattle.hir_tree.specs.Cores.{core_of};
 ghost use Rattle.hir_core.specs.Found.{IsFound, IsOfLeast, whole_span};
 ghost use Rattle.hir_tree.specs.PlainText.{text_of};
@@ -77,16 +77,6 @@ impl Searcher {
         ensures { result.now ≡ self.now }
     {
         &self.hir
-    }
-
-    /// The text that the pattern is. `None` where it isn't one.
-    pub fn text(&self) -> Option<&[u8]>
-        ensures { option_map (λ text. text.now) result ≡ text_of self.now }
-    {
-        match &self.text {
-            None => None,
-            Some(finder) => Some(finder.bytes()),
-        }
     }
 
     /// The search for a pattern that is one text, which takes neither slots nor memory: the span of the least place from `at` on
