@@ -3,8 +3,10 @@
 mod disk;
 mod faults;
 mod folders;
+mod list;
 mod new_file;
 mod stream;
+mod told;
 
 pub use disk::HostDisk;
 pub use stream::{HostSink, HostSource};

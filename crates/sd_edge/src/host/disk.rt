@@ -1,57 +1,26 @@
 //! The host's disk.
 
-ghost use Rattle.std.specs.Prelude.{◌≡◌, ◌↔◌, ℕ, [], None, IsTrue, IfOk, IsErrAnd, IsSomeAnd};
-ghost use Rattle.std.specs.Fs.{dir_entry_name};
-ghost use Rattle.std.specs.IoError.{error_kind};
-ghost use Rattle.sd_edge.specs.HostDisk.{IsOfKind};
+ghost use Rattle.std.specs.Prelude.{◌≡◌, ◌↔◌, ℕ, [], None, IsTrue, IsSomeAnd};
 ghost use Rattle.sd_edge.specs.HostDiskState.{host_state};
 ghost use Rattle.sd_edge.specs.OpenLists.{told_list, KeepsTold};
 
 use crate::host::faults::FaultCounter;
 use crate::host::folders::{Folders, Place, ident_of, same_node};
+use crate::host::list::{HostList, meta_of};
 use crate::host::new_file::{NewFile, create};
 use crate::open_lists::{OpenList, OpenLists};
-use crate::{Disk, DiskFault, Ident, Kind, ListId, Meta, RawEntry, Text};
+use crate::{Disk, DiskFault, Ident, ListId, Meta, RawEntry, Text};
 use std::alloc::Global;
-use std::fs::{DirEntry, Metadata, OpenFile, OpenOptions, ReadDir};
+use std::fs::{Metadata, OpenFile, OpenOptions};
 use std::io::{ErrorKind, Read, Write};
 use std::os::fd::AsRawFd;
 use std::os::unix::fs::MetadataExt;
 use std::rt::Files;
 use std::{fs, io};
 
-/// An open list of the host's.
-#[derive(Drop)]
-struct HostList<R: Files + AllocGlobal + Clone + Drop> {
-    entries: ReadDir<R>,
-    /// The next entry, where there was no memory to tell it.
-    waiting: Option<DirEntry<R>>,
-}
-
-impl<R: Files + AllocGlobal + Clone + Drop> HostList<R>
-where
-    R::File: AsRawFd,
-{
-    /// The next entry, as the host tells it. Where there is no memory for that, it stays the next one.
-    fn next(&mut self, alloc: Global, folders: &mut Folders<R>) -> Option<io::Result<RawEntry>> {
-        let entry = match self.waiting.take() {
-            Some(entry) => entry,
-            None => match self.entries.next()? {
-                Ok(entry) => entry,
-                Err(error) => return Some(Err(error)),
-            },
-        };
-        let told = tell(alloc, &entry, folders);
-        if is_out_of_memory(&told) {
-            self.waiting = Some(entry);
-        }
-        Some(told)
-    }
-}
-
 /// The host's disk. It tells its counts and its open lists, and nothing of its tree.
 #[derive(Drop)]
-pub struct HostDisk<R: Files + AllocGlobal + Clone + Drop> {
+pub struct HostDisk<R: Files + AllocGlobal + Drop> {
     rt: R,
     lists: OpenLists<Box<HostList<R>>>,
     folders: Folders<R>,
@@ -60,7 +29,7 @@ pub struct HostDisk<R: Files + AllocGlobal + Clone + Drop> {
     counter: FaultCounter,
 }
 
-impl<R: Files + AllocGlobal + Clone + Drop> HostDisk<R>
+impl<R: Files + AllocGlobal + Drop> HostDisk<R>
 where
     R::File: AsRawFd,
 {
@@ -93,51 +62,6 @@ fn metadata<R: Files>(rt: &R, path: &str, follow: bool) -> io::Result<Metadata> 
     }
 }
 
-/// The kind of a node, by what the host tells of it.
-fn kind_of(metadata: &Metadata) -> Kind
-    ensures { IsOfKind metadata.now result }
-{
-    if metadata.is_dir() {
-        Kind::Directory
-    } else if metadata.is_symlink() {
-        Kind::Link
-    } else if metadata.is_file() {
-        Kind::File
-    } else {
-        Kind::Other
-    }
-}
-
-/// The entry of a list with its kind and inode, its link not followed.
-fn raw_entry<R: Files + AllocGlobal + Clone + Drop>(
-    alloc: Global,
-    entry: &DirEntry<R>,
-) -> io::Result<RawEntry>
-    ensures { IfOk result (λ told. told.name ≡ dir_entry_name entry.now) }
-{
-    let metadata = entry.metadata()?;
-    let name = String::from_str(alloc, entry.file_name())?;
-    Ok(RawEntry {
-        name: Text::from(name),
-        kind: kind_of(&metadata),
-        ino: metadata.ino(),
-    })
-}
-
-/// The same, and the folders get to know of it.
-fn tell<R: Files + AllocGlobal + Clone + Drop>(
-    alloc: Global,
-    entry: &DirEntry<R>,
-    folders: &mut Folders<R>,
-) -> io::Result<RawEntry>
-where
-    R::File: AsRawFd,
-{
-    let told = raw_entry(alloc, entry)?;
-    folders.tell(alloc, entry.path().as_str(), told.kind)?;
-    Ok(told)
-}
-
 /// The bytes of the file of which the host told this. There is room for them at once, and for the read that finds its end.
 fn read<R: Files>(rt: &R, alloc: Global, place: &Place, told: &Metadata) -> io::Result<Vec<u8>> {
     let mut file = fs::open(rt, place.path.as_str())?;
@@ -165,18 +89,9 @@ fn sync<R: Files>(rt: &R, place: &Place, told: &Metadata) -> io::Result<()> {
     file.sync_all()
 }
 
-/// Whether memory alone was wanting.
-fn is_out_of_memory<T>(answer: &io::Result<T>) -> bool
-    ensures { IsTrue result ↔ IsErrAnd answer.now (λ error. error_kind error ≡ ErrorKind.OutOfMemory) }
-{
-    match answer {
-        Ok(_) => false,
-        Err(error) => error.kind() == ErrorKind::OutOfMemory,
-    }
-}
-
 /// The next entry of a list that isn't at its end.
-fn next_of<R: Files + AllocGlobal + Clone + Drop>(
+fn next_of<R: Files + AllocGlobal + Drop>(
+    rt: &R,
     alloc: Global,
     list: &mut OpenList<Box<HostList<R>>>,
     folders: &mut Folders<R>,
@@ -186,13 +101,14 @@ where
     ensures { told_list (λ _. []) list.new ≡ told_list (λ _. []) list.old }
 {
     match list {
-        OpenList::Unfinished(entries) => entries.next(alloc, folders),
+        OpenList::Unfinished(entries) => entries.next(rt, alloc, folders),
         OpenList::AtEnd => None,
     }
 }
 
 /// The next entry of an open list.
-fn next_in<R: Files + AllocGlobal + Clone + Drop>(
+fn next_in<R: Files + AllocGlobal + Drop>(
+    rt: &R,
     alloc: Global,
     lists: &mut OpenLists<Box<HostList<R>>>,
     number: u64,
@@ -202,7 +118,7 @@ where
     R::File: AsRawFd,
     ensures { KeepsTold (λ _. []) lists.old lists.new }
 {
-    next_of(alloc, lists.open.get_mut(&number)?, folders)
+    next_of(rt, alloc, lists.open.get_mut(&number)?, folders)
 }
 
 /// Whether a path is that of the file that was just created.
@@ -212,7 +128,7 @@ fn is_new<F: OpenFile + Write + Drop>(new_file: &Option<NewFile<F>>, path: &str)
     new_file.as_ref().is_some_and(|new| new.is_at(path))
 }
 
-impl<R: Files + AllocGlobal + Clone + Drop> Disk for HostDisk<R>
+impl<R: Files + AllocGlobal + Drop> Disk for HostDisk<R>
 where
     R::File: AsRawFd,
 {
@@ -229,14 +145,11 @@ where
     ghost holds_present = { λ disk told. absurd (false≢true told) };
 
     fn stat(&mut self, path: &str, follow: bool) -> Result<Meta, DiskFault> {
+        if !follow && let Some(told) = self.folders.take_told(path) {
+            return Ok(told);
+        }
         let metadata = self.counter.counted(metadata(&self.rt, path, follow))?;
-        let kind = kind_of(&metadata);
-        let len = if metadata.is_file() {
-            metadata.len()
-        } else {
-            0
-        };
-        Ok(Meta { kind, len })
+        Ok(meta_of(&metadata))
     }
 
     fn ident(&mut self, path: &str) -> Result<Ident, DiskFault> {
@@ -251,11 +164,7 @@ where
 
     fn open_dir(&mut self, path: &str) -> Result<ListId, DiskFault> {
         self.counter.counted(self.folders.list(&self.rt, path))?;
-        let entries = self.counter.counted(fs::read_dir(&self.rt, path))?;
-        let list = HostList {
-            entries,
-            waiting: None,
-        };
+        let list = self.counter.counted(HostList::open(&self.rt, path))?;
         let boxed = Box::new(self.rt.alloc(), list)?;
         Ok(self.lists.open(boxed)?)
     }
@@ -268,7 +177,13 @@ where
             self.lists.end(list.number);
             return Err(self.counter.refusal(DiskFault::Failed));
         }
-        match next_in(alloc, &mut self.lists, list.number, &mut self.folders) {
+        match next_in(
+            &self.rt,
+            alloc,
+            &mut self.lists,
+            list.number,
+            &mut self.folders,
+        ) {
             None => {
                 self.lists.end(list.number);
                 Ok(None)
@@ -298,6 +213,7 @@ where
     }
 
     fn create_like(&mut self, path: &str, like: &str) -> Result<(), DiskFault> {
+        self.folders.change();
         let like = self.counter.counted(self.folders.place(&self.rt, like))?;
         let told = self.counter.regular(like.metadata(&self.rt))?;
         let place = self.counter.counted(self.folders.place(&self.rt, path))?;
@@ -315,6 +231,7 @@ where
     }
 
     fn write_file(&mut self, path: &str, bytes: &[u8]) -> Result<(), DiskFault> {
+        self.folders.change();
         match &mut self.new_file {
             Some(new) if new.is_empty_at(path) => self.counter.counted(new.fill(bytes)),
             _ => {
@@ -337,6 +254,7 @@ where
     }
 
     fn rename(&mut self, from: &str, to: &str) -> Result<(), DiskFault> {
+        self.folders.change();
         let (old, new) = self
             .counter
             .counted(self.folders.places(&self.rt, from, to))?;
@@ -356,6 +274,7 @@ where
     }
 
     fn remove(&mut self, path: &str) -> Result<(), DiskFault> {
+        self.folders.change();
         let place = self.counter.counted(self.folders.place(&self.rt, path))?;
         if !is_new(&self.new_file, path) {
             self.counter

@@ -1,7 +1,9 @@
 //! The folders of the host that were listed. What is asked of a name in one of them is asked of the very folder that was
 //! listed, by a handle of it, also where another process moves that folder or puts a link in its place meanwhile.
 
-use crate::{Ident, Kind};
+use crate::host::list::meta_of;
+use crate::host::told::Told;
+use crate::{Ident, Kind, Meta};
 use std::alloc::{AllocError, Global};
 use std::collections::{BTreeMap, BTreeSet};
 use std::fs::{Metadata, OpenFile};
@@ -30,6 +32,17 @@ impl Place {
     }
 }
 
+/// An entry of a list.
+#[derive(Clone, Copy)]
+pub struct ListedEntry<'a> {
+    /// The path of its folder, with a slash at its end.
+    pub folder: &'a str,
+    /// Its name.
+    pub name: &'a str,
+    /// Its path: both together.
+    pub path: &'a str,
+}
+
 /// A folder that is open.
 #[derive(Drop)]
 struct OpenFolder<F: Drop> {
@@ -49,13 +62,32 @@ struct Root {
     resolved: String,
 }
 
-/// The folders that were listed, by their paths without a slash at the end.
+/// How far a folder is known.
+#[derive(Clone, Copy, PartialEq, Eq)]
+enum Standing {
+    /// The list of the folder above told of it.
+    Told,
+    /// It was listed by its path, and what stands there wasn't compared with what was told.
+    Listed,
+    /// It was listed, and is what its name leads to in the folder above.
+    Seen,
+}
+
+/// What is known of the folder at a path.
+#[derive(Clone, Copy)]
+struct Known {
+    ident: Ident,
+    standing: Standing,
+}
+
+/// The folders that were listed or told of, by their paths without a slash at the end.
 #[derive(Drop)]
-pub struct Folders<R: Files + AllocGlobal + Clone + Drop> {
-    /// What stood at each path when it was listed last.
-    listed: BTreeMap<String, Ident>,
+pub struct Folders<R: Files + AllocGlobal + Drop> {
+    known: BTreeMap<String, Known>,
     /// The links that their lists told. These are followed where they are asked for, and no other name in a listed folder is.
     links: BTreeSet<String>,
+    /// What a list told last, until something is changed.
+    told: Told,
     /// The one that was asked for last.
     open: Option<OpenFolder<R::File>>,
     /// What was resolved last.
@@ -145,40 +177,90 @@ fn shown_number<R: Files + AllocGlobal>(
     }
 }
 
-impl<R: Files + AllocGlobal + Clone + Drop> Folders<R>
+impl<R: Files + AllocGlobal + Drop> Folders<R>
 where
     R::File: AsRawFd,
 {
     /// No folder was listed.
     pub fn new(alloc: Global) -> Folders<R> {
         Folders {
-            listed: BTreeMap::new(alloc),
+            known: BTreeMap::new(alloc),
             links: BTreeSet::new(alloc),
+            told: Told::new(alloc),
             open: None,
             resolved: None,
             root: None,
         }
     }
 
-    /// Notes that a folder is listed now. Refuses where its path leads to none.
+    /// Notes that a folder is listed now. One of which a list told is asked of the host no more: it is compared with what was told once
+    /// something in it is asked for. Refuses where the path of any other leads to no folder.
     pub fn list(&mut self, rt: &R, path: &str) -> io::Result<()> {
+        self.told.forget();
+        let folder = without_slash(path);
+        if let Some(known) = self.known.get_mut(folder)
+            && known.standing == Standing::Told
+        {
+            known.standing = Standing::Listed;
+            return Ok(());
+        }
         let metadata = self.place(rt, path)?.metadata(rt)?;
         if !metadata.is_dir() {
             return Err(io::Error::from(ErrorKind::NotADirectory));
         }
-        let key = String::from_str(rt.alloc(), without_slash(path))?;
+        let key = String::from_str(rt.alloc(), folder)?;
         match &self.resolved {
             Some(root) if root.resolved == key => self.root = self.resolved.take(),
             _ => {}
         }
-        self.listed.insert(key, ident_of(&metadata))?;
+        let known = Known {
+            ident: ident_of(&metadata),
+            standing: Standing::Seen,
+        };
+        self.known.insert(key, known)?;
         Ok(())
     }
 
-    /// Notes what a list told of the entry with this path.
-    pub fn tell(&mut self, alloc: Global, path: &str, kind: Kind) -> io::Result<()> {
-        if kind == Kind::Link {
-            self.links.insert(String::from_str(alloc, path)?)?;
+    /// Notes what a list told of an entry.
+    pub fn tell(
+        &mut self,
+        alloc: Global,
+        entry: ListedEntry<'_>,
+        told: &Metadata,
+    ) -> io::Result<()> {
+        let meta = meta_of(told);
+        match meta.kind {
+            Kind::Link => {
+                self.links.insert(String::from_str(alloc, entry.path)?)?;
+            }
+            Kind::Directory => self.tell_of_folder(alloc, entry.path, ident_of(told))?,
+            Kind::File | Kind::Other => {}
+        }
+        self.told.tell(entry.folder, entry.name, meta)?;
+        Ok(())
+    }
+
+    /// What was told of the entry at a path, its link not followed, where it is of the list that told of entries last. It is told once, and not after
+    /// something was changed.
+    pub fn take_told(&mut self, path: &str) -> Option<Meta> {
+        self.told.take(path)
+    }
+
+    /// Notes that something is changed.
+    pub fn change(&mut self) {
+        self.told.forget();
+    }
+
+    /// Notes that a list told of a folder. What is known of one that was listed stays.
+    fn tell_of_folder(&mut self, alloc: Global, path: &str, ident: Ident) -> io::Result<()> {
+        let was_listed = match self.known.get(path) {
+            Some(known) => known.standing != Standing::Told,
+            None => false,
+        };
+        if !was_listed {
+            let standing = Standing::Told;
+            let key = String::from_str(alloc, path)?;
+            self.known.insert(key, Known { ident, standing })?;
         }
         Ok(())
     }
@@ -194,11 +276,16 @@ where
             return given(alloc, path);
         }
         let is_followed = self.links.contains(path);
-        let path = match self.open.as_ref().and_then(|open| open.number) {
-            Some(number) => format!(in alloc; "/proc/self/fd/{number}/{name}")?,
-            None => String::from_str(alloc, path)?,
-        };
+        let path = self.path_by_handle(alloc, path, name)?;
         Ok(Place { path, is_followed })
+    }
+
+    /// The path of a name in the folder that is open, by the handle of that where the host shows it.
+    fn path_by_handle(&self, alloc: Global, path: &str, name: &str) -> Result<String, AllocError> {
+        match self.open.as_ref().and_then(|open| open.number) {
+            Some(number) => format!(in alloc; "/proc/self/fd/{number}/{name}"),
+            None => String::from_str(alloc, path),
+        }
     }
 
     /// The same of two paths at once. Where they aren't in one folder, both are as they were given.
@@ -255,7 +342,11 @@ where
             let path = fs::canonicalize(rt, format!(in rt.alloc(); "{}/", open.path)?.as_str())?;
             let folder = String::from_str(rt.alloc(), without_slash(path.as_str()))?;
             let key = String::from_str(rt.alloc(), without_slash(path.as_str()))?;
-            self.listed.insert(key, open.ident)?;
+            let known = Known {
+                ident: open.ident,
+                standing: Standing::Seen,
+            };
+            self.known.insert(key, known)?;
             open.resolved = Some(folder);
         }
         Ok(open.resolved.as_ref().map(|folder| folder.as_str()))
@@ -277,9 +368,20 @@ where
 
     /// Opens a folder, if it was listed; answers whether it was. Refuses where another stands at its path now.
     fn open(&mut self, rt: &R, folder: &str) -> io::Result<bool> {
-        let Some(&ident) = self.listed.get(folder) else {
+        let Some(&known) = self.known.get(folder) else {
             return Ok(false);
         };
+        match known.standing {
+            Standing::Told => return Ok(false),
+            Standing::Listed => self.see_all(rt, folder)?,
+            Standing::Seen => {}
+        }
+        self.hold(rt, folder, known.ident)?;
+        Ok(true)
+    }
+
+    /// Opens this folder, unless it is open.
+    fn hold(&mut self, rt: &R, folder: &str, ident: Ident) -> io::Result<()> {
         let is_open = match &self.open {
             Some(open) => open.path.as_str() == folder && open.ident == ident,
             None => false,
@@ -288,6 +390,50 @@ where
             self.open = None;
             self.open = Some(open_folder(rt, folder, ident)?);
         }
-        Ok(true)
+        Ok(())
+    }
+
+    /// Compares each folder on a path that was listed by its path, the highest first, with what its list told of it.
+    fn see_all(&mut self, rt: &R, folder: &str) -> io::Result<()> {
+        for (end, byte) in folder.bytes().enumerate() {
+            if byte == b'/'
+                && let Some(above) = folder.get(..end)
+            {
+                self.see(rt, above)?;
+            }
+        }
+        self.see(rt, folder)
+    }
+
+    /// Compares a folder that was listed by its path with what its list told of it, by a handle of the folder above, which was compared
+    /// before. Refuses where another stands there now.
+    fn see(&mut self, rt: &R, folder: &str) -> io::Result<()> {
+        let Some(&Known { ident, standing }) = self.known.get(folder) else {
+            return Ok(());
+        };
+        if standing != Standing::Listed {
+            return Ok(());
+        }
+        let path = self.path_from_above(rt, folder)?;
+        let metadata = fs::symlink_metadata(rt, path.as_str())?;
+        if !metadata.is_dir() || ident_of(&metadata) != ident {
+            return Err(is_another());
+        }
+        if let Some(known) = self.known.get_mut(folder) {
+            known.standing = Standing::Seen;
+        }
+        Ok(())
+    }
+
+    /// The path of a folder by a handle of the folder above, where that is known.
+    fn path_from_above(&mut self, rt: &R, folder: &str) -> io::Result<String> {
+        let alloc = rt.alloc();
+        if let Some((above, name)) = folder_and_name(folder)
+            && let Some(&known) = self.known.get(above)
+        {
+            self.hold(rt, above, known.ident)?;
+            return Ok(self.path_by_handle(alloc, folder, name)?);
+        }
+        Ok(String::from_str(alloc, folder)?)
     }
 }
