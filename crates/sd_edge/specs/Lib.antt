@@ -15,6 +15,7 @@ pub mod MemStreams
 pub mod HostStreams
 pub mod HostDisk
 pub mod HostDiskState
+pub mod Told
 pub mod MemNode
 pub mod MemNodeView
 pub mod MemTree

@@ -1,0 +1,2 @@
+-- What the proofs about what a list told use.
+pub mod ToldLemmas
