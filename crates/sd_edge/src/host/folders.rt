@@ -1,5 +1,6 @@
-//! The folders of the host that were listed. What is asked of a name in one of them is asked of the very folder that was
-//! listed, by a handle of it, also where another process moves that folder or puts a link in its place meanwhile.
+//! The folders of the host that were listed. What is asked of a name in one of them is asked of the very folder of which the
+//! list above told, or of the one that was listed where none told of it, by a handle of it: also where another process moves
+//! that folder or puts a link in its place meanwhile.
 
 use crate::host::list::meta_of;
 use crate::host::told::Told;
@@ -83,6 +84,7 @@ struct Known {
 /// The folders that were listed or told of, by their paths without a slash at the end.
 #[derive(Drop)]
 pub struct Folders<R: Files + AllocGlobal + Drop> {
+    /// What is known of each.
     known: BTreeMap<String, Known>,
     /// The links that their lists told. These are followed where they are asked for, and no other name in a listed folder is.
     links: BTreeSet<String>,
