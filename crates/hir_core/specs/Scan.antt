@@ -1,10 +1,14 @@
 -- What a filter of a program says.
-use Rattle.std.specs.Prelude.{◌≡◌, ℕ, ◌<◌, ◌≤◌, false, List, length, Option, IfSome}
+use Rattle.std.specs.Prelude.{◌≡◌, ℕ, ◌^◌, ◌<◌, ◌≤◌, ◌⊎◌, Bool, false, List, length, ◌==◌, slice_index, slice_index_or, bit_and, true, Option, IfSome}
 use Rattle.hir_tree.specs.Looks.{holds}
 use Rattle.hir_tree.specs.declared.look.Look.{Look}
-use Rattle.hir_core.specs.Masks.{Covers, CoverTheirSpots, AreTakers, SaysWhatTakes, SaysWhatFollows, SaysWhichAreWide, AreMoved, AreDead, IsDead, IsShut, HasBit, match_bit, sure_bit}
+use Rattle.hir_core.specs.Masks.{Covers, CoverTheirSpots, AreTakers, SaysWhatTakes, SaysWhatFollows, SaysWhichAreWide, AreMoved, AreDead, IsDead, IsPart, IsShut, HasBit, match_bit, next_of, sure_bit}
+use Rattle.hir_core.specs.Program.{spot_at}
 use Rattle.hir_core.specs.declared.spot.Spot.{Spot}
 use Rattle.hir_core.specs.declared.scan.Scan.{Scan}
+use Rattle.hir_core.specs.declared.scan.cut.Cut.{Cut}
+use Rattle.hir_core.specs.declared.scan.stride.Stops.{Stops}
+use Rattle.hir_core.specs.declared.scan.stride.Stops.TheVariants as stops
 use Rattle.hir_core.specs.declared.scan.Sight.{Sight}
 
 -- each run of the program asks the look, if there is one, before its first byte, so none begins where it doesn't hold
@@ -14,6 +18,31 @@ IsAskedFirst spots look = IfSome look (λ l. (text : List ℕ) (at : ℕ) → ho
 -- no match ends at the place after the spots that have the mask, where the last look is this one
 abbrev pub NoEnd : List ℕ → ℕ → Option Look → ℕ → Type 0
 NoEnd text at look mask = (HasBit mask sure_bit → ⊥) × (HasBit mask match_bit → IsShut text at look)
+
+-- Each match passes the cut: until one of its spots took a byte, only those of `before` may be tried, and no match ends.
+pub record IsCut (spots : List Spot) (of : List ℕ) (look : Option Look) (start : ℕ) (c : Cut) : Type 0 where
+  pub begun : IsPart start c.before
+  pub follows : (i : ℕ) → i < length of → HasBit c.before i → (HasBit c.spots i → ⊥)
+      → Covers spots of look c.before (next_of (spot_at spots (slice_index of i)))
+  pub unmatched : c.before < 2 ^ 62
+
+-- it is a cut of each program that moves on as these rows say
+abbrev pub IsCutOf : List ℕ → ℕ → Cut → Type 0
+IsCutOf rows start c =
+    (spots : List Spot) (of : List ℕ) (look : Option Look) → length of ≤ sure_bit → SaysWhatFollows spots of look rows → IsCut spots of look start c
+
+-- no spot of the cut takes the byte, and none before it takes a character beyond ASCII that begins with it
+abbrev pub IsPassedOver : List ℕ → ℕ → Cut → ℕ → Type 0
+IsPassedOver takes wide c byte = (bit_and (slice_index takes byte) c.spots ≡ 0) × ((byte < 128) ⊎ (bit_and c.before wide ≡ 0))
+
+-- a stride stops at the byte
+abbrev pub stops_at : Stops → ℕ → Bool
+stops_at (stops.One byte) b = b == byte
+stops_at (stops.Several table) b = slice_index_or table b true
+
+-- a byte at which a stride to the cut doesn't stop is passed over
+abbrev pub TellsStops : List ℕ → ℕ → Cut → Stops → Type 0
+TellsStops takes wide c s = (b : ℕ) → b < 256 → stops_at s b ≡ false → IsPassedOver takes wide c b
 
 -- The filter tells where a match of the program may be: bit i is that of the spot `of` has at i. At most 62 spots have a bit,
 -- each of which takes bytes.
@@ -27,6 +56,7 @@ pub record IsFilterOf (spots : List Spot) (s : Scan) : Type 0 where
   pub start : Covers spots s.of.items s.last_look s.start 0
   pub firsts : CoverTheirSpots spots s.of.items s.last_look s.firsts.items
   pub first : IsAskedFirst spots s.first_look
+  pub stride : IfSome s.stride (λ k. IsCut spots s.of.items s.last_look s.start k.cut × TellsStops s.takes.items s.wide k.cut k.stops)
 
 -- no run begins at a place from one on to before another, as the filter says
 abbrev pub NoneBegins : List ℕ → Scan → ℕ → ℕ → Type 0

@@ -1,21 +1,25 @@
 //! A filter that finds quickly where a match of a program may be.
 
-ghost use Rattle.std.specs.Prelude.{◌≡◌, ◌<◌, ◌≤◌, ◌+◌, ◌⊎◌, ℕ, false, List, length, vec_len, slice_index, bit_and, IfOk, IfSome, IfNone};
+ghost use Rattle.std.specs.Prelude.{◌≡◌, ◌<◌, ◌≤◌, ◌+◌, ◌⊎◌, ℕ, false, true, List, length, vec_len, slice_index, bit_and, IfOk, IfSome, IfNone};
 ghost use Rattle.hir_core.specs.Masks.{AreShifts, HasBit-prop};
 ghost use Rattle.std.proofs.Props.{props};
 
 mod asked;
 mod bits;
+mod cut;
 mod reach;
 mod shifts;
+mod stride;
 mod takes;
 
 use crate::spot::Spot;
 use crate::{Look, holds};
 use bits::{Moves, SURE, joined, moves_in};
+use cut::Cut;
 use sd_base::NoMemory;
 use shifts::Shift;
 use std::alloc::Global;
+use stride::Stride;
 
 /// A filter: which places of a text may have a match. One bit for each spot that takes bytes.
 #[derive(Drop)]
@@ -41,8 +45,9 @@ pub struct Scan {
     first_look: Option<Look>,
     /// A look that may be asked before the end of a match, if there is one.
     last_look: Option<Look>,
-    /// Whether places are passed over up to the next one where a run may begin: it does by bytes that are rare in texts, or by a look.
-    strides: bool,
+    /// How places are passed over up to the next one where a match may pass a cut, if it does by bytes that are rare in texts, or
+    /// begins by a look.
+    stride: Option<Stride>,
     ghost all_bytes: { vec_len takes ≡ 256 },
     ghost all_rows: { vec_len after ≡ 2048 },
     ghost all_shifts: { vec_len shifts ≡ 256 },
@@ -58,6 +63,31 @@ struct Sight {
     place: usize,
     /// The spots that may be tried there, of the runs that began before.
     state: u64,
+    /// The place from which on the next stride is worth while.
+    ahead: usize,
+}
+
+impl Sight {
+    ghost use Rattle.hir_core.specs.Scan.{Looked};
+    ghost use Rattle.hir_core.specs.declared.scan.Scan.{Scan};
+
+    /// The same, but where no spot may be tried, a run begins at the place at the earliest.
+    fn settled(self) -> Sight
+        ensures looked { (text : List ℕ) (filter : Scan) (at : ℕ) → Looked text filter at self → Looked text filter at result }
+        ensures place { result.place ≡ self.place }
+    {
+        let from = if self.state == 0 {
+            self.place
+        } else {
+            self.from
+        };
+        Sight {
+            from,
+            place: self.place,
+            state: self.state,
+            ahead: self.ahead,
+        }
+    }
 }
 
 /// Places that may have a match: none before `from` has one. A run that begins there may end at `until`, or go on in a
@@ -92,7 +122,8 @@ impl Scan {
         let moves = moves_in(after.as_slice(), of.len());
         let wide = takes::wide(spots, of.as_slice());
         let shifts = shifts::shifts(alloc, takes.as_slice(), moves, start, wide)?;
-        let strides = first_look.is_some() || takes::is_rare(takes.as_slice(), start);
+        let cut = Cut::rarest(takes.as_slice(), after.as_slice(), start, of.len());
+        let stride = stride::worth_while(cut, takes.as_slice(), wide, first_look);
         Ok(Some(Scan {
             of,
             takes,
@@ -104,7 +135,7 @@ impl Scan {
             first_look,
             last_look,
             shifts,
-            strides,
+            stride,
         }))
     }
 
@@ -178,21 +209,41 @@ impl Scan {
         self.may_take(mask, text[place])
     }
 
-    /// The first place from one on by whose byte a run may begin, or where an empty match may stand, or the end of the text.
-    fn stride(&self, text: &[u8], at: usize) -> usize
+    /// Passes over places from one on up to the next one where a match may pass the cut, and goes back from there as long as spots
+    /// before it may have taken the bytes.
+    #[inline(never)]
+    fn strode(&self, text: &[u8], at: usize) -> Sight
         requires { at ≤ length text.now }
-        ensures none { NoneBegins text.now self.now at result }
-        ensures after { at ≤ result }
-        ensures within { result ≤ length text.now }
+        ensures none { NoneBegins text.now self.now at result.from }
+        ensures state { result.state ≡ 0 }
+        ensures place { result.place ≡ result.from }
+        ensures after { at ≤ result.from }
+        ensures within { result.from ≤ length text.now }
     {
-        if self.start >= SURE {
-            return at;
+        let Some(stride) = &self.stride else {
+            return Sight {
+                from: at,
+                place: at,
+                state: 0,
+                ahead: text.len(),
+            };
+        };
+        let next = stride.next(text, at);
+        if next == text.len() {
+            return Sight {
+                from: next,
+                place: next,
+                state: 0,
+                ahead: next,
+            };
         }
-        let mut place = at;
-        while place < text.len() && !self.may_begin_by(text[place]) {
-            place += 1;
+        let gap = stride.gap(self.takes.as_slice(), text, at, next);
+        Sight {
+            from: gap,
+            place: gap,
+            state: 0,
+            ahead: next + 1,
         }
-        place
     }
 
     /// The spots that may be tried at a place: those of the state, and those of the start, if a run may begin there.
@@ -208,42 +259,41 @@ impl Scan {
         state | self.start
     }
 
-    /// The same, but where no spot may be tried, places are passed over by whose byte no run may begin, if that is worth while.
+    /// Whether no spot may be tried, and a stride is worth while.
+    fn is_due(&self, sight: Sight) -> bool
+        ensures { result ≡ true → sight.state ≡ 0 }
+    {
+        self.stride.is_some() && sight.state == 0 && sight.place >= sight.ahead
+    }
+
+    /// The same, or after a stride, if one is worth while.
+    #[inline(always)]
     fn rested(&self, text: &[u8], sight: Sight) -> Sight
         requires { sight.place ≤ length text.now }
         ensures looked { (at : ℕ) → Looked text.now self.now at sight → Looked text.now self.now at result }
         ensures after { sight.place ≤ result.place }
         ensures within { result.place ≤ length text.now }
     {
-        let Sight { from, place, state } = sight;
-        if self.strides && state == 0 {
-            let next = self.stride(text, place);
-            return Sight {
-                from: next,
-                place: next,
-                state,
-            };
-        }
-        let least = if state == 0 { place } else { from };
-        Sight {
-            from: least,
-            place,
-            state,
+        if self.is_due(sight) {
+            self.strode(text, sight.place)
+        } else {
+            sight
         }
     }
 
-    /// Goes on by shifts, up to a byte that an odd spot takes, or that may begin a character beyond ASCII.
+    /// Goes on by shifts, up to a byte that an odd spot takes, or that may begin a character beyond ASCII, or to where a stride is
+    /// worth while.
     fn glide(&self, text: &[u8], begin: Sight) -> Sight
         requires { begin.place ≤ length text.now }
         ensures looked { (at : ℕ) → Looked text.now self.now at begin → Looked text.now self.now at result }
         ensures after { begin.place ≤ result.place }
         ensures within { result.place ≤ length text.now }
     {
-        let mut sight = self.rested(text, begin);
+        let mut sight = begin.settled();
         if self.first_look.is_some() || self.start >= SURE {
             return sight;
         }
-        while sight.place < text.len() {
+        while sight.place < text.len() && !self.is_due(sight) {
             let shift = self.shifts[text[sight.place] as usize];
             if (sight.state | self.start) & shift.odd != 0 {
                 return sight;
@@ -252,8 +302,9 @@ impl Scan {
                 from: sight.from,
                 place: sight.place + 1,
                 state: shift.after(sight.state),
+                ahead: sight.ahead,
             };
-            sight = self.rested(text, next);
+            sight = next.settled();
         }
         sight
     }
@@ -269,10 +320,16 @@ impl Scan {
             from: at,
             place: at,
             state: 0,
+            ahead: at,
         };
-        let mut sight = self.glide(text, begin);
+        let mut sight = self.glide(text, self.rested(text, begin));
         while sight.place < text.len() {
-            let Sight { from, place, state } = sight;
+            let Sight {
+                from,
+                place,
+                state,
+                ahead,
+            } = sight;
             let tried = self.tried(state, text, place);
             let byte = text[place];
             if byte >= 128 && tried & self.wide != 0 {
@@ -290,8 +347,9 @@ impl Scan {
                 from,
                 place: until,
                 state: next,
+                ahead,
             };
-            sight = self.glide(text, on);
+            sight = self.glide(text, self.rested(text, on));
         }
         if self.may_be_empty(text, sight.place) {
             return Some(Candidate {

@@ -1,5 +1,6 @@
 -- What a filter has looked at of a text.
-use Rattle.std.proofs.Common.{◌≡◌, ℕ, suc, ◌+◌, ◌*◌, ◌/◌, ◌%◌, ◌^◌, ◌<◌, ◌≤◌, Bool, true, false, ◌⊎◌, inl, inr, List, [], Option, length, slice_index, slice_index_or, bit_and, refl, sym, subst, arith}
+use Rattle.std.proofs.Common.{◌≡◌, ℕ, zero, suc, ◌+◌, ◌-◌, ◌*◌, ◌/◌, ◌%◌, ◌^◌, ◌<◌, ◌≤◌, Bool, true, false, ◌⊎◌, inl, inr, List, [], Option, Some, length, slice_index, slice_index_or, bit_and, refl, sym, subst, arith}
+use Rattle.std.specs.Prelude.{IfSome}
 use Rattle.std.proofs.lemmas.Bool.{cases_lt}
 use Rattle.std.proofs.lemmas.Nat.{pow_below}
 use Rattle.std.proofs.lemmas.Nat.Bits.{bit_at-pow_same}
@@ -7,12 +8,14 @@ use Rattle.std.proofs.lemmas.Option.{slice_get_read, get_or_from_slice_get}
 use Rattle.hir_tree.specs.declared.look.Look.{Look}
 use Rattle.hir_core.specs.Program.{Way, gives, rank, spot_at}
 use Rattle.hir_core.specs.Masks.{HasBit, IsPart, match_bit, sure_bit, row_place, next_of, is_wide, Covers, IsMoved, IsDead, AreDead, NoRun}
-use Rattle.hir_core.specs.Scan.{IsFilterOf, Looked, NoEnd, NoneBegins}
+use Rattle.hir_core.specs.Scan.{IsCut, IsFilterOf, IsPassedOver, Looked, NoEnd, NoneBegins, TellsStops, stops_at}
 use Rattle.hir_core.specs.declared.spot.Spot.{Spot}
 use Rattle.hir_core.specs.declared.scan.Scan.{Scan}
 use Rattle.hir_core.specs.declared.scan.Sight.{Sight}
-use Rattle.hir_core.proofs.scan.bits.MaskLemmas.{HasBit-none, HasBit-above, HasBit-and, HasBit-eight}
-use Rattle.hir_core.proofs.scan.reach.DeadLemmas.{AreDead-none, Covers-part, IsDead-taker, spot_size-within, one_byte, NoRun-dead}
+use Rattle.hir_core.specs.declared.scan.cut.Cut.{Cut}
+use Rattle.hir_core.specs.declared.scan.stride.Stride.{Stride}
+use Rattle.hir_core.proofs.scan.bits.MaskLemmas.{HasBit-none, HasBit-above, HasBit-and, HasBit-apart, HasBit-eight}
+use Rattle.hir_core.proofs.scan.reach.DeadLemmas.{AreDead-none, AreDead-part, Covers-part, IsDead-taker, spot_size-within, one_byte, NoRun-dead}
 
 -- the mask covers what comes after each spot that is live
 abbrev pub CoversAfter : Scan → ℕ → ℕ → Type 0
@@ -69,6 +72,10 @@ Steps-read text s place state tried next read more within byte kept begun narrow
       narrow = narrow;
       follows = subst (λ (live : ℕ). CoversAfter s (bit_and tried live) next) takes follows;
     }
+
+-- no match ends where there is no bit for it
+pub NoEnd-small : (text : List ℕ) (at : ℕ) (look : Option Look) (mask : ℕ) → mask < 2 ^ 62 → NoEnd text at look mask
+NoEnd-small text at look mask small = (HasBit-above mask sure_bit small, λ has. absurd (HasBit-above mask match_bit (omega (arith, small)) has))
 
 module _ (text : List ℕ) (spots : List Spot) (s : Scan) (filter : IsFilterOf spots s) where
   -- at the end of the text each spot that takes bytes is dead
@@ -129,23 +136,87 @@ module _ (text : List ℕ) (spots : List Spot) (s : Scan) (filter : IsFilterOf s
       byte : ℕ
       byte = slice_index text place
 
+  module _ (c : Cut) (cut : IsCut spots s.of.items s.last_look s.start c) where
+    -- the spots before the cut are dead where it is passed over, if they are at the next place
+    AreDead-passed : (place : ℕ) → slice_index text place < 256 → IsPassedOver s.takes.items s.wide c (slice_index text place)
+        → AreDead text spots s.of.items s.last_look (place + 1) c.before → AreDead text spots s.of.items s.last_look place c.before
+    AreDead-passed place small passed later = record {
+      unmatched = none.0;
+      asked = none.1;
+      dead = λ i lt has.
+          IsDead-taker text spots place (slice_index s.of.items i) (taker i) refl (filter.takers i lt)
+          (λ k sized.
+          let one = one_byte text spots (taker i) place k (narrow_at byte c.before passed.1 i lt has) sized in
+          let taken : HasBit (slice_index s.takes.items byte) i = filter.takes i byte lt small one.1 in
+          subst (λ (j : ℕ). IsDead text spots (place + j) (next_of (taker i))) (sym one.0)
+          (cut.follows i lt has (λ in_cut. HasBit-apart (slice_index s.takes.items byte) c.spots i passed.0 taken in_cut) text (place + 1) later));
+    }
+      where
+        byte : ℕ
+        byte = slice_index text place
+
+        none : NoEnd text place s.last_look c.before
+        none = NoEnd-small text place s.last_look c.before cut.unmatched
+
+    -- so they are from a place on where it is passed over at so many
+    AreDead-stride : (count place : ℕ) → ((q : ℕ) → slice_index text q < 256)
+        → ((q : ℕ) → place ≤ q → q < place + count → IsPassedOver s.takes.items s.wide c (slice_index text q))
+        → AreDead text spots s.of.items s.last_look (place + count) c.before → AreDead text spots s.of.items s.last_look place c.before
+    AreDead-stride zero place small passed later =
+        subst (λ (p : ℕ). AreDead text spots s.of.items s.last_look p c.before) (let here : place + 0 ≡ place = omega arith in here) later
+    AreDead-stride (suc count) place small passed later =
+        AreDead-passed place (small place) (passed place (omega arith) (omega arith))
+        (AreDead-stride count (place + 1) small (λ q low high. passed q (omega arith) (omega arith))
+        (subst (λ (p : ℕ). AreDead text spots s.of.items s.last_look p c.before)
+        (let there : place + suc count ≡ place + 1 + count = omega arith in there) later))
+
+    -- no run begins before a place, and none there, where the spots before the cut are dead
+    IsDead-stride : (at end q : ℕ) → ((p : ℕ) → slice_index text p < 256)
+        → ((p : ℕ) → at ≤ p → p < end → IsPassedOver s.takes.items s.wide c (slice_index text p))
+        → AreDead text spots s.of.items s.last_look end c.before → at ≤ q → q ≤ end → IsDead text spots q 0
+    IsDead-stride at end q small passed later low high =
+        filter.start text q
+        (AreDead-part text spots s.of.items s.last_look q s.start c.before cut.begun
+        (AreDead-stride (end - q) q small (λ p from until. passed p (omega arith) (omega arith))
+        (subst (λ (p : ℕ). AreDead text spots s.of.items s.last_look p c.before) (let there : end ≡ q + (end - q) = omega arith in there) later)))
+
 -- a dead spot gives nothing
 pub gives-dead : (text : List ℕ) (spots : List Spot) (at q : ℕ) (w : Way) → w.run.at ≡ at → IsDead text spots at q → gives text spots q w ≡ []
 unfolding gives
 gives-dead text spots at q w here dead = dead (suc (rank text spots q w)) w here
 
--- no match ends where there is no bit for it
-pub NoEnd-small : (text : List ℕ) (at : ℕ) (look : Option Look) (mask : ℕ) → mask < 2 ^ 62 → NoEnd text at look mask
-NoEnd-small text at look mask small = (HasBit-above mask sure_bit small, λ has. absurd (HasBit-above mask match_bit (omega (arith, small)) has))
-
 module _ (text : List ℕ) (s : Scan) where
-  -- no run begins by a byte that no spot of the start takes
-  pub NoneBegins-by : (place : ℕ) → place < length text → slice_index text place < 256 → s.start < 2 ^ 62
-      → (slice_index text place < 128) ⊎ (bit_and s.start s.wide ≡ 0) → bit_and s.start (slice_index s.takes.items (slice_index text place)) ≡ 0
-      → NoneBegins text s place (place + 1)
-  NoneBegins-by place more byte small narrow nothing spots filter q low high =
-      subst (λ (p : ℕ). IsDead text spots p 0) (let here : place ≡ q = omega arith in here)
-      (filter.start text place (AreDead-by text spots s filter place s.start byte (NoEnd-small text place s.last_look s.start small) narrow nothing))
+  module _ (k : Stride) (is : s.stride ≡ Some k) (small : (p : ℕ) → slice_index text p < 256) (at next : ℕ)
+      (passed : (p : ℕ) → at ≤ p → p < next → stops_at k.stops (slice_index text p) ≡ false) where
+    -- what the filter says of the stride
+    said : (spots : List Spot) → IsFilterOf spots s
+        → IsCut spots s.of.items s.last_look s.start k.cut × TellsStops s.takes.items s.wide k.cut k.stops
+    said spots filter =
+        subst
+        (λ (o : Option Stride). IfSome o (λ j. IsCut spots s.of.items s.last_look s.start j.cut × TellsStops s.takes.items s.wide j.cut j.stops))
+        is filter.stride
+
+    -- no run begins where a stride comes to the end of the text
+    pub NoneBegins-end : length text ≤ next → NoneBegins text s at next
+    NoneBegins-end over spots filter q low high =
+        let is_cut = (said spots filter).0 in
+        IsDead-stride text spots s filter k.cut is_cut at next q small
+        (λ p from until. (said spots filter).1 (slice_index text p) (small p) (passed p from until))
+        (AreDead-end text spots s filter k.cut.before next over (NoEnd-small text next s.last_look k.cut.before is_cut.unmatched)) low (omega arith)
+
+    -- nor before a byte that no spot before the cut takes
+    pub NoneBegins-gap : (gap : ℕ) → (gap ≡ at) ⊎ (bit_and k.cut.before (slice_index s.takes.items (slice_index text (gap - 1))) ≡ 0)
+        → gap ≤ next → NoneBegins text s at gap
+    NoneBegins-gap gap none within spots filter q low high = elim none [
+      | inl here ↦ absurd (omega arith)
+      | inr nothing ↦
+          let is_cut = (said spots filter).0 in
+          let passes = λ (p : ℕ) (from : at ≤ p) (until : p < next). (said spots filter).1 (slice_index text p) (small p) (passed p from until) in
+          IsDead-stride text spots s filter k.cut is_cut at (gap - 1) q small (λ p from until. passes p from (omega arith))
+          (AreDead-by text spots s filter (gap - 1) k.cut.before (small (gap - 1))
+          (NoEnd-small text (gap - 1) s.last_look k.cut.before is_cut.unmatched) (passes (gap - 1) (omega arith) (omega arith)).1 nothing)
+          low (omega arith)
+    ]
 
   -- no way goes on from a spot where none of its mask takes the byte
   pub IsDead-by : (q place mask : ℕ) → q < length s.firsts.items → mask ≡ slice_index s.firsts.items q → slice_index text place < 256
@@ -167,14 +238,14 @@ module _ (text : List ℕ) (s : Scan) where
   NoneBegins-more from mid until before after spots filter q low high =
       elim (cases_lt q mid) [ inl left ↦ before spots filter q low left | inr right ↦ after spots filter q right high ]
 
--- how far the filter has looked
-abbrev pub sight : ℕ → ℕ → ℕ → Sight
-sight from place state = record { from = from; place = place; state = state }
+-- how far the filter has looked, and where the next stride is worth while
+abbrev pub sight : ℕ → ℕ → ℕ → ℕ → Sight
+sight from place state ahead = record { from = from; place = place; state = state; ahead = ahead }
 
 module _ (text : List ℕ) (s : Scan) (at : ℕ) where
   -- at first nothing was looked at
-  pub Looked-begin : at ≤ length text → Looked text s at (sight at at 0)
-  Looked-begin within = record {
+  pub Looked-begin : (ahead : ℕ) → at ≤ length text → Looked text s at (sight at at 0 ahead)
+  Looked-begin ahead within = record {
     after = omega arith;
     before = omega arith;
     within = within;
@@ -184,10 +255,10 @@ module _ (text : List ℕ) (s : Scan) (at : ℕ) where
   }
 
   -- a byte more, at a place where no match without a byte is
-  pub Looked-next : (from place state tried next : ℕ) → NoEnd text place s.last_look s.start ⊎ NoneBegins text s place (place + 1)
-      → NoEnd text (place + 1) s.last_look next → Looked text s at (sight from place state) → Steps text s place state tried next
-      → Looked text s at (sight from (place + 1) next)
-  Looked-next from place state tried next empty none h steps = record {
+  pub Looked-next : (from place state tried next ahead : ℕ) → NoEnd text place s.last_look s.start ⊎ NoneBegins text s place (place + 1)
+      → NoEnd text (place + 1) s.last_look next → Looked text s at (sight from place state ahead) → Steps text s place state tried next
+      → Looked text s at (sight from (place + 1) next ahead)
+  Looked-next from place state tried next ahead empty none h steps = record {
     after = h.after;
     before = omega (arith, h.before);
     within = omega (arith, steps.more);
@@ -210,14 +281,14 @@ module _ (text : List ℕ) (s : Scan) (at : ℕ) where
       ]
 
   -- a byte more, by a shift
-  pub Looked-shift : (from place state tried next : ℕ) → s.start < 2 ^ 62 → next < 2 ^ 62 → Looked text s at (sight from place state)
-      → Steps text s place state tried next → Looked text s at (sight from (place + 1) next)
-  Looked-shift from place state tried next low small h steps =
-      Looked-next from place state tried next (inl (NoEnd-small text place s.last_look s.start low)) (NoEnd-small text (place + 1) s.last_look next small) h steps
+  pub Looked-shift : (from place state tried next ahead : ℕ) → s.start < 2 ^ 62 → next < 2 ^ 62 → Looked text s at (sight from place state ahead)
+      → Steps text s place state tried next → Looked text s at (sight from (place + 1) next ahead)
+  Looked-shift from place state tried next ahead low small h steps =
+      Looked-next from place state tried next ahead (inl (NoEnd-small text place s.last_look s.start low)) (NoEnd-small text (place + 1) s.last_look next small) h steps
 
   -- where no spot may be tried, all before is over
-  pub Looked-over : (from place : ℕ) → Looked text s at (sight from place 0) → Looked text s at (sight place place 0)
-  Looked-over from place h = record {
+  pub Looked-over : (from place ahead : ℕ) → Looked text s at (sight from place 0 ahead) → Looked text s at (sight place place 0 ahead)
+  Looked-over from place ahead h = record {
     after = omega (arith, h.after, h.before);
     before = omega arith;
     within = h.within;
@@ -230,14 +301,17 @@ module _ (text : List ℕ) (s : Scan) (at : ℕ) where
   }
 
   -- places are passed over that begin no run
-  pub Looked-stride : (from to : ℕ) → NoneBegins text s from to → from ≤ to → to ≤ length text → Looked text s at (sight from from 0)
-      → Looked text s at (sight to to 0)
-  Looked-stride from to none forward end h = record {
+  pub Looked-stride : (from ahead : ℕ) (k : Sight) → NoneBegins text s from k.from → from ≤ k.from → k.from ≤ length text → k.place ≡ k.from → k.state ≡ 0
+      → Looked text s at (sight from from 0 ahead) → Looked text s at k
+  Looked-stride from ahead k none forward end here rests h = record {
     after = omega (arith, h.after, forward);
     before = omega arith;
-    within = end;
-    unmatched = (HasBit-none sure_bit, λ has. absurd (HasBit-none match_bit has));
-    quiet = NoneBegins-more text s at from to h.quiet none;
+    within = omega arith;
+    unmatched = (
+      λ has. HasBit-none sure_bit (subst (λ (m : ℕ). HasBit m sure_bit) rests has),
+      λ has. absurd (HasBit-none match_bit (subst (λ (m : ℕ). HasBit m match_bit) rests has)),
+    );
+    quiet = NoneBegins-more text s at from k.from h.quiet none;
     held = λ spots filter dead q low high. absurd (omega arith);
   }
 
@@ -246,9 +320,9 @@ module _ (text : List ℕ) (s : Scan) (at : ℕ) where
   Looked-quiet k h spots filter = NoRun-dead text spots at k.from (h.quiet spots filter)
 
   -- at the end of the text, where no match without a byte is, no run begins at all
-  pub Looked-end : (from place state : ℕ) → NoEnd text place s.last_look s.start ⊎ NoneBegins text s place (place + 1) → length text ≤ place
-      → Looked text s at (sight from place state) → (spots : List Spot) → IsFilterOf spots s → NoRun text spots at (length text + 1)
-  Looked-end from place state empty over h spots filter =
+  pub Looked-end : (from place state ahead : ℕ) → NoEnd text place s.last_look s.start ⊎ NoneBegins text s place (place + 1) → length text ≤ place
+      → Looked text s at (sight from place state ahead) → (spots : List Spot) → IsFilterOf spots s → NoRun text spots at (length text + 1)
+  Looked-end from place state ahead empty over h spots filter =
       NoRun-dead text spots at (length text + 1)
       (λ q low high. elim (cases_lt q from) [
         | inl before ↦ h.quiet spots filter q low before

@@ -158,16 +158,3 @@ pub fn wide(spots: &[Spot], of: &[usize]) -> u64
     }
     mask
 }
-
-/// Whether the spots of a mask take few of the bytes that are frequent in texts. It is a guess, which changes the time alone.
-pub fn is_rare(takes: &[u64], mask: u64) -> bool
-    requires { length takes.now ≡ 256 }
-{
-    let mut frequent: usize = 0;
-    for letter in b'a'..=b'z' {
-        if takes[letter as usize] & mask != 0 {
-            frequent = frequent.saturating_add(1);
-        }
-    }
-    frequent < 3 && takes[b' ' as usize] & mask == 0
-}

@@ -1,4 +1,4 @@
-use Rattle.std.proofs.Common.{List, ◌∷◌, ◌++◌, length, Some, refl, sym, ap, ap₂, ◌∙◌, subst, arith}
+use Rattle.std.proofs.Common.{List, ◌∷◌, ◌++◌, Some, refl, sym, ap₂, ◌∙◌, subst, arith}
 use Rattle.std.specs.Option.{option_or}
 use Rattle.hir_core.specs.Blocks.{KeepsMarks}
 use Rattle.hir_core.specs.Program.{Way}

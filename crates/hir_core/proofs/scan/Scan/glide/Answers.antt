@@ -35,8 +35,18 @@ loop-sight-preserved c =
     let small : next < 2 ^ 62 = c.after.ensures.few shift.few_on shift.few_stay in
     record {
       looked = λ at h.
-          c.rested-sight-in-loop-sight.ensures.looked at
-          (Looked-shift text filter at from place state tried next c.if-self-ge-SURE.false small (c.loop-sight.invariant.looked at h) steps);
-      after = omega (arith, c.loop-sight.invariant.after, c.rested-sight-in-loop-sight.ensures.after);
-      within = c.rested-sight-in-loop-sight.ensures.within;
+          c.settled-sight-in-loop-sight.ensures.looked text filter at
+          (Looked-shift text filter at from place state tried next c.loop-sight.sight.ahead c.if-self-ge-SURE.false small (c.loop-sight.invariant.looked at h) steps);
+      after = omega (arith, c.loop-sight.invariant.after, c.settled-sight-in-loop-sight.ensures.place);
+      within = omega (arith, c.settled-sight-in-loop-sight.ensures.place);
     }
+
+pub returns-then-is_some-clause-looked : goal.returns-then-is_some-clause-looked
+returns-then-is_some-clause-looked c at h = c.settled-sight.ensures.looked c.args.text.now c.args.self.now at h
+
+pub loop-sight-init : goal.loop-sight-init
+loop-sight-init c = record {
+  looked = λ at h. c.settled-sight.ensures.looked c.args.text.now c.args.self.now at h;
+  after = omega (arith, c.settled-sight.ensures.place);
+  within = omega (arith, c.settled-sight.ensures.place, c.requires);
+}

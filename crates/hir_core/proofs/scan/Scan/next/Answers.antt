@@ -5,7 +5,9 @@ use Rattle.hir_core.proofs.scan.Scan.next.Goals as goal
 use Rattle.hir_core.proofs.scan.Scan.next.Goals.{else-byte-ge128-via-then-byte-ge128+else-tried-self-ne0, else-byte-ge128-via-else-byte-ge128}
 
 pub loop-sight-init : goal.loop-sight-init
-loop-sight-init c = c.glide-sight.ensures.looked c.args.at (Looked-begin c.args.text.now c.args.self.now c.args.at c.requires)
+loop-sight-init c =
+    c.glide-sight.ensures.looked c.args.at
+    (c.rested.ensures.looked c.args.at (Looked-begin c.args.text.now c.args.self.now c.args.at c.args.at c.requires))
 
 pub returns-then-tried-self-ne0-clause-some : goal.returns-then-tried-self-ne0-clause-some
 returns-then-tried-self-ne0-clause-some c = Looked-quiet c.args.text.now c.args.self.now c.args.at c.loop-sight.sight c.loop-sight.invariant
@@ -43,9 +45,11 @@ loop-sight-preserved c =
     Steps-read text filter place state tried next read c.loop-sight-test.true (omega arith) byte c.tried-tried.ensures.kept c.tried-tried.ensures.begun narrow
     c.index.ensures follows in
     c.glide-sight-in-loop-sight.ensures.looked c.args.at
-    (Looked-next text filter c.args.at from place state tried next (c.if-may_be_empty.ensures refl) (c.if-may_end.ensures refl) c.loop-sight.invariant steps)
+    (c.rested-in-loop-sight.ensures.looked c.args.at
+    (Looked-next text filter c.args.at from place state tried next c.loop-sight.sight.ahead (c.if-may_be_empty.ensures refl) (c.if-may_end.ensures refl)
+    c.loop-sight.invariant steps))
 
 pub returns-clause-none : goal.returns-clause-none
 returns-clause-none c =
-    Looked-end c.args.text.now c.args.self.now c.args.at c.loop-sight.sight.from c.loop-sight.sight.place c.loop-sight.sight.state (c.if-may_be_empty-2.ensures refl)
+    Looked-end c.args.text.now c.args.self.now c.args.at c.loop-sight.sight.from c.loop-sight.sight.place c.loop-sight.sight.state c.loop-sight.sight.ahead (c.if-may_be_empty-2.ensures refl)
     c.loop-sight-test.false c.loop-sight.invariant
