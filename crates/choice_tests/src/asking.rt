@@ -5,8 +5,9 @@
 use crate::disks::{Nodes, fill_all};
 use chosen_files::{Choice, ChoiceFault, GlobsError, choose_capped, read_globs};
 use glob_match::Glob;
+use mem_io::MemDisk;
 use sd_base::Text;
-use sd_edge::{Globs, MemDisk};
+use sd_io::Globs;
 use std::alloc::Global;
 use std::test::Fail;
 

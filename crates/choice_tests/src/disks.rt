@@ -1,6 +1,6 @@
 //! What stands on the disks.
 
-use sd_edge::{BuildFault, MemDisk};
+use mem_io::{BuildFault, MemDisk};
 use std::test::Fail;
 
 /// What stands at a path: a folder, a file with its bytes and its mode, a link with its target, or a node of another kind.

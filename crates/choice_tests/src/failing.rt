@@ -2,7 +2,7 @@
 
 use crate::asking::{chooses, chosen};
 use crate::disks::{Node, Nodes, fill};
-use sd_edge::MemDisk;
+use mem_io::MemDisk;
 use std::alloc::Global;
 use std::test::Fail;
 

@@ -3,7 +3,8 @@
 use crate::asking::{gives, globs_of, read};
 use crate::disks::{add_file, add_folder};
 use chosen_files::GlobsError;
-use sd_edge::{Globs, MemDisk};
+use mem_io::MemDisk;
+use sd_io::Globs;
 use std::alloc::Global;
 use std::test::Fail;
 

@@ -2,7 +2,7 @@
 
 use crate::asking::{Case, first_wrong, first_wrong_on};
 use crate::disks::{EACH_KIND, Node, Nodes, fill};
-use sd_edge::MemDisk;
+use mem_io::MemDisk;
 use std::alloc::Global;
 use std::test::Fail;
 

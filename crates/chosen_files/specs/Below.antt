@@ -1,8 +1,8 @@
 -- How many entries lie below a root.
 use Rattle.std.specs.Prelude.{◌≡◌, ◌≢◌, ◌<◌, ◌≤◌, ℕ, List, [], ◌++◌, length, All, true, Some, IsSome}
 use Rattle.std.specs.List.Sorted.{IsStrictlySortedBy}
-use Rattle.sd_edge.specs.Tree.{NameList, Tree, name_list_cmp, node_at}
-use Rattle.sd_edge.specs.Paths.{reached}
+use Rattle.sd_io.specs.Tree.{NameList, Tree, name_list_cmp, node_at}
+use Rattle.sd_io.specs.Paths.{reached}
 use Rattle.chosen_files.specs.Chosen.{IsListOf}
 
 -- something stands properly below a top

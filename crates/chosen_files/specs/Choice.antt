@@ -1,10 +1,10 @@
 -- How a choice of files ends.
 use Rattle.std.specs.Prelude.{◌≡◌, ◌+◌, ◌<◌, ◌≤◌, ℕ, max, IsTrue, true, List, map, IsSome, ⊤}
-use Rattle.sd_edge.specs.Disk.{DiskState}
-use Rattle.sd_edge.specs.Files.{LeadsNowhere, path_text}
-use Rattle.sd_edge.specs.Lists.{IsOpen}
-use Rattle.sd_edge.specs.Paths.{reached}
-use Rattle.sd_edge.specs.Tree.{NameList, Tree}
+use Rattle.sd_io.specs.Disk.{DiskState}
+use Rattle.sd_io.specs.Files.{LeadsNowhere, path_text}
+use Rattle.sd_io.specs.Lists.{IsOpen}
+use Rattle.sd_io.specs.Paths.{reached}
+use Rattle.sd_io.specs.Tree.{NameList, Tree}
 use Rattle.sd_course.specs.Course.{Course, AsTold, DiskFailed}
 use Rattle.walk_rest.specs.declared.entry.DirEntry.{DirEntry}
 use Rattle.walk_rest.specs.declared.error.Error.{Error}

@@ -2,8 +2,8 @@
 use Rattle.std.specs.Prelude.{◌≡◌, ◌≢◌, ◌↔◌, ℕ, List, [], ◌++◌, map, Some, true, Contains}
 use Rattle.std.specs.List.{join_with_byte}
 use Rattle.std.specs.List.Sorted.{IsStrictlySortedBy}
-use Rattle.sd_edge.specs.Tree.{NameList, Tree, IsNonemptyFile, name_list_cmp}
-use Rattle.sd_edge.specs.Paths.{reached}
+use Rattle.sd_io.specs.Tree.{NameList, Tree, IsNonemptyFile, name_list_cmp}
+use Rattle.sd_io.specs.Paths.{reached}
 use Rattle.walk_rest.specs.Plan.{path_below}
 use Rattle.chosen_files.specs.Globs.{FitsAny}
 

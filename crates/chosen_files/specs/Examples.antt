@@ -1,7 +1,7 @@
 -- A small tree, and what a walk of one of its directories gives, for the worked examples.
 use Rattle.std.specs.Prelude.{List, [], ◌∷◌, codes}
-use Rattle.sd_edge.specs.Tree.{NameList, directory, link, file, Node}
-use Rattle.sd_edge.specs.declared.meta.Kind.TheVariants as kind
+use Rattle.sd_io.specs.Tree.{NameList, directory, link, file, Node}
+use Rattle.sd_io.specs.declared.meta.Kind.TheVariants as kind
 use Rattle.walk_rest.specs.Examples.{entry, item}
 use Rattle.walk_rest.specs.Plan.{Item}
 

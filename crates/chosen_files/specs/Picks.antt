@@ -1,9 +1,9 @@
 -- What a walk of a place gives, and which of its entries are those of chosen files.
 use Rattle.std.specs.Prelude.{◌≡◌, ◌<◌, ◌≤◌, ◌+◌, ◌⊎◌, ℕ, false, true, List, [], ◌∷◌, ◌++◌, length, Some, IsSome, Ok, Err}
-use Rattle.sd_edge.specs.Tree.{NameList, Node, Tree, node_at}
-use Rattle.sd_edge.specs.Paths.{reached}
-use Rattle.sd_edge.specs.Files.{kind_of, len_of, path_text}
-use Rattle.sd_edge.specs.declared.meta.Kind.TheVariants as kind
+use Rattle.sd_io.specs.Tree.{NameList, Node, Tree, node_at}
+use Rattle.sd_io.specs.Paths.{reached}
+use Rattle.sd_io.specs.Files.{kind_of, len_of, path_text}
+use Rattle.sd_io.specs.declared.meta.Kind.TheVariants as kind
 use Rattle.walk_rest.specs.declared.entry.DirEntry.{DirEntry}
 use Rattle.walk_rest.specs.declared.options.Options.{Options}
 use Rattle.walk_rest.specs.Plan.{Item, path_below, node_to}

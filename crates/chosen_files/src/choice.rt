@@ -1,9 +1,9 @@
 //! The choice of the files that a command on a tree works on.
 
 ghost use Rattle.std.specs.Prelude.{◌≡◌, ◌≢◌, ◌↔◌, ◌<◌, ◌≤◌, ℕ, List, map, true, IsTrue, IsSome, IfOk, IfErr, OnOk, MatchOption, All};
-ghost use Rattle.sd_edge.specs.Disk.{SameLists, SameTree};
-ghost use Rattle.sd_edge.specs.Files.{Resolves};
-ghost use Rattle.sd_edge.specs.Paths.{reached};
+ghost use Rattle.sd_io.specs.Disk.{SameLists, SameTree};
+ghost use Rattle.sd_io.specs.Files.{Resolves};
+ghost use Rattle.sd_io.specs.Paths.{reached};
 ghost use Rattle.sd_course.specs.Course.{course, DiskFailed};
 ghost use Rattle.walk_rest.specs.Plan.{path_below};
 ghost use Rattle.walkdir.specs.Collect.{entry_item};
@@ -16,7 +16,7 @@ ghost use Rattle.chosen_files.specs.Picks.{IsPicked, Picks};
 
 use crate::ChoiceFault;
 use glob_match::Glob;
-use sd_edge::{Disk, DiskFault, NoMemory, Text};
+use sd_io::{Disk, DiskFault, NoMemory, Text};
 use std::alloc::Global;
 use walkdir::{DirEntry, Error, WalkDir};
 

@@ -1,9 +1,9 @@
 //! Worked examples of walks, of what is picked of them, and of why nothing is chosen.
 
 ghost use Rattle.std.specs.Prelude.{◌≡◌, ◌≤◌, ◌+◌, ℕ, List, [], ◌∷◌, codes, true, false, None};
-ghost use Rattle.sd_edge.specs.Disk.{DiskState};
-ghost use Rattle.sd_edge.specs.Lists.{IsOpen};
-ghost use Rattle.sd_edge.specs.declared.meta.Kind.TheVariants as kind;
+ghost use Rattle.sd_io.specs.Disk.{DiskState};
+ghost use Rattle.sd_io.specs.Lists.{IsOpen};
+ghost use Rattle.sd_io.specs.declared.meta.Kind.TheVariants as kind;
 ghost use Rattle.sd_course.specs.Course.{course, DiskFailed};
 ghost use Rattle.walk_rest.specs.Examples.{tree_with, item};
 ghost use Rattle.walk_rest.specs.Listing.{first_options};

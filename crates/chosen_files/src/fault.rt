@@ -4,7 +4,7 @@ ghost use Rattle.std.specs.Prelude.{◌≡◌};
 ghost use Rattle.chosen_files.specs.declared.fault.ChoiceFault.TheVariants as choice_fault;
 ghost use Rattle.chosen_files.specs.Choice.{fault_of};
 
-use sd_edge::NoMemory;
+use sd_io::NoMemory;
 use std::alloc::{AllocError, AllocFailed};
 use thiserror::Error;
 use walkdir::Error as WalkError;

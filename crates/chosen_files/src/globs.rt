@@ -5,7 +5,7 @@ ghost use Rattle.chosen_files.specs.declared.globs.GlobsError.TheVariants as glo
 ghost use Rattle.chosen_files.specs.Globs.{IsValid, IsFirstInvalid};
 
 use glob_match::Glob;
-use sd_edge::{Globs, NoMemory};
+use sd_io::{Globs, NoMemory};
 use std::alloc::{AllocFailed, Global};
 use thiserror::Error;
 

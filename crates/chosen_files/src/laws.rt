@@ -1,9 +1,9 @@
 //! Laws of what a walk lists, and of what is chosen of it.
 
 ghost use Rattle.std.specs.Prelude.{◌≡◌, ℕ, Bool, List, [], map, None, Some, true, false};
-ghost use Rattle.sd_edge.specs.Tree.{NameList, Tree, IsTree, is_directory_at};
-ghost use Rattle.sd_edge.specs.Paths.{reached};
-ghost use Rattle.sd_edge.specs.Files.{path_text};
+ghost use Rattle.sd_io.specs.Tree.{NameList, Tree, IsTree, is_directory_at};
+ghost use Rattle.sd_io.specs.Paths.{reached};
+ghost use Rattle.sd_io.specs.Files.{path_text};
 ghost use Rattle.walk_rest.specs.declared.options.Options.{Options};
 ghost use Rattle.walk_rest.specs.Plan.{Comparison, Item};
 ghost use Rattle.walk_rest.specs.Listing.{IsListing};

@@ -1,8 +1,9 @@
 //! What a crash leaves of a run, and of a disk in memory.
 
+use mem_io::{MemDisk, MemSink, MemSource};
 use sd_base::Words;
 use sd_core::run;
-use sd_edge::{Disk, Kind, MemDisk, MemSink, MemSource, RawEntry};
+use sd_io::{Disk, Kind, RawEntry};
 use std::alloc::Global;
 use std::process::Abort;
 use std::test::Fail;

@@ -1,7 +1,8 @@
 //! The tree of a demo.
 
 use demo_tree::demo_disk;
-use sd_edge::{Disk, Kind, MemDisk};
+use mem_io::MemDisk;
+use sd_io::{Disk, Kind};
 use std::alloc::Global;
 use std::test::Fail;
 

@@ -1,7 +1,7 @@
 -- A demo's tree while it is built.
 use Rattle.std.specs.Prelude.{◌≡◌, ◌≢◌, ℕ, Some}
-use Rattle.sd_edge.specs.Tree.{NameList, Tree, directory}
-use Rattle.sd_edge.specs.Outcomes.{content_at}
+use Rattle.sd_io.specs.Tree.{NameList, Tree, directory}
+use Rattle.sd_io.specs.Outcomes.{content_at}
 use Rattle.demo_tree.specs.Demo.{demo_folder, demo_content}
 
 -- the folder of the next file is there, and everything else as in a demo of this number

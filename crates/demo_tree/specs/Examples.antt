@@ -1,6 +1,6 @@
 -- What worked examples speak of.
 use Rattle.std.specs.Prelude.{ℕ, List, map}
-use Rattle.sd_edge.specs.Tree.{NameList}
+use Rattle.sd_io.specs.Tree.{NameList}
 use Rattle.demo_tree.specs.Demo.{DemoFile, demo_files}
 
 abbrev pub places_of_demo : ℕ → List NameList

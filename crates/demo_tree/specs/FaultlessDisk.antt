@@ -1,8 +1,8 @@
 -- What a disk tells on which no call fails.
-use Rattle.sd_edge.specs.Tree.{IsTree}
-use Rattle.sd_edge.specs.Disk.{DiskState, HoldsPresent}
-use Rattle.sd_edge.specs.MemDisk.{mem_state}
-use Rattle.sd_edge.specs.MemHolds as memory
+use Rattle.sd_io.specs.Tree.{IsTree}
+use Rattle.sd_io.specs.Disk.{DiskState, HoldsPresent}
+use Rattle.mem_io.specs.MemDisk.{mem_state}
+use Rattle.mem_io.specs.MemHolds as memory
 use Rattle.demo_tree.specs.declared.faultless.FaultlessDisk.{FaultlessDisk}
 
 -- that of the disk in memory

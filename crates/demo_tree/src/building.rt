@@ -2,13 +2,13 @@
 
 ghost use Rattle.std.specs.Prelude.{◌≡◌, ◌≤◌, ◌<◌, ◌↔◌, ◌+◌, IsOk, IsErrOf, IfOk, OnOk};
 ghost use Rattle.std.specs.String.{string_bytes};
-ghost use Rattle.sd_edge.specs.Files.{path_text};
-ghost use Rattle.sd_edge.specs.MemDisk.{mem_state, IsUncalled, KeepsCounts};
+ghost use Rattle.sd_io.specs.Files.{path_text};
+ghost use Rattle.mem_io.specs.MemDisk.{mem_state, IsUncalled, KeepsCounts};
 ghost use Rattle.demo_tree.specs.Demo.{IsDemo, demo_folder, demo_file, demo_ending, demo_bytes};
 ghost use Rattle.demo_tree.specs.Building.{HasNextFolder};
 
+use mem_io::{BuildFault, MemDisk};
 use sd_base::NoMemory;
-use sd_edge::{BuildFault, MemDisk};
 use std::alloc::Global;
 
 /// How many folders there are.

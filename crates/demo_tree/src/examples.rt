@@ -1,7 +1,7 @@
 //! Worked examples of the definitions.
 
 ghost use Rattle.std.specs.Prelude.{◌≡◌, [], ◌∷◌, ◌++◌, codes, Some, None};
-ghost use Rattle.sd_edge.specs.Tree.{file, directory};
+ghost use Rattle.sd_io.specs.Tree.{file, directory};
 ghost use Rattle.demo_tree.specs.Demo.{demo_content, demo_place, demo_folder, demo_name};
 ghost use Rattle.demo_tree.specs.Examples.{places_of_demo, texts_of_demo};
 

@@ -1,9 +1,10 @@
 //! A disk in memory on which no call fails.
 
 ghost use Rattle.std.specs.Prelude.{◌≡◌, [], None};
-ghost use Rattle.sd_edge.specs.MemDisk.{mem_state, failing_calls, stop_of, IsUncalled};
+ghost use Rattle.mem_io.specs.MemDisk.{mem_state, failing_calls, stop_of, IsUncalled};
 
-use sd_edge::{Disk, DiskFault, Ident, ListId, MemDisk, Meta, RawEntry, Text};
+use mem_io::MemDisk;
+use sd_io::{Disk, DiskFault, Ident, ListId, Meta, RawEntry, Text};
 use std::alloc::Global;
 
 /// A disk in memory on which no call fails, so that its count of faults stands at 0 for good. A call is refused only where

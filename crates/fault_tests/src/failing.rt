@@ -1,7 +1,7 @@
 //! A command on the scripts of a project, of whose calls one fails.
 
 use crate::running::{Outcome, holds, run_words};
-use sd_edge::{MemDisk, MemSink};
+use mem_io::{MemDisk, MemSink};
 use std::alloc::Global;
 use std::test::Fail;
 

@@ -3,8 +3,9 @@
 ghost use Rattle.std.specs.Prelude.{◌≡◌, IfOk, IfErr, IsErr, Ok};
 
 use crate::running::{holds, one_by_1, run_words};
+use mem_io::MemDisk;
 use sd_core::{SweepFault, sweep_capped};
-use sd_edge::{Disk, DiskFault, Globs, Ident, Kind, ListId, MemDisk, Meta, RawEntry, Text};
+use sd_io::{Disk, DiskFault, Globs, Ident, Kind, ListId, Meta, RawEntry, Text};
 use std::alloc::Global;
 use std::test::Fail;
 
@@ -70,8 +71,8 @@ fn or_no_memory<T>(answer: Result<T, DiskFault>) -> Result<T, DiskFault>
 impl Disk for LyingDisk {
     ghost use Rattle.std.specs.Prelude.{false};
     ghost use Rattle.std.proofs.lemmas.Bool.{false≢true};
-    ghost use Rattle.sd_edge.specs.Disk.{untold_tree, untold_outcomes};
-    ghost use Rattle.sd_edge.specs.MemDisk.{mem_state};
+    ghost use Rattle.sd_io.specs.Disk.{untold_tree, untold_outcomes};
+    ghost use Rattle.mem_io.specs.MemDisk.{mem_state};
 
     ghost tells = { false };
 

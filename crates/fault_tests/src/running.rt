@@ -1,8 +1,9 @@
 //! Runs of the program on any disk, and what they show.
 
+use mem_io::{MemDisk, MemSink, MemSource};
 use sd_base::Words;
 use sd_core::{Ended, Error, Why, run};
-use sd_edge::{Disk, MemDisk, MemSink, MemSource};
+use sd_io::Disk;
 use sd_replace::{Replacer, ReplacerFault};
 use std::alloc::Global;
 use std::test::Fail;

@@ -1,7 +1,7 @@
 //! A stream of which a read or a write fails.
 
 use crate::running::one_by_1;
-use sd_edge::{MemSink, MemSource};
+use mem_io::{MemSink, MemSource};
 use std::alloc::Global;
 use std::test::Fail;
 use stream_rewrite::{StreamFault, replace_stream};

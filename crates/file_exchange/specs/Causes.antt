@@ -1,9 +1,9 @@
 -- Why steps are refused.
 use Rattle.std.specs.Prelude.{◌≡◌, ◌<◌, ◌≤◌, ◌+◌, ◌⊎◌, ℕ, Bool, false, Result, IsErrOf}
-use Rattle.sd_edge.specs.Count.{HasRisen, IsAtLast}
-use Rattle.sd_edge.specs.Disk.{DiskState}
-use Rattle.sd_edge.specs.declared.fault.DiskFault.{DiskFault}
-use Rattle.sd_edge.specs.declared.fault.DiskFault.TheVariants as disk
+use Rattle.sd_io.specs.Count.{HasRisen, IsAtLast}
+use Rattle.sd_io.specs.Disk.{DiskState}
+use Rattle.sd_io.specs.declared.fault.DiskFault.{DiskFault}
+use Rattle.sd_io.specs.declared.fault.DiskFault.TheVariants as disk
 
 -- the count of faults rose by so many, or stands at its last value
 abbrev pub HasRisenBy : ℕ → ℕ → ℕ → Type 0

@@ -1,9 +1,9 @@
 -- What a crash leaves of files whose bytes are exchanged.
 use Rattle.std.specs.Prelude.{◌≡◌, ◌⊎◌, ℕ, List, [], ◌∷◌, Option, Some, None}
-use Rattle.sd_edge.specs.Tree.{NameList, Content, file, Tree, node_at, file_at}
-use Rattle.sd_edge.specs.Paths.{parent_of}
-use Rattle.sd_edge.specs.Disk.{DiskState, SameTree}
-use Rattle.sd_edge.specs.Crashes.{LeavesSince}
+use Rattle.sd_io.specs.Tree.{NameList, Content, file, Tree, node_at, file_at}
+use Rattle.sd_io.specs.Paths.{parent_of}
+use Rattle.sd_io.specs.Disk.{DiskState, SameTree}
+use Rattle.sd_io.specs.Crashes.{LeavesSince}
 use Rattle.file_exchange.specs.Reserved.{Free, FirstFree}
 use Rattle.file_exchange.specs.Exchange.{Exchanges, LeavesBytes}
 

@@ -1,11 +1,11 @@
 -- The exchange of one file's bytes.
 use Rattle.std.specs.Prelude.{◌≡◌, ◌≢◌, ◌⊎◌, ℕ, List, Some, IsSome}
-use Rattle.sd_edge.specs.Tree.{NameList, Tree, SameBut, node_at, file_at}
-use Rattle.sd_edge.specs.Paths.{parts_of, parent_of}
-use Rattle.sd_edge.specs.Files.{path_text}
-use Rattle.sd_edge.specs.Disk.{DiskState}
-use Rattle.sd_edge.specs.declared.fault.DiskFault.{DiskFault}
-use Rattle.sd_edge.specs.declared.fault.DiskFault.TheVariants as disk
+use Rattle.sd_io.specs.Tree.{NameList, Tree, SameBut, node_at, file_at}
+use Rattle.sd_io.specs.Paths.{parts_of, parent_of}
+use Rattle.sd_io.specs.Files.{path_text}
+use Rattle.sd_io.specs.Disk.{DiskState}
+use Rattle.sd_io.specs.declared.fault.DiskFault.{DiskFault}
+use Rattle.sd_io.specs.declared.fault.DiskFault.TheVariants as disk
 use Rattle.file_exchange.specs.declared.fault.ExchangeFault.{ExchangeFault}
 use Rattle.file_exchange.specs.declared.fault.ExchangeFault.TheVariants as exchange
 use Rattle.file_exchange.specs.Causes.{HasRisenBy}

@@ -1,7 +1,7 @@
 -- Reserved names, under which temporary files stand.
 use Rattle.std.specs.Prelude.{◌≡◌, ◌<◌, ◌+◌, ◌/◌, ◌%◌, ℕ, List, [], ◌∷◌, ◌++◌, codes, None, IsSome, Contains, if◌then◌else◌, nat_lt}
-use Rattle.sd_edge.specs.Tree.{Name, NameList, Tree, node_at}
-use Rattle.sd_edge.specs.Files.{path_text}
+use Rattle.sd_io.specs.Tree.{Name, NameList, Tree, node_at}
+use Rattle.sd_io.specs.Files.{path_text}
 
 -- ---- reserved names
 

@@ -1,13 +1,13 @@
 -- What the steps of an exchange do.
 use Rattle.std.specs.Prelude.{◌≡◌, ◌≢◌, ◌⊎◌, ℕ, List, [], ◌∷◌, Option, Some, None, IsSome}
-use Rattle.sd_edge.specs.Tree.{NameList, Content, file, Tree, SameBut, node_at, file_at}
-use Rattle.sd_edge.specs.Paths.{parent_of, named}
-use Rattle.sd_edge.specs.Count.{HasRisen}
-use Rattle.sd_edge.specs.Files.{path_text, Removes, CannotRemove}
-use Rattle.sd_edge.specs.Outcomes.{Leaves, own, any_file, own_of}
-use Rattle.sd_edge.specs.Disk.{DiskState, outcomes_now}
-use Rattle.sd_edge.specs.Crashes.{LeavesSince, SettledBut}
-use Rattle.sd_edge.specs.Lists.{SyncsFolder}
+use Rattle.sd_io.specs.Tree.{NameList, Content, file, Tree, SameBut, node_at, file_at}
+use Rattle.sd_io.specs.Paths.{parent_of, named}
+use Rattle.sd_io.specs.Count.{HasRisen}
+use Rattle.sd_io.specs.Files.{path_text, Removes, CannotRemove}
+use Rattle.sd_io.specs.Outcomes.{Leaves, own, any_file, own_of}
+use Rattle.sd_io.specs.Disk.{DiskState, outcomes_now}
+use Rattle.sd_io.specs.Crashes.{LeavesSince, SettledBut}
+use Rattle.sd_io.specs.Lists.{SyncsFolder}
 use Rattle.file_exchange.specs.Reserved.{FirstFree, IsFolderPath}
 
 -- ---- a temporary file is created

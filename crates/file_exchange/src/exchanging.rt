@@ -1,11 +1,11 @@
 //! One file's exchange.
 
 ghost use Rattle.std.specs.Prelude.{◌≡◌, ◌≢◌, ◌⊎◌, ◌≤◌, false, IsTrue, IfOk, IfErr, OnOk, OnErr, IsErrOf, IfSome, IfNone};
-ghost use Rattle.sd_edge.specs.Tree.{node_at};
-ghost use Rattle.sd_edge.specs.Paths.{parts_of, parent_of, SameWays};
-ghost use Rattle.sd_edge.specs.Disk.{SameLists, SameTree};
-ghost use Rattle.sd_edge.specs.Files.{Removes};
-ghost use Rattle.sd_edge.specs.Crashes.{IsDurable, KeepsSettled};
+ghost use Rattle.sd_io.specs.Tree.{node_at};
+ghost use Rattle.sd_io.specs.Paths.{parts_of, parent_of, SameWays};
+ghost use Rattle.sd_io.specs.Disk.{SameLists, SameTree};
+ghost use Rattle.sd_io.specs.Files.{Removes};
+ghost use Rattle.sd_io.specs.Crashes.{IsDurable, KeepsSettled};
 ghost use Rattle.file_exchange.specs.Causes.{HasCauseOf, HasRisenBy};
 ghost use Rattle.file_exchange.specs.Reserved.{NoneFree, reserved_names};
 ghost use Rattle.file_exchange.specs.Exchange.{IsFilePath, Exchanges, LeavesBytes, IsCleared, HasFailed};
@@ -14,7 +14,7 @@ ghost use Rattle.file_exchange.specs.Crash.{IsNewFile, ExchangeLeaves};
 
 use crate::ExchangeFault;
 use crate::reserved::{folder_path, temporary_path};
-use sd_edge::{Disk, DiskFault, Text};
+use sd_io::{Disk, DiskFault, Text};
 use std::alloc::Global;
 
 /// Gives the regular file at a path these bytes; its mode is kept. They are written to a temporary file under the first

@@ -4,7 +4,7 @@ ghost use Rattle.std.specs.Prelude.{◌≡◌};
 ghost use Rattle.file_exchange.specs.declared.fault.ExchangeFault.TheVariants as exchange_fault;
 ghost use Rattle.file_exchange.specs.Exchange.{as_move};
 
-use sd_edge::DiskFault;
+use sd_io::DiskFault;
 use thiserror::Error;
 
 /// Why a file's bytes aren't exchanged.

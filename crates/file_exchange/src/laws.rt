@@ -1,11 +1,11 @@
 //! Laws of exchanges, for those who read images and for those who exchange files in turn.
 
 ghost use Rattle.std.specs.Prelude.{◌≡◌, ◌≢◌, ◌⊎◌, ◌∷◌, [], ℕ, List, Option, Some, Contains};
-ghost use Rattle.sd_edge.specs.Tree.{NameList, Content, file, Tree, file_at};
-ghost use Rattle.sd_edge.specs.Paths.{parent_of};
-ghost use Rattle.sd_edge.specs.Outcomes.{Leaves, content_at};
-ghost use Rattle.sd_edge.specs.Disk.{DiskState, SameTree, MayLeave, MayLeaveSince, outcomes_now};
-ghost use Rattle.sd_edge.specs.Crashes.{IsDurable};
+ghost use Rattle.sd_io.specs.Tree.{NameList, Content, file, Tree, file_at};
+ghost use Rattle.sd_io.specs.Paths.{parent_of};
+ghost use Rattle.sd_io.specs.Outcomes.{Leaves, content_at};
+ghost use Rattle.sd_io.specs.Disk.{DiskState, SameTree, MayLeave, MayLeaveSince, outcomes_now};
+ghost use Rattle.sd_io.specs.Crashes.{IsDurable};
 ghost use Rattle.file_exchange.specs.Reserved.{FirstFree};
 ghost use Rattle.file_exchange.specs.Crash.{Exchange, AreFiles, IsNewFile, ExchangeLeaves, KeepsFiles, ExchangesOne, ExchangesInTurn, ExchangesLeave, IsOneNewFile, IsOneFree};
 

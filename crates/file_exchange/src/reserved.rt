@@ -3,7 +3,7 @@
 ghost use Rattle.std.specs.Prelude.{◌≡◌, ◌++◌, ◌∷◌, List, ℕ, IfOk, Contains};
 ghost use Rattle.file_exchange.specs.Reserved.{IsReservedPath, IsFolderPath};
 
-use sd_edge::{NoMemory, Text};
+use sd_io::{NoMemory, Text};
 use std::alloc::Global;
 
 /// The path of the reserved name of this number beside a file: `.sd-0000.tmp` to `.sd-ffff.tmp`.

@@ -1,6 +1,6 @@
 -- What worked examples speak of.
 use Rattle.std.specs.Prelude.{◌≡◌, ◌⊎◌, ℕ, List, [], ◌∷◌, codes}
-use Rattle.sd_edge.specs.Tree.{NameList}
+use Rattle.sd_io.specs.Tree.{NameList}
 use Rattle.sd_change.specs.Change.{Change}
 
 -- one text becomes another, in which so many spans were replaced

@@ -1,11 +1,11 @@
 -- The rewriting of one file.
 use Rattle.std.specs.Prelude.{◌≡◌, ◌≢◌, ◌≤◌, ◌↔◌, ◌⊎◌, ℕ, true, IsTrue, List, length, Option, Some, None, IsSome, Contains}
-use Rattle.sd_edge.specs.Tree.{NameList, Content, Tree, SameBut, node_at, file_at}
-use Rattle.sd_edge.specs.Paths.{reached, parent_of}
-use Rattle.sd_edge.specs.Files.{file_of}
-use Rattle.sd_edge.specs.Disk.{DiskState, SameTree}
-use Rattle.sd_edge.specs.declared.fault.DiskFault.{DiskFault}
-use Rattle.sd_edge.specs.declared.fault.DiskFault.TheVariants as disk
+use Rattle.sd_io.specs.Tree.{NameList, Content, Tree, SameBut, node_at, file_at}
+use Rattle.sd_io.specs.Paths.{reached, parent_of}
+use Rattle.sd_io.specs.Files.{file_of}
+use Rattle.sd_io.specs.Disk.{DiskState, SameTree}
+use Rattle.sd_io.specs.declared.fault.DiskFault.{DiskFault}
+use Rattle.sd_io.specs.declared.fault.DiskFault.TheVariants as disk
 use Rattle.sd_change.specs.Change.{Change, FileChange}
 use Rattle.sd_course.specs.Course.{Course, AsTold, HasRisenBy, DiskFailed}
 use Rattle.file_exchange.specs.Reserved.{Free, reserved_names}

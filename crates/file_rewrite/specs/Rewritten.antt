@@ -1,6 +1,6 @@
 -- A file that is old, or new.
 use Rattle.std.specs.Prelude.{◌≡◌, ◌≢◌, ◌⊎◌, ℕ, List, Some}
-use Rattle.sd_edge.specs.Tree.{NameList, Content, file, Tree, node_at, file_at}
+use Rattle.sd_io.specs.Tree.{NameList, Content, file, Tree, node_at, file_at}
 use Rattle.sd_change.specs.Change.{Change}
 use Rattle.file_rewrite.specs.declared.fault.JobFault.{JobFault}
 use Rattle.file_rewrite.specs.declared.fault.JobFault.TheVariants as job

@@ -1,8 +1,8 @@
 //! Worked examples of the definitions.
 
 ghost use Rattle.std.specs.Prelude.{◌≡◌, ℕ, List, [], codes, Some};
-ghost use Rattle.sd_edge.specs.Tree.{Tree, file, file_at, node_at};
-ghost use Rattle.sd_edge.specs.declared.fault.DiskFault.TheVariants as disk;
+ghost use Rattle.sd_io.specs.Tree.{Tree, file, file_at, node_at};
+ghost use Rattle.sd_io.specs.declared.fault.DiskFault.TheVariants as disk;
 ghost use Rattle.sd_change.specs.Change.{FileChange};
 ghost use Rattle.file_exchange.specs.declared.fault.ExchangeFault.TheVariants as exchange;
 ghost use Rattle.file_rewrite.specs.declared.fault.JobFault.TheVariants as job;

@@ -6,7 +6,7 @@ ghost use Rattle.file_rewrite.specs.Faults.{as_job, as_exchange_job};
 
 use file_exchange::ExchangeFault;
 use sd_base::NoMemory;
-use sd_edge::DiskFault;
+use sd_io::DiskFault;
 use thiserror::Error;
 
 /// Why one file isn't rewritten.

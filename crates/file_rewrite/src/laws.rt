@@ -1,7 +1,7 @@
 //! Laws of rewriting, for those who rewrite files in turn.
 
 ghost use Rattle.std.specs.Prelude.{ℕ, List};
-ghost use Rattle.sd_edge.specs.Disk.{DiskState};
+ghost use Rattle.sd_io.specs.Disk.{DiskState};
 ghost use Rattle.file_exchange.specs.Crash.{KeepsFiles};
 ghost use Rattle.file_rewrite.specs.OneFile.{RewritesFile, LeavesFile};
 ghost use Rattle.file_rewrite.specs.declared.fault.JobFault.{JobFault};

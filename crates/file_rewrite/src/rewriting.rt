@@ -1,8 +1,8 @@
 //! One file's rewriting.
 
 ghost use Rattle.std.specs.Prelude.{◌≡◌, ◌≤◌, ◌^◌, IsTrue, IfOk, IfErr, OnOk, Err};
-ghost use Rattle.sd_edge.specs.Disk.{SameTree, SameLists};
-ghost use Rattle.sd_edge.specs.Crashes.{LeavesSince, IsDurable};
+ghost use Rattle.sd_io.specs.Disk.{SameTree, SameLists};
+ghost use Rattle.sd_io.specs.Crashes.{LeavesSince, IsDurable};
 ghost use Rattle.sd_change.specs.Change.{FileChange, TellsRewritten, AreFewIn};
 ghost use Rattle.sd_course.specs.Course.{course};
 ghost use Rattle.file_rewrite.specs.Paths.{IsNoPath};
@@ -14,7 +14,7 @@ use crate::{JobFault, Rewrite};
 use file_exchange::exchange;
 use sd_base::{NoMemory, Text};
 use sd_change::{Replaces, Rewritten};
-use sd_edge::Disk;
+use sd_io::Disk;
 use std::alloc::Global;
 
 /// Rewrites the regular file that a path leads to, links followed: it gets the new bytes that the replacer makes of its

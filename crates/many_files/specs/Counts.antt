@@ -1,8 +1,8 @@
 -- What a report counts.
 use Rattle.std.specs.Prelude.{◌≡◌, ◌+◌, ℕ, List, [], ◌∷◌, length, Contains, Some, Result, Ok, Err, if◌then◌else◌}
 use Rattle.std.specs.Str.{bytes_eq}
-use Rattle.sd_edge.specs.Tree.{NameList, Tree, node_at, file_at}
-use Rattle.sd_edge.specs.Disk.{DiskState}
+use Rattle.sd_io.specs.Tree.{NameList, Tree, node_at, file_at}
+use Rattle.sd_io.specs.Disk.{DiskState}
 use Rattle.sd_change.specs.Change.{Change}
 use Rattle.file_rewrite.specs.declared.rewrite.Rewrite.{Rewrite}
 use Rattle.file_rewrite.specs.declared.fault.JobFault.{JobFault}

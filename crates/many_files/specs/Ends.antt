@@ -1,7 +1,7 @@
 -- How the rewriting of files ends where not all are rewritten.
 use Rattle.std.specs.Prelude.{◌≡◌, ◌≢◌, ℕ, IsTrue, List, [], All, Contains, ⊤}
-use Rattle.sd_edge.specs.Tree.{NameList, Tree}
-use Rattle.sd_edge.specs.Disk.{DiskState}
+use Rattle.sd_io.specs.Tree.{NameList, Tree}
+use Rattle.sd_io.specs.Disk.{DiskState}
 use Rattle.sd_change.specs.Change.{Change}
 use Rattle.sd_course.specs.Course.{Course}
 use Rattle.many_files.specs.Files.{ListsFiles}

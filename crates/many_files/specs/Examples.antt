@@ -1,6 +1,6 @@
 -- What worked examples speak of.
 use Rattle.std.specs.Prelude.{ℕ, List, [], ◌∷◌, codes, Some, None}
-use Rattle.sd_edge.specs.Tree.{NameList}
+use Rattle.sd_io.specs.Tree.{NameList}
 use Rattle.file_rewrite.specs.declared.fault.JobFault.TheVariants as job
 use Rattle.many_files.specs.Turns.{Turn}
 

@@ -1,8 +1,8 @@
 -- Files that are to be rewritten.
 use Rattle.std.specs.Prelude.{◌≡◌, ℕ, List, map, true, Some, Contains}
 use Rattle.std.specs.List.Sorted.{IsStrictlySortedBy}
-use Rattle.sd_edge.specs.Tree.{NameList, Tree, name_list_cmp, IsNonemptyFile}
-use Rattle.sd_edge.specs.Paths.{reached, parent_of}
+use Rattle.sd_io.specs.Tree.{NameList, Tree, name_list_cmp, IsNonemptyFile}
+use Rattle.sd_io.specs.Paths.{reached, parent_of}
 use Rattle.file_exchange.specs.Reserved.{Free}
 
 -- Each path leads to the place that it stands beside, links followed. The places are strictly in order, and at each stands a regular file with at least

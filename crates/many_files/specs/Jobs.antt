@@ -1,11 +1,11 @@
 -- Failed files, in their order.
 use Rattle.std.specs.Prelude.{◌≡◌, ◌&&◌, ◌⊎◌, ℕ, Bool, true, false, IsTrue, List, [], ◌∷◌, ◌++◌, Contains, All, sum_by, count_by, Option, Some, None, is_none, Result, Ok, Err, ⊤, if◌then◌else◌}
 use Rattle.std.specs.Option.{option_map_or}
-use Rattle.sd_edge.specs.Tree.{NameList, Tree}
-use Rattle.sd_edge.specs.Paths.{reached, parent_of}
-use Rattle.sd_edge.specs.Outcomes.{same_place}
-use Rattle.sd_edge.specs.Files.{file_of}
-use Rattle.sd_edge.specs.Disk.{DiskState}
+use Rattle.sd_io.specs.Tree.{NameList, Tree}
+use Rattle.sd_io.specs.Paths.{reached, parent_of}
+use Rattle.sd_io.specs.Outcomes.{same_place}
+use Rattle.sd_io.specs.Files.{file_of}
+use Rattle.sd_io.specs.Disk.{DiskState}
 use Rattle.sd_course.specs.Course.{Course, HasRisenBy}
 use Rattle.file_exchange.specs.Reserved.{reserved_names}
 use Rattle.file_rewrite.specs.Paths.{IsNoPath}

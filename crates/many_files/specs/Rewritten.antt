@@ -1,8 +1,8 @@
 -- Files that are rewritten, and what a crash may leave of them.
 use Rattle.std.specs.Prelude.{◌≡◌, ◌⊎◌, ℕ, List, Option, Some}
-use Rattle.sd_edge.specs.Tree.{NameList, Content, Tree, node_at, file_at}
-use Rattle.sd_edge.specs.Outcomes.{Leaves}
-use Rattle.sd_edge.specs.Disk.{DiskState, outcomes_now}
+use Rattle.sd_io.specs.Tree.{NameList, Content, Tree, node_at, file_at}
+use Rattle.sd_io.specs.Outcomes.{Leaves}
+use Rattle.sd_io.specs.Disk.{DiskState, outcomes_now}
 use Rattle.sd_change.specs.Change.{Change}
 use Rattle.file_rewrite.specs.Rewritten.{IsOld, IsNew, IsNewFile, IsChangedFile}
 use Rattle.many_files.specs.Files.{IsFreeBeside}

@@ -1,8 +1,8 @@
 -- What came of each file, in turn.
 use Rattle.std.specs.Prelude.{◌≡◌, ℕ, List, map, All, Contains, sum_by, Option, Some, None, IsSome, is_some, if◌then◌else◌}
-use Rattle.sd_edge.specs.Tree.{NameList, node_at}
-use Rattle.sd_edge.specs.Paths.{parent_of}
-use Rattle.sd_edge.specs.Disk.{DiskState}
+use Rattle.sd_io.specs.Tree.{NameList, node_at}
+use Rattle.sd_io.specs.Paths.{parent_of}
+use Rattle.sd_io.specs.Disk.{DiskState}
 use Rattle.sd_change.specs.Change.{Change}
 use Rattle.sd_course.specs.Course.{HasRisenBy}
 use Rattle.file_exchange.specs.Reserved.{Free}

@@ -1,9 +1,9 @@
 //! Worked examples of the definitions.
 
 ghost use Rattle.std.specs.Prelude.{◌≡◌, true, false, [], ◌∷◌, ◌++◌, codes, Some, None};
-ghost use Rattle.sd_edge.specs.Tree.{Tree, file_at};
-ghost use Rattle.sd_edge.specs.Files.{file_of};
-ghost use Rattle.sd_edge.specs.declared.fault.DiskFault.TheVariants as disk;
+ghost use Rattle.sd_io.specs.Tree.{Tree, file_at};
+ghost use Rattle.sd_io.specs.Files.{file_of};
+ghost use Rattle.sd_io.specs.declared.fault.DiskFault.TheVariants as disk;
 ghost use Rattle.file_rewrite.specs.declared.fault.JobFault.TheVariants as job;
 ghost use Rattle.file_rewrite.specs.Examples.{OneToDigit, a_place};
 ghost use Rattle.many_files.specs.Counts.{CountsFiles, change_count};

@@ -1,9 +1,9 @@
 //! Files rewritten one after the other.
 
 ghost use Rattle.std.specs.Prelude.{◌≡◌, ◌≢◌, ◌<◌, ◌≤◌, ◌+◌, ◌^◌, ◌++◌, ◌∷◌, [], List, IsTrue, IfOk, IfErr, OnOk, All, Contains, Err, length, vec_len, vec_capacity};
-ghost use Rattle.sd_edge.specs.Tree.{NameList};
-ghost use Rattle.sd_edge.specs.Disk.{SameLists};
-ghost use Rattle.sd_edge.specs.Crashes.{LeavesSince, IsDurable};
+ghost use Rattle.sd_io.specs.Tree.{NameList};
+ghost use Rattle.sd_io.specs.Disk.{SameLists};
+ghost use Rattle.sd_io.specs.Crashes.{LeavesSince, IsDurable};
 ghost use Rattle.sd_course.specs.Course.{course, DiskFailed};
 ghost use Rattle.file_rewrite.specs.Paths.{IsNoPath};
 ghost use Rattle.many_files.specs.Files.{ListsFiles, IsFreeBeside, HasRoom};
@@ -16,7 +16,7 @@ use crate::{FailedJobs, FilesFault, Report};
 use file_rewrite::{JobFault, Rewrite, replace_file};
 use sd_base::{NoMemory, Text};
 use sd_change::Replaces;
-use sd_edge::Disk;
+use sd_io::Disk;
 use std::alloc::Global;
 
 /// Rewrites each of the files that the paths lead to, in their order. One that fails is a job, and the others go on. `Ok`

@@ -1,9 +1,9 @@
 -- What stands in the way of named files, or doesn't.
 use Rattle.std.specs.Prelude.{◌≡◌, ℕ, IsTrue, List, ◌∷◌, ◌++◌, All, IsSome}
-use Rattle.sd_edge.specs.Tree.{NameList, Tree}
-use Rattle.sd_edge.specs.Files.{file_of}
-use Rattle.sd_edge.specs.Disk.{DiskState}
-use Rattle.sd_edge.specs.Streams.{SinkState}
+use Rattle.sd_io.specs.Tree.{NameList, Tree}
+use Rattle.sd_io.specs.Files.{file_of}
+use Rattle.sd_io.specs.Disk.{DiskState}
+use Rattle.sd_io.specs.Streams.{SinkState}
 use Rattle.sd_course.specs.Course.{Course, DiskFailed, SinkFailed}
 use Rattle.file_rewrite.specs.Paths.{IsNoPath}
 use Rattle.file_rewrite.specs.OneFile.{IsFreeBy}

@@ -1,7 +1,7 @@
 -- All that the rewriting of one file promises of a disk that tells its tree.
 use Rattle.std.specs.Prelude.{◌≤◌, ℕ, true, List, Result, IfOk, IfErr, OnOk}
-use Rattle.sd_edge.specs.Disk.{DiskState}
-use Rattle.sd_edge.specs.Crashes.{LeavesSince, IsDurable}
+use Rattle.sd_io.specs.Disk.{DiskState}
+use Rattle.sd_io.specs.Crashes.{LeavesSince, IsDurable}
 use Rattle.sd_change.specs.Change.{Change}
 use Rattle.sd_course.specs.Course.{course}
 use Rattle.file_rewrite.specs.OneFile.{RewritesFile, LeavesFile, HasFileCause, IsNewAt, IsChangedAt, IsFreeBy}

@@ -1,11 +1,11 @@
 //! Worked examples of the definitions.
 
 ghost use Rattle.std.specs.Prelude.{◌≡◌, ◌∷◌, [], codes, true, false, Ok, Err, Some};
-ghost use Rattle.sd_edge.specs.Tree.{Tree};
-ghost use Rattle.sd_edge.specs.Files.{file_of};
-ghost use Rattle.sd_edge.specs.Disk.{DiskState};
-ghost use Rattle.sd_edge.specs.Streams.{SinkState};
-ghost use Rattle.sd_edge.specs.declared.fault.DiskFault.TheVariants as disk;
+ghost use Rattle.sd_io.specs.Tree.{Tree};
+ghost use Rattle.sd_io.specs.Files.{file_of};
+ghost use Rattle.sd_io.specs.Disk.{DiskState};
+ghost use Rattle.sd_io.specs.Streams.{SinkState};
+ghost use Rattle.sd_io.specs.declared.fault.DiskFault.TheVariants as disk;
 ghost use Rattle.sd_course.specs.Course.{Course};
 ghost use Rattle.file_rewrite.specs.declared.fault.JobFault.TheVariants as job;
 ghost use Rattle.file_rewrite.specs.declared.rewrite.Rewrite.{Rewrite};

@@ -1,12 +1,12 @@
 //! Why a preview ends early.
 
 ghost use Rattle.std.specs.Prelude.{◌≡◌};
-ghost use Rattle.sd_edge.specs.declared.fault.DiskFault.TheVariants as disk;
+ghost use Rattle.sd_io.specs.declared.fault.DiskFault.TheVariants as disk;
 ghost use Rattle.named_files.specs.declared.fault.PreviewFault.TheVariants as preview;
 ghost use Rattle.named_files.specs.Preview.{as_preview};
 
 use sd_base::{NoMemory, Text};
-use sd_edge::{DiskFault, Failed};
+use sd_io::{DiskFault, Failed};
 use std::fmt;
 use thiserror::Error;
 

@@ -1,7 +1,7 @@
 //! What named files would become, shown.
 
 ghost use Rattle.std.specs.Prelude.{◌≡◌, ◌≤◌, ◌++◌, ℕ, List, IsTrue, IfOk, IfErr, OnOk, MatchResult, codes};
-ghost use Rattle.sd_edge.specs.Disk.{SameTree, SameLists};
+ghost use Rattle.sd_io.specs.Disk.{SameTree, SameLists};
 ghost use Rattle.sd_course.specs.Course.{course};
 ghost use Rattle.file_rewrite.specs.Paths.{IsNoPath};
 ghost use Rattle.named_files.specs.Clear.{IsFirstUnshown, IsPreviewClear};
@@ -11,7 +11,7 @@ use crate::PreviewFault;
 use file_rewrite::is_no_path;
 use sd_base::{NoMemory, Text};
 use sd_change::Replaces;
-use sd_edge::{Disk, Sink};
+use sd_io::{Disk, Sink};
 use std::alloc::Global;
 use stream_rewrite::write_all;
 

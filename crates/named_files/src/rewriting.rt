@@ -1,7 +1,7 @@
 //! Named files rewritten in turn.
 
 ghost use Rattle.std.specs.Prelude.{◌≡◌, ◌≢◌, ◌≤◌, ◌<◌, ◌+◌, ◌++◌, ◌∷◌, [], OnOk, IfErr, IfOk, Err, vec_len, vec_capacity};
-ghost use Rattle.sd_edge.specs.Disk.{SameLists};
+ghost use Rattle.sd_io.specs.Disk.{SameLists};
 ghost use Rattle.sd_course.specs.Course.{course};
 ghost use Rattle.many_files.specs.Jobs.{failed_of, end_of};
 ghost use Rattle.many_files.specs.Ends.{IsForMemory};
@@ -12,7 +12,7 @@ use file_rewrite::{JobFault, Rewrite, replace_file};
 use many_files::{FailedJobs, FilesFault};
 use sd_base::{NoMemory, Text};
 use sd_change::Replaces;
-use sd_edge::Disk;
+use sd_io::Disk;
 use std::alloc::Global;
 
 /// Rewrites the file that each path names, in their order, each as the one before left the disk; two paths may name one

@@ -1,7 +1,7 @@
 //! Small disks, and what stands on them.
 
+use mem_io::{BuildFault, MemDisk};
 use sd_base::{NoMemory, Text};
-use sd_edge::{BuildFault, MemDisk};
 use std::alloc::Global;
 use std::test::Fail;
 

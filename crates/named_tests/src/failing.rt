@@ -3,7 +3,7 @@
 use crate::disks::{NEW_A, NEW_B, OLD_A, OLD_B, both_hold, fill, has_modes, holds};
 use crate::in_turn::{is_fault_of, rewritten};
 use crate::shown::{ends_with, is_right_on, sink};
-use sd_edge::{MemDisk, MemSink};
+use mem_io::{MemDisk, MemSink};
 use std::alloc::Global;
 use std::test::Fail;
 

@@ -3,9 +3,9 @@
 use crate::disks::{NEW_A, NEW_B, OLD_A, OLD_B, all_hold, fill, has_modes, owned};
 use crate::swapping::Swap;
 use many_files::FilesFault;
+use mem_io::MemDisk;
 use named_files::rewrite_named;
 use sd_base::Text;
-use sd_edge::MemDisk;
 use std::alloc::Global;
 use std::test::Fail;
 

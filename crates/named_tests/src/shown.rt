@@ -3,9 +3,9 @@
 use crate::disks::{fill, is_as_built, owned};
 use crate::in_turn::for_one;
 use crate::swapping::Swap;
+use mem_io::{MemDisk, MemSink};
 use named_files::{PreviewFault, preview_named};
 use sd_base::{NoMemory, Text};
-use sd_edge::{MemDisk, MemSink};
 use std::alloc::Global;
 use std::test::Fail;
 

@@ -2,9 +2,10 @@
 
 use crate::running::{check_files, listed, two_files};
 use file_rewrite::JobFault;
+use mem_io::{MemDisk, MemSink, MemSource};
 use sd_base::Words;
 use sd_core::{App, AppSource, Error, Report, SweepFault, Why, run, sweep, sweep_capped};
-use sd_edge::{DiskFault, MemDisk, MemSink, MemSource};
+use sd_io::DiskFault;
 use sd_replace::{Replacer, ReplacerFault};
 use std::alloc::Global;
 use std::process::Abort;

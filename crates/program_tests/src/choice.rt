@@ -1,7 +1,8 @@
 //! Which files a run chooses, and in which order it rewrites them.
 
 use crate::running::{Run, holds, run_words};
-use sd_edge::{BuildFault, Disk, DiskFault, MemDisk};
+use mem_io::{BuildFault, MemDisk};
+use sd_io::{Disk, DiskFault};
 use std::alloc::Global;
 use std::test::Fail;
 

@@ -1,7 +1,7 @@
 //! Trees in memory that are made from a number.
 
 use crate::running::{Run, check, check_run, run_words};
-use sd_edge::MemDisk;
+use mem_io::MemDisk;
 use std::process::Abort;
 use std::test::Fail;
 

@@ -1,7 +1,7 @@
 //! Disks and streams that fail under a command.
 
 use crate::running::{Outcome, Run, check_files, holds, listed, run_to_end, run_words, two_files};
-use sd_edge::{MemDisk, MemSink, MemSource};
+use mem_io::{MemDisk, MemSink, MemSource};
 use std::alloc::Global;
 use std::process::Abort;
 use std::test::Fail;

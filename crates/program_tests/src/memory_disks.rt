@@ -1,7 +1,8 @@
 //! The disk in memory, by its own calls.
 
 use crate::running::holds;
-use sd_edge::{BuildFault, Disk, DiskFault, Ident, Kind, MemDisk, Meta, RawEntry};
+use mem_io::{BuildFault, MemDisk};
+use sd_io::{Disk, DiskFault, Ident, Kind, Meta, RawEntry};
 use std::alloc::Global;
 use std::process::Abort;
 use std::test::Fail;

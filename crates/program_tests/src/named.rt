@@ -2,7 +2,7 @@
 
 use crate::failing::{TOLD, outcome_on};
 use crate::running::{Run, check, check_files, run_words, two_files};
-use sd_edge::MemDisk;
+use mem_io::MemDisk;
 use std::alloc::Global;
 use std::process::Abort;
 use std::test::Fail;

@@ -1,8 +1,8 @@
 //! Why a command fails, in which order it is told, and by what text.
 
 use crate::running::{Run, check_files, check_run, run_on_input, run_words, two_files};
+use mem_io::MemDisk;
 use sd_core::Error;
-use sd_edge::MemDisk;
 use std::alloc::Global;
 use std::process::Abort;
 use std::test::Fail;

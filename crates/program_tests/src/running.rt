@@ -1,8 +1,8 @@
 //! Runs of the program on a disk in memory, and what they show.
 
+use mem_io::{MemDisk, MemSink, MemSource};
 use sd_base::Words;
 use sd_core::{Ended, Error, Why, run};
-use sd_edge::{MemDisk, MemSink, MemSource};
 use std::alloc::Global;
 use std::process::Abort;
 use std::test::Fail;

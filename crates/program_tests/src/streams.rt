@@ -1,7 +1,7 @@
 //! Standard input.
 
 use crate::running::{check_run, listed, run_on_input, run_to_end};
-use sd_edge::{MemDisk, MemSink, MemSource};
+use mem_io::{MemDisk, MemSink, MemSource};
 use std::alloc::Global;
 use std::process::Abort;
 use std::test::Fail;

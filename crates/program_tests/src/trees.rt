@@ -1,7 +1,7 @@
 //! Tree commands on disks in memory.
 
 use crate::running::{Outcome, Run, check, check_files, check_run, holds, run_words, two_files};
-use sd_edge::{BuildFault, MemDisk};
+use mem_io::{BuildFault, MemDisk};
 use std::alloc::Global;
 use std::process::Abort;
 use std::test::Fail;

@@ -2,7 +2,8 @@
 
 use crate::replacers::{Nothing, Text};
 use file_rewrite::{JobFault, Rewrite, replace_file};
-use sd_edge::{DiskFault, MemDisk};
+use mem_io::MemDisk;
+use sd_io::DiskFault;
 use std::alloc::Global;
 use std::test::Fail;
 

@@ -1,7 +1,7 @@
 //! Streams.
 
 use crate::replacers::{Nothing, Text};
-use sd_edge::{MemSink, MemSource};
+use mem_io::{MemSink, MemSource};
 use std::test::Fail;
 use stream_rewrite::{StreamFault, replace_stream};
 

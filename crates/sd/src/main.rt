@@ -1,9 +1,9 @@
 //! `sd`: search and replace in whole directory trees.
 #![tactic(auto)]
 
+use host_io::{HostDisk, HostSink, HostSource};
 use sd_base::{NoMemory, Words};
 use sd_core::run;
-use sd_edge::{HostDisk, HostSink, HostSource};
 use std::process::ExitCode;
 use std::{env, io};
 

@@ -1,7 +1,7 @@
 -- What is promised of what options ask for, whatever their mode.
 use Rattle.std.specs.Prelude.{◌≡◌, ◌≢◌, ℕ, IsTrue, List}
-use Rattle.sd_edge.specs.Disk.{DiskState}
-use Rattle.sd_edge.specs.Streams.{SourceState, SinkState}
+use Rattle.sd_io.specs.Disk.{DiskState}
+use Rattle.sd_io.specs.Streams.{SourceState, SinkState}
 use Rattle.sd_course.specs.Course.{Course}
 use Rattle.sd_words.specs.declared.options.Options.{Options}
 use Rattle.sd_replace.specs.Replacement.{Replacement, Changes}

@@ -1,8 +1,8 @@
 -- What a crash leaves of a command on a tree where at its start a crash leaves each place as it stands.
 use Rattle.std.specs.Prelude.{◌≡◌, Option}
-use Rattle.sd_edge.specs.Tree.{NameList, Content}
-use Rattle.sd_edge.specs.Outcomes.{Leaves, content_at}
-use Rattle.sd_edge.specs.Disk.{DiskState, outcomes_now}
+use Rattle.sd_io.specs.Tree.{NameList, Content}
+use Rattle.sd_io.specs.Outcomes.{Leaves, content_at}
+use Rattle.sd_io.specs.Disk.{DiskState, outcomes_now}
 
 -- a crash leaves at each place what stands there
 abbrev pub IsOnMedium : DiskState → Type 0

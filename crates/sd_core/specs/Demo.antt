@@ -1,6 +1,6 @@
 -- How a tree command on the tree of a demo ends.
 use Rattle.std.specs.Prelude.{◌≢◌, ℕ, List, [], ⊤}
-use Rattle.sd_edge.specs.Tree.{NameList, Tree}
+use Rattle.sd_io.specs.Tree.{NameList, Tree}
 use Rattle.sd_change.specs.Change.{Change}
 use Rattle.chosen_files.specs.Globs.{IsFirstInvalid}
 use Rattle.chosen_files.specs.Chosen.{Chosen}

@@ -1,6 +1,6 @@
 -- What a demo promises.
 use Rattle.std.specs.Prelude.{◌≡◌, ℕ, IsTrue, List, ◌++◌, All, ⊤}
-use Rattle.sd_edge.specs.Streams.{SinkState}
+use Rattle.sd_io.specs.Streams.{SinkState}
 use Rattle.sd_change.specs.Change.{Change}
 use Rattle.sd_course.specs.Course.{Course, SinkFailed, AppendsPrefix}
 use Rattle.chosen_files.specs.Globs.{IsValid, IsFirstInvalid}

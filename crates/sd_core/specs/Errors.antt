@@ -1,5 +1,5 @@
 -- The faults of what a command does, as its own errors.
-use Rattle.sd_edge.specs.declared.fault.DiskFault.TheVariants as disk
+use Rattle.sd_io.specs.declared.fault.DiskFault.TheVariants as disk
 use Rattle.sd_replace.specs.declared.error.ReplacerFault.{ReplacerFault}
 use Rattle.sd_replace.specs.declared.error.ReplacerFault.TheVariants as replacer
 use Rattle.many_files.specs.declared.fault.FilesFault.{FilesFault}

@@ -1,7 +1,7 @@
 -- What worked examples speak of.
 use Rattle.std.specs.Prelude.{ℕ, List, [], ◌∷◌, codes}
-use Rattle.sd_edge.specs.Tree.{NameList, directory, file, Node}
-use Rattle.sd_edge.specs.declared.fault.DiskFault.TheVariants as disk
+use Rattle.sd_io.specs.Tree.{NameList, directory, file, Node}
+use Rattle.sd_io.specs.declared.fault.DiskFault.TheVariants as disk
 use Rattle.walk_rest.specs.Examples.{entry}
 use Rattle.file_rewrite.specs.Examples.{a_place}
 use Rattle.file_rewrite.specs.declared.fault.JobFault.TheVariants as job

@@ -1,7 +1,7 @@
 -- What a command on standard input promises.
 use Rattle.std.specs.Prelude.{◌≡◌, ◌<◌, ◌⊎◌, ◌^◌, ℕ, IsTrue, length}
-use Rattle.sd_edge.specs.Streams.{SourceState, SinkState}
-use Rattle.sd_edge.specs.declared.fault.DiskFault.TheVariants as disk
+use Rattle.sd_io.specs.Streams.{SourceState, SinkState}
+use Rattle.sd_io.specs.declared.fault.DiskFault.TheVariants as disk
 use Rattle.sd_change.specs.Change.{Change}
 use Rattle.sd_course.specs.Course.{Course, SourceFailed}
 use Rattle.stream_rewrite.specs.Stream.{DoesStream, StreamFails, IsStreamClear}

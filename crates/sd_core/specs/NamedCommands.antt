@@ -1,8 +1,8 @@
 -- What a command on named files promises, and a preview of them.
 use Rattle.std.specs.Prelude.{◌≡◌, ◌⊎◌, ℕ, IsTrue, List}
-use Rattle.sd_edge.specs.Disk.{DiskState, SameTree, SameLists}
-use Rattle.sd_edge.specs.Streams.{SinkState}
-use Rattle.sd_edge.specs.declared.fault.DiskFault.TheVariants as disk
+use Rattle.sd_io.specs.Disk.{DiskState, SameTree, SameLists}
+use Rattle.sd_io.specs.Streams.{SinkState}
+use Rattle.sd_io.specs.declared.fault.DiskFault.TheVariants as disk
 use Rattle.sd_change.specs.Change.{Change}
 use Rattle.sd_course.specs.Course.{Course, DiskFailed, SinkFailed}
 use Rattle.file_rewrite.specs.Paths.{IsNoPath}

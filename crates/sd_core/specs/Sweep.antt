@@ -1,10 +1,10 @@
 -- What a sweep does to a tree, and how it ends.
 use Rattle.std.specs.Prelude.{◌≡◌, ◌≢◌, ◌≤◌, ◌+◌, ◌==◌, ℕ, Bool, true, not, IsTrue, List, [], All, Some, IsSome, ⊤}
 use Rattle.std.specs.List.{list_all}
-use Rattle.sd_edge.specs.Tree.{NameList, Tree}
-use Rattle.sd_edge.specs.Paths.{reached}
-use Rattle.sd_edge.specs.Disk.{DiskState, SameTree}
-use Rattle.sd_edge.specs.Files.{LeadsNowhere}
+use Rattle.sd_io.specs.Tree.{NameList, Tree}
+use Rattle.sd_io.specs.Paths.{reached}
+use Rattle.sd_io.specs.Disk.{DiskState, SameTree}
+use Rattle.sd_io.specs.Files.{LeadsNowhere}
 use Rattle.sd_change.specs.Change.{Change}
 use Rattle.sd_course.specs.Course.{Course, AsTold, DiskFailed}
 use Rattle.chosen_files.specs.Globs.{IsValid, IsFirstInvalid}

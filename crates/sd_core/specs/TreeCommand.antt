@@ -1,10 +1,10 @@
 -- What a command on a tree promises.
 use Rattle.std.specs.Prelude.{◌≡◌, ◌⊎◌, ◌^◌, ℕ, IsTrue, List, ◌++◌, Some, ⊤}
-use Rattle.sd_edge.specs.Tree.{NameList, Content, Tree}
-use Rattle.sd_edge.specs.Outcomes.{Leaves, content_at}
-use Rattle.sd_edge.specs.Disk.{DiskState, outcomes_now, MayLeaveSince}
-use Rattle.sd_edge.specs.Streams.{SinkState}
-use Rattle.sd_edge.specs.Crashes.{IsDurable}
+use Rattle.sd_io.specs.Tree.{NameList, Content, Tree}
+use Rattle.sd_io.specs.Outcomes.{Leaves, content_at}
+use Rattle.sd_io.specs.Disk.{DiskState, outcomes_now, MayLeaveSince}
+use Rattle.sd_io.specs.Streams.{SinkState}
+use Rattle.sd_io.specs.Crashes.{IsDurable}
 use Rattle.sd_change.specs.Change.{Change}
 use Rattle.sd_course.specs.Course.{Course, SinkFailed, AppendsPrefix}
 use Rattle.chosen_files.specs.Globs.{IsFirstInvalid}

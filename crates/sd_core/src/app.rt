@@ -11,7 +11,7 @@ ghost use Rattle.sd_core.specs.NamedCommands.{FilesCommand, PreviewCommand};
 use crate::Result;
 use named_files::{preview_named, rewrite_named};
 use sd_base::{NoMemory, Text, Words};
-use sd_edge::{Disk, Sink, Source};
+use sd_io::{Disk, Sink, Source};
 use sd_replace::Replacer;
 use std::alloc::Global;
 use stream_rewrite::replace_stream;

@@ -17,7 +17,7 @@ use crate::app::{preview_files, replace_input, rewrite_files};
 use crate::printing::print_report;
 use crate::{Error, Report, Result, SweepFault, Why, sweep, sweep_demo};
 use sd_base::{Globs, Words};
-use sd_edge::{Disk, Sink, Source};
+use sd_io::{Disk, Sink, Source};
 use sd_replace::Replacer;
 use std::alloc::Global;
 

@@ -7,7 +7,7 @@ ghost use Rattle.sd_core.specs.Demo.{CountsDemo, DemoFails, DemoWantsMemory};
 use crate::{Report, SweepFault, sweep};
 use demo_tree::{FaultlessDisk, demo_disk};
 use sd_change::Replaces;
-use sd_edge::Globs;
+use sd_io::Globs;
 use std::alloc::Global;
 
 /// Rewrites the chosen files of the tree of a demo of `n` files, from the root `/demo` on, and reports what was chosen, changed

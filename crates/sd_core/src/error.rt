@@ -8,7 +8,7 @@ use crate::SweepFault;
 use many_files::{FailedJobs, FilesFault};
 use named_files::PreviewFault;
 use sd_base::{NoMemory, Text};
-use sd_edge::DiskFault;
+use sd_io::DiskFault;
 use sd_replace::{InvalidReplaceCapture, ReplacerFault};
 use std::fmt;
 use stream_rewrite::StreamFault;

@@ -1,9 +1,9 @@
 //! Worked examples of what a sweep makes of a tree, and how refused sweeps end.
 
 ghost use Rattle.std.specs.Prelude.{◌≡◌, ◌≢◌, ◌<◌, ℕ, List, true, [], ◌∷◌, codes, Some};
-ghost use Rattle.sd_edge.specs.Disk.{DiskState, SameTree};
-ghost use Rattle.sd_edge.specs.Paths.{reached};
-ghost use Rattle.sd_edge.specs.Tree.{NameList, file_at, node_at};
+ghost use Rattle.sd_io.specs.Disk.{DiskState, SameTree};
+ghost use Rattle.sd_io.specs.Paths.{reached};
+ghost use Rattle.sd_io.specs.Tree.{NameList, file_at, node_at};
 ghost use Rattle.sd_course.specs.Course.{Course, course};
 ghost use Rattle.walk_rest.specs.Examples.{tree_with};
 ghost use Rattle.file_rewrite.specs.Examples.{OneToDigit, a_place};

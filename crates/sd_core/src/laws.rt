@@ -1,10 +1,10 @@
 //! Laws of what a crash leaves of a command on a tree.
 
 ghost use Rattle.std.specs.Prelude.{◌≡◌, ◌⊎◌, ℕ, List, Some};
-ghost use Rattle.sd_edge.specs.Tree.{NameList, Content, Tree};
-ghost use Rattle.sd_edge.specs.Outcomes.{Leaves, content_at};
-ghost use Rattle.sd_edge.specs.Disk.{DiskState, MayLeave, outcomes_now};
-ghost use Rattle.sd_edge.specs.Crashes.{IsDurable};
+ghost use Rattle.sd_io.specs.Tree.{NameList, Content, Tree};
+ghost use Rattle.sd_io.specs.Outcomes.{Leaves, content_at};
+ghost use Rattle.sd_io.specs.Disk.{DiskState, MayLeave, outcomes_now};
+ghost use Rattle.sd_io.specs.Crashes.{IsDurable};
 ghost use Rattle.sd_replace.specs.Replacement.{Replacement, Changes};
 ghost use Rattle.many_files.specs.Files.{IsFreeBeside};
 ghost use Rattle.many_files.specs.Rewritten.{IsNewOne, IsChangedOne};

@@ -1,13 +1,13 @@
 //! What a command prints. No memory is taken for it.
 
 ghost use Rattle.std.specs.Prelude.{◌≡◌, ◌+◌, ◌≤◌, true, [], ◌++◌, length, IsTrue, OnOk, OnErr, IsErr};
-ghost use Rattle.sd_edge.specs.Count.{HasRisen};
+ghost use Rattle.sd_io.specs.Count.{HasRisen};
 ghost use Rattle.sd_course.specs.Course.{AppendsPrefix};
 ghost use Rattle.sd_core.specs.Report as form;
 
 use itoa::Buffer;
 use many_files::Report;
-use sd_edge::{Failed, Sink};
+use sd_io::{Failed, Sink};
 use std::fmt;
 use std::fmt::{Display, Write};
 use std::marker::Model;

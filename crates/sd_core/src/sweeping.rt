@@ -1,7 +1,7 @@
 //! A tree command on a disk.
 
 ghost use Rattle.std.specs.Prelude.{◌≡◌, ◌<◌, ◌≤◌, ◌^◌, ◌⊎◌, ℕ, List, IsTrue, IfOk, IfErr, OnOk, All, Err};
-ghost use Rattle.sd_edge.specs.Crashes.{LeavesSince, IsDurable};
+ghost use Rattle.sd_io.specs.Crashes.{LeavesSince, IsDurable};
 ghost use Rattle.sd_course.specs.Course.{course};
 ghost use Rattle.file_rewrite.specs.Paths.{IsNoPath};
 ghost use Rattle.chosen_files.specs.Globs.{IsFirstInvalid};
@@ -19,7 +19,7 @@ use file_rewrite::is_no_path;
 use many_files::rewrite_each;
 use sd_base::Text;
 use sd_change::Replaces;
-use sd_edge::{Disk, Globs};
+use sd_io::{Disk, Globs};
 use std::alloc::Global;
 
 /// Rewrites each chosen file below a root, where fewer than `cap` entries lie there: each regular nonempty file whose path from

@@ -23,7 +23,7 @@ use crate::commands::{demo_command, tree_command, words_command};
 use crate::printing::print_error;
 use crate::{Ended, Error, Why};
 use sd_base::Words;
-use sd_edge::{Disk, Sink, Source};
+use sd_io::{Disk, Sink, Source};
 use sd_replace::{Replacer, an_asked_replacement_is_readable};
 use sd_words::{Options, OptionsFault};
 use std::alloc::Global;

@@ -1,8 +1,8 @@
 -- A disk or a stream over the course of a call.
 use Rattle.std.specs.Prelude.{◌≡◌, ◌≤◌, ◌+◌, ◌⊎◌, ℕ, Bool, false, IsTrue, List, ◌++◌, take, length}
-use Rattle.sd_edge.specs.Count.{HasRisen, IsAtLast}
-use Rattle.sd_edge.specs.Disk.{DiskState}
-use Rattle.sd_edge.specs.Streams.{SourceState, SinkState}
+use Rattle.sd_io.specs.Count.{HasRisen, IsAtLast}
+use Rattle.sd_io.specs.Disk.{DiskState}
+use Rattle.sd_io.specs.Streams.{SourceState, SinkState}
 
 -- whether it tells its content, and what it tells before and after
 pub record Course (S : Type 0) : Type 0 where

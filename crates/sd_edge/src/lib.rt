@@ -1,42 +1,17 @@
-//! The outside of the program: a disk, a source of bytes, a sink of bytes, each a trait with what it promises, its form
-//! in memory and its form on the host.
+//! The outside of the program: the traits, their forms in memory and those on the host, handed on.
 #![tactic(auto)]
 
-mod disk;
-mod examples;
-mod fault;
-mod host;
-mod laws;
-mod memory;
-mod meta;
-mod open_lists;
-mod outcome_examples;
-mod path_texts;
-mod stream;
-
-pub use disk::Disk;
-pub use examples::{
-    links_lead_as_in_the_examples, paths_lead_as_in_the_examples, paths_name_as_in_the_examples,
-    plain_paths_lead_as_in_the_examples,
+pub use host_io::{HostDisk, HostSink, HostSource};
+pub use mem_io::{
+    BuildFault, MemDisk, MemSink, MemSource, images_take_outcomes_as_in_the_examples,
 };
-pub use fault::{BuildFault, DiskFault, Failed};
-pub use host::{HostDisk, HostSink, HostSource};
-pub use laws::{
-    calls_on_files_keep_directories_and_links, paths_lead_where_they_name,
-    paths_rest_on_directories_and_links, plain_paths_lead_as_others,
+pub use sd_io::{
+    Disk, DiskFault, Failed, Globs, Ident, Kind, Ledger, ListId, Meta, NoMemory, Patterns,
+    RawEntry, Silent, Sink, Source, Steps, Tally, Text, Texts, Words, a_tally_holds_its_ticks,
+    calls_on_files_keep_directories_and_links, files_are_exchanged_as_in_the_examples,
+    files_leave_outcomes_behind_as_in_the_examples, links_lead_as_in_the_examples,
+    paths_lead_as_in_the_examples, paths_lead_where_they_name, paths_name_as_in_the_examples,
+    paths_rest_on_directories_and_links, plain_paths_lead_as_in_the_examples,
+    plain_paths_lead_as_others, texts_of_places_below_a_folder, texts_of_places_hold_their_names,
+    texts_of_places_lead_there, texts_of_places_name_them,
 };
-pub use memory::{MemDisk, MemSink, MemSource};
-pub use meta::{Ident, Kind, ListId, Meta, RawEntry};
-pub use outcome_examples::{
-    files_are_exchanged_as_in_the_examples, files_leave_outcomes_behind_as_in_the_examples,
-    images_take_outcomes_as_in_the_examples,
-};
-pub use path_texts::{
-    texts_of_places_below_a_folder, texts_of_places_hold_their_names, texts_of_places_lead_there,
-    texts_of_places_name_them,
-};
-pub use sd_base::{
-    Globs, Ledger, NoMemory, Patterns, Silent, Steps, Tally, Text, Texts, Words,
-    a_tally_holds_its_ticks,
-};
-pub use stream::{Sink, Source};

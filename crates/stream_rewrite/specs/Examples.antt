@@ -1,6 +1,6 @@
 -- What worked examples speak of.
 use Rattle.std.specs.Prelude.{◌≡◌, ℕ, Bool, List, [], codes}
-use Rattle.sd_edge.specs.Streams.{SourceState}
+use Rattle.sd_io.specs.Streams.{SourceState}
 use Rattle.sd_change.specs.Change.{Change}
 use Rattle.sd_course.specs.Course.{Course, course}
 

@@ -1,7 +1,7 @@
 -- The reading of a stream to its end.
 use Rattle.std.specs.Prelude.{◌≡◌, ◌<◌, ◌+◌, ◌⊎◌, ℕ, IsTrue, List, [], ◌++◌, length}
-use Rattle.sd_edge.specs.Count.{IsAtLast}
-use Rattle.sd_edge.specs.Streams.{SourceState}
+use Rattle.sd_io.specs.Count.{IsAtLast}
+use Rattle.sd_io.specs.Streams.{SourceState}
 use Rattle.sd_course.specs.Course.{Course, SourceFailed}
 use Rattle.stream_rewrite.specs.declared.fault.StreamFault.{StreamFault}
 use Rattle.stream_rewrite.specs.declared.fault.StreamFault.TheVariants as stream

@@ -1,6 +1,6 @@
 -- How the replacing of a stream ends.
 use Rattle.std.specs.Prelude.{◌≡◌, ◌<◌, ◌≤◌, ◌⊎◌, ℕ, IsTrue, List, [], ◌++◌, length}
-use Rattle.sd_edge.specs.Streams.{SourceState, SinkState}
+use Rattle.sd_io.specs.Streams.{SourceState, SinkState}
 use Rattle.sd_change.specs.Change.{Change}
 use Rattle.sd_course.specs.Course.{Course, AsTold, SourceFailed, SinkFailed, AppendsPrefix}
 use Rattle.stream_rewrite.specs.Reading.{HasGivenOver}

@@ -1,7 +1,7 @@
 //! Worked examples of the definitions.
 
 ghost use Rattle.std.specs.Prelude.{◌≡◌, ◌++◌, ◌^◌, ◌-◌, Bool, true, [], codes};
-ghost use Rattle.sd_edge.specs.Streams.{SourceState, SinkState};
+ghost use Rattle.sd_io.specs.Streams.{SourceState, SinkState};
 ghost use Rattle.sd_course.specs.Course.{Course, course};
 ghost use Rattle.stream_rewrite.specs.declared.fault.StreamFault.TheVariants as stream;
 ghost use Rattle.stream_rewrite.specs.Reading.{HasGivenOver, ReadsAll};

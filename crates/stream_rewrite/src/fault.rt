@@ -4,7 +4,7 @@ ghost use Rattle.std.specs.Prelude.{◌≡◌};
 ghost use Rattle.stream_rewrite.specs.declared.fault.StreamFault.TheVariants as stream;
 
 use sd_base::NoMemory;
-use sd_edge::Failed;
+use sd_io::Failed;
 use std::alloc::AllocError;
 use thiserror::Error;
 

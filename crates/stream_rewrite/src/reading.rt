@@ -5,7 +5,7 @@ ghost use Rattle.sd_course.specs.Course.{course};
 ghost use Rattle.stream_rewrite.specs.Reading.{ReadsAll, ReadFails};
 
 use crate::StreamFault;
-use sd_edge::Source;
+use sd_io::Source;
 use std::alloc::Global;
 
 /// Reads all that is left in a source, where that is at most `cap` bytes, and asks for so many at a time. Refuses with a

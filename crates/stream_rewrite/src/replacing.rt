@@ -8,7 +8,7 @@ use crate::reading::read_all;
 use crate::{StreamFault, write_all};
 use sd_base::NoMemory;
 use sd_change::Replaces;
-use sd_edge::{Sink, Source};
+use sd_io::{Sink, Source};
 use std::alloc::Global;
 
 /// How many bytes are asked for at a time.

@@ -1,10 +1,10 @@
 //! The writing of bytes to a stream.
 
 ghost use Rattle.std.specs.Prelude.{◌≡◌, ◌≤◌, ◌++◌, IsTrue, OnOk, OnErr, IsErr};
-ghost use Rattle.sd_edge.specs.Count.{HasRisen};
+ghost use Rattle.sd_io.specs.Count.{HasRisen};
 ghost use Rattle.sd_course.specs.Course.{AppendsPrefix};
 
-use sd_edge::{Failed, Sink};
+use sd_io::{Failed, Sink};
 
 /// Writes all of the bytes. Refuses with a counted fault of the sink alone, after a prefix of them.
 pub fn write_all<O: Sink>(out: &mut O, bytes: &[u8]) -> Result<(), Failed>

@@ -2,8 +2,9 @@
 
 use crate::disks::{Node, fill, first_other_bytes, first_other_mode};
 use crate::swapping::Swap;
+use mem_io::MemDisk;
 use sd_core::{Report, SweepFault, sweep};
-use sd_edge::{Globs, MemDisk};
+use sd_io::Globs;
 use std::alloc::Global;
 use std::test::Fail;
 

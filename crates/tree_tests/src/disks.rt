@@ -1,6 +1,6 @@
 //! Small trees, and what stands there.
 
-use sd_edge::{BuildFault, MemDisk};
+use mem_io::{BuildFault, MemDisk};
 use std::alloc::Global;
 use std::test::Fail;
 

@@ -2,7 +2,7 @@
 
 use crate::commands::{one_to_digit, swept, tells};
 use crate::disks::{NEW, Node, OLD, fill, first_other_mode, holds};
-use sd_edge::MemDisk;
+use mem_io::MemDisk;
 use std::alloc::Global;
 use std::test::Fail;
 

@@ -2,7 +2,7 @@
 
 use crate::commands::{Command, first_wrong_on};
 use crate::disks::{Node, fill};
-use sd_edge::MemDisk;
+use mem_io::MemDisk;
 use std::alloc::Global;
 use std::test::Fail;
 

@@ -4,8 +4,9 @@ ghost use Rattle.std.specs.Prelude.{◌<◌};
 
 use crate::commands::{globs_of, one_to_digit, tells, text_of};
 use crate::disks::{Node, OLD, TWO_FILES, fill, first_other_bytes};
+use mem_io::MemDisk;
 use sd_core::{Report, SweepFault, sweep_capped};
-use sd_edge::{Globs, MemDisk};
+use sd_io::Globs;
 use std::alloc::Global;
 use std::test::Fail;
 

@@ -2,7 +2,7 @@
 
 use crate::commands::{Command, first_wrong, first_wrong_on};
 use crate::disks::{NEW, Node, TWO_FILES};
-use sd_edge::MemDisk;
+use mem_io::MemDisk;
 use std::alloc::Global;
 use std::test::Fail;
 

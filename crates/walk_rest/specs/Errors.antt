@@ -1,11 +1,11 @@
 -- What an error tells of itself.
 use Rattle.std.specs.Prelude.{◌≡◌, ◌<◌, ◌⊎◌, ℕ, Bool, false, IsTrue, List, Option, Some, None}
-use Rattle.sd_edge.specs.declared.fault.DiskFault.{DiskFault}
-use Rattle.sd_edge.specs.declared.fault.DiskFault.TheVariants as fault
-use Rattle.sd_edge.specs.declared.meta.Ident.{Ident}
-use Rattle.sd_edge.specs.Count.{HasRisen}
-use Rattle.sd_edge.specs.Disk.{DiskState}
-use Rattle.sd_edge.specs.Files.{LeadsNowhere}
+use Rattle.sd_io.specs.declared.fault.DiskFault.{DiskFault}
+use Rattle.sd_io.specs.declared.fault.DiskFault.TheVariants as fault
+use Rattle.sd_io.specs.declared.meta.Ident.{Ident}
+use Rattle.sd_io.specs.Count.{HasRisen}
+use Rattle.sd_io.specs.Disk.{DiskState}
+use Rattle.sd_io.specs.Files.{LeadsNowhere}
 use Rattle.walk_rest.specs.declared.entry.DirEntry.{DirEntry}
 use Rattle.walk_rest.specs.declared.error.Error.{Error}
 use Rattle.walk_rest.specs.declared.error.Error.TheVariants.{Disk, Absent, Loop, NoMemory, TooMany}

@@ -4,10 +4,10 @@ use Rattle.std.specs.List.{filter_map}
 use Rattle.std.specs.FinMap.{from_entries}
 use Rattle.std.specs.Ordering.{nat_cmp}
 use Rattle.std.specs.Cmp.Lexicographic.{slice_cmp}
-use Rattle.sd_edge.specs.Tree.{Name, NameList, Content, directory, link, file, Node, Tree}
-use Rattle.sd_edge.specs.MemTree.{name_below}
-use Rattle.sd_edge.specs.declared.meta.Kind.{Kind}
-use Rattle.sd_edge.specs.declared.meta.Kind.TheVariants as kind
+use Rattle.sd_io.specs.Tree.{Name, NameList, Content, directory, link, file, Node, Tree}
+use Rattle.sd_io.specs.Lists.{name_below}
+use Rattle.sd_io.specs.declared.meta.Kind.{Kind}
+use Rattle.sd_io.specs.declared.meta.Kind.TheVariants as kind
 use Rattle.walk_rest.specs.declared.error.Error.TheVariants as error
 use Rattle.walk_rest.specs.declared.level.Folder.{Folder}
 use Rattle.walk_rest.specs.Plan.{Comparison, Item, Plan, done, past, into}

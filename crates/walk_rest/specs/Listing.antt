@@ -1,8 +1,8 @@
 -- The listing of a root.
 use Rattle.std.specs.Prelude.{◌≡◌, ◌-◌, ◌^◌, ℕ, Bool, true, false, List, [], ◌∷◌, Option, Some, None, Err, if◌then◌else◌}
 use Rattle.std.specs.Option.{option_map_or}
-use Rattle.sd_edge.specs.Tree.{Node, Tree}
-use Rattle.sd_edge.specs.Files.{kind_of}
+use Rattle.sd_io.specs.Tree.{Node, Tree}
+use Rattle.sd_io.specs.Files.{kind_of}
 use Rattle.walk_rest.specs.declared.entry.DirEntry.{DirEntry}
 use Rattle.walk_rest.specs.declared.error.Error.{Error}
 use Rattle.walk_rest.specs.declared.error.Error.TheVariants as error

@@ -1,8 +1,8 @@
 -- The name of an entry's file, by its path.
 use Rattle.std.specs.Prelude.{ℕ, List}
 use Rattle.std.specs.Option.{option_map_or}
-use Rattle.sd_edge.specs.Tree.{Name, name_cmp}
-use Rattle.sd_edge.specs.Paths.{parts_of, folder_and_name}
+use Rattle.sd_io.specs.Tree.{Name, name_cmp}
+use Rattle.sd_io.specs.Paths.{parts_of, folder_and_name}
 use Rattle.walk_rest.specs.Plan.{Comparison}
 
 -- the last part of a path; the whole path where that is `..` or there is none

@@ -4,14 +4,14 @@ use Rattle.std.specs.Option.{option_and_then, option_map_or}
 use Rattle.std.specs.Ordering.{is_lt}
 use Rattle.std.specs.declared.cmp.Ordering.{Ordering}
 use Rattle.std.specs.List.{ends_with}
-use Rattle.sd_edge.specs.Tree.{NameList, Node, Tree, node_at, is_directory_content}
-use Rattle.sd_edge.specs.Paths.{reached}
-use Rattle.sd_edge.specs.Files.{kind_of}
-use Rattle.sd_edge.specs.Lists.{directory_of, TellAll}
-use Rattle.sd_edge.specs.declared.meta.Kind.{Kind}
-use Rattle.sd_edge.specs.declared.meta.Kind.TheVariants.{Directory, Link, File, Other}
-use Rattle.sd_edge.specs.declared.meta.Ident.{Ident}
-use Rattle.sd_edge.specs.declared.meta.RawEntry.{RawEntry}
+use Rattle.sd_io.specs.Tree.{NameList, Node, Tree, node_at, is_directory_content}
+use Rattle.sd_io.specs.Paths.{reached}
+use Rattle.sd_io.specs.Files.{kind_of}
+use Rattle.sd_io.specs.Lists.{directory_of, TellAll}
+use Rattle.sd_io.specs.declared.meta.Kind.{Kind}
+use Rattle.sd_io.specs.declared.meta.Kind.TheVariants.{Directory, Link, File, Other}
+use Rattle.sd_io.specs.declared.meta.Ident.{Ident}
+use Rattle.sd_io.specs.declared.meta.RawEntry.{RawEntry}
 use Rattle.walk_rest.specs.declared.entry.DirEntry.{DirEntry}
 use Rattle.walk_rest.specs.declared.error.Error.{Error}
 use Rattle.walk_rest.specs.declared.error.Error.TheVariants as error

@@ -1,11 +1,11 @@
 //! The devices of nodes.
 
 ghost use Rattle.std.specs.Prelude.{◌≡◌, ◌≢◌, true, IsTrue, IfOk, IsErrOf, Some, option_map};
-ghost use Rattle.sd_edge.specs.Disk.{SameTree, SameLists, HasCause};
-ghost use Rattle.sd_edge.specs.Files.{LeadsNowhere};
+ghost use Rattle.sd_io.specs.Disk.{SameTree, SameLists, HasCause};
+ghost use Rattle.sd_io.specs.Files.{LeadsNowhere};
 ghost use Rattle.walk_rest.specs.Plan.{node_to};
 
-use sd_edge::{Disk, DiskFault};
+use sd_io::{Disk, DiskFault};
 
 /// The number of the device of the node that a path leads to. Refuses `Absent` exactly where the path leads nowhere.
 pub fn device_num<D: Disk>(disk: &mut D, path: &str) -> Result<u64, DiskFault>

@@ -1,14 +1,14 @@
 //! The entries that a walk gives.
 
 ghost use Rattle.std.specs.Prelude.{◌≡◌, ◌≤◌, ◌⊎◌, ◌↔◌, ℕ, IsTrue, IfOk, IfErr};
-ghost use Rattle.sd_edge.specs.Disk.{SameTree, SameLists};
-ghost use Rattle.sd_edge.specs.Files.{Describes};
+ghost use Rattle.sd_io.specs.Disk.{SameTree, SameLists};
+ghost use Rattle.sd_io.specs.Files.{Describes};
 ghost use Rattle.walk_rest.specs.Names.{file_name};
 ghost use Rattle.walk_rest.specs.Errors.{refusal_of, IsRefusedFor};
 
 use crate::Error;
 use crate::names::file_name;
-use sd_edge::{Disk, DiskFault, Kind, Meta, NoMemory, Text};
+use sd_io::{Disk, DiskFault, Kind, Meta, NoMemory, Text};
 use std::alloc::Global;
 use std::fmt;
 

@@ -4,7 +4,7 @@ ghost use Rattle.std.specs.Prelude.{◌≡◌, option_map};
 ghost use Rattle.walk_rest.specs.declared.error.Error.TheVariants as error;
 ghost use Rattle.walk_rest.specs.Errors.{error_kind, error_path, error_depth, error_ancestor, error_ident, error_fault};
 
-use sd_edge::{DiskFault, Ident, NoMemory, Text};
+use sd_io::{DiskFault, Ident, NoMemory, Text};
 use std::alloc::{AllocError, AllocFailed};
 use std::fmt;
 

@@ -2,7 +2,7 @@
 
 ghost use Rattle.std.specs.Prelude.{◌≡◌, ℕ, true, false, Some, None, codes, [], ◌∷◌};
 ghost use Rattle.std.specs.Ordering.{nat_cmp, on};
-ghost use Rattle.sd_edge.specs.declared.meta.Kind.TheVariants as kind;
+ghost use Rattle.sd_io.specs.declared.meta.Kind.TheVariants as kind;
 ghost use Rattle.walk_rest.specs.Names.{file_name};
 ghost use Rattle.walk_rest.specs.Listing.{first_options, IsListing};
 ghost use Rattle.walk_rest.specs.Rest.{Rest, IsStep, Skips, start};

@@ -3,7 +3,7 @@
 ghost use Rattle.std.specs.Prelude.{◌≡◌, ◌≤◌, ◌+◌, ◌*◌, ℕ, Bool, List, None};
 ghost use Rattle.std.specs.FinMap.{len};
 ghost use Rattle.std.specs.declared.cmp.Ordering as ordering;
-ghost use Rattle.sd_edge.specs.Tree.{Tree, IsTree};
+ghost use Rattle.sd_io.specs.Tree.{Tree, IsTree};
 ghost use Rattle.walk_rest.specs.declared.entry.DirEntry as entry;
 ghost use Rattle.walk_rest.specs.declared.level.Folder as folder;
 ghost use Rattle.walk_rest.specs.declared.options.Options as options;

@@ -3,8 +3,8 @@
 ghost use Rattle.std.specs.Prelude.{◌≡◌, ◌++◌, ◌∷◌, [], ℕ, Bool, List, Some, None};
 ghost use Rattle.std.specs.Cmp.{IsTotalOrder};
 ghost use Rattle.std.specs.List.Sorted.{IsSorted, IsStable};
-ghost use Rattle.sd_edge.specs.Tree.{Tree, IsName, name_cmp};
-ghost use Rattle.sd_edge.specs.declared.meta.RawEntry.{RawEntry};
+ghost use Rattle.sd_io.specs.Tree.{Tree, IsName, name_cmp};
+ghost use Rattle.sd_io.specs.declared.meta.RawEntry.{RawEntry};
 ghost use Rattle.walk_rest.specs.Names.{by_file_name};
 ghost use Rattle.walk_rest.specs.declared.entry.DirEntry.{DirEntry};
 ghost use Rattle.walk_rest.specs.declared.options.Options.{Options};
@@ -15,7 +15,7 @@ ghost use Rattle.walk_rest.specs.declared.level.Entries.TheVariants as entries;
 ghost use Rattle.walk_rest.specs.Plan.{Comparison, Item, Plan, Manner, IsPlan, IsContents, entry_below, sorted};
 ghost use Rattle.walk_rest.specs.Rest.{Rest, Part, Runs, start, entered};
 ghost use Rattle.walk_rest.specs.Level.{HasParts, chain_above, ReadsFolder, ReadsPart, SkipsTo, AllSameReads, IsOpenEntries, KeepsList, CutsTo};
-ghost use Rattle.sd_edge.specs.Disk.{DiskState};
+ghost use Rattle.sd_io.specs.Disk.{DiskState};
 ghost use Rattle.walk_rest.specs.Listing.{IsListing, IsRootPlan, manner_of};
 
 /// A root has one listing at most.

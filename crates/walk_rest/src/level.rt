@@ -1,7 +1,7 @@
 //! What a walk keeps of the directories that it entered.
 
 use crate::DirEntry;
-use sd_edge::{Ident, ListId, Text};
+use sd_io::{Ident, ListId, Text};
 
 /// A directory that was entered.
 #[derive(Drop)]

@@ -2,7 +2,7 @@
 
 ghost use Rattle.std.specs.Prelude.{◌≡◌, None, Some, option_map};
 ghost use Rattle.std.specs.List.{last_or};
-ghost use Rattle.sd_edge.specs.Paths.{is_dropped, parts_of};
+ghost use Rattle.sd_io.specs.Paths.{is_dropped, parts_of};
 ghost use Rattle.walk_rest.specs.Names.{file_name};
 
 /// The last part of a path that is cut at `/`, where empty parts and `.` are dropped; the whole path where that part is

@@ -2,15 +2,15 @@
 
 ghost use Rattle.std.specs.Prelude.{◌≡◌, ◌+◌, ◌-◌, ◌<◌, ◌≤◌, ◌^◌, ℕ, List, vec_len, All, IsPermutation, IsTrue, IsSome, IfOk, OnOk, reverse, map, length, if◌then◌else◌};
 ghost use Rattle.std.specs.String.{string_bytes};
-ghost use Rattle.sd_edge.specs.Disk.{SameLists, SameTree};
-ghost use Rattle.sd_edge.specs.Lists.{IsOpen, SameOtherLists, SameOpen, directory_of};
+ghost use Rattle.sd_io.specs.Disk.{SameLists, SameTree};
+ghost use Rattle.sd_io.specs.Lists.{IsOpen, SameOtherLists, SameOpen, directory_of};
 ghost use Rattle.walk_rest.specs.declared.entry.DirEntry as entry;
 ghost use Rattle.walk_rest.specs.Plan.{Comparison, sorted, path_below, entry_below, IsContents};
 ghost use Rattle.walk_rest.specs.Level.{AddsFaults, TakesEntries, TakesWithFaults, LeavesLists, ReadsFolder, unended};
 ghost use Rattle.walk_rest.specs.Read.{ReadsList, manner_by};
 
 use crate::{DirEntry, Due, Folder, Options, Order};
-use sd_edge::{Disk, DiskFault, ListId, NoMemory, RawEntry, Text};
+use sd_io::{Disk, DiskFault, ListId, NoMemory, RawEntry, Text};
 use std::alloc::Global;
 
 /// The entries of a directory that was entered, in their order, the next one last; none at `max_depth`, where its list isn't

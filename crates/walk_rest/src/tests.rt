@@ -4,7 +4,7 @@ ghost use Rattle.std.specs.Prelude.{◌≡◌};
 ghost use Rattle.walk_rest.specs.Plan.{Comparison};
 
 use crate::*;
-use sd_edge::{Ident, Kind, Text};
+use sd_io::{Ident, Kind, Text};
 use std::alloc::Global;
 use std::cmp::Ordering;
 use std::test::Fail;

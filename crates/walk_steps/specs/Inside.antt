@@ -1,8 +1,8 @@
 -- What is due of a walk that is under way.
 use Rattle.std.specs.Prelude.{◌≡◌, ◌⊎◌, Bool, IsTrue, List, [], ◌∷◌, ◌++◌, map, reverse, Option, Some, None}
 use Rattle.std.specs.declared.cmp.Ordering.{Ordering}
-use Rattle.sd_edge.specs.Tree.{Tree}
-use Rattle.sd_edge.specs.Disk.{DiskState}
+use Rattle.sd_io.specs.Tree.{Tree}
+use Rattle.sd_io.specs.Disk.{DiskState}
 use Rattle.walk_rest.specs.declared.entry.DirEntry.{DirEntry}
 use Rattle.walk_rest.specs.declared.level.Folder.{Folder}
 use Rattle.walk_rest.specs.declared.level.Entries.{Entries}

@@ -1,8 +1,8 @@
 -- What reading the list of a level does.
 use Rattle.std.specs.Prelude.{◌≡◌, ◌⊎◌, ℕ, List, [], ◌∷◌, ◌++◌, length, map, Some}
-use Rattle.sd_edge.specs.Disk.{DiskState}
-use Rattle.sd_edge.specs.Count.{HasRisen}
-use Rattle.sd_edge.specs.declared.meta.RawEntry.{RawEntry}
+use Rattle.sd_io.specs.Disk.{DiskState}
+use Rattle.sd_io.specs.Count.{HasRisen}
+use Rattle.sd_io.specs.declared.meta.RawEntry.{RawEntry}
 use Rattle.walk_rest.specs.declared.level.Due.{Due}
 use Rattle.walk_rest.specs.declared.level.Folder.{Folder}
 use Rattle.walk_rest.specs.declared.level.Entries.{Entries}

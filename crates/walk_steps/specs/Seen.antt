@@ -1,10 +1,10 @@
 -- What the code makes of an entry.
 use Rattle.std.specs.Prelude.{◌≡◌, ◌⊎◌, ◌<◌, ℕ, Bool, IsTrue, ◌||◌, ◌&&◌, nat_lt, List, Option, Some, None, option_map}
-use Rattle.sd_edge.specs.Count.{HasRisen}
-use Rattle.sd_edge.specs.Tree.{Node}
-use Rattle.sd_edge.specs.declared.fault.DiskFault.{DiskFault}
-use Rattle.sd_edge.specs.declared.fault.DiskFault.TheVariants.{Absent, Taken, Failed, NoMemory}
-use Rattle.sd_edge.specs.declared.meta.Ident.{Ident}
+use Rattle.sd_io.specs.Count.{HasRisen}
+use Rattle.sd_io.specs.Tree.{Node}
+use Rattle.sd_io.specs.declared.fault.DiskFault.{DiskFault}
+use Rattle.sd_io.specs.declared.fault.DiskFault.TheVariants.{Absent, Taken, Failed, NoMemory}
+use Rattle.sd_io.specs.declared.meta.Ident.{Ident}
 use Rattle.walk_rest.specs.declared.entry.DirEntry.{DirEntry}
 use Rattle.walk_rest.specs.declared.error.Error.{Error}
 use Rattle.walk_rest.specs.declared.error.Error.TheVariants as error

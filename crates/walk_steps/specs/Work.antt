@@ -1,6 +1,6 @@
 -- A number that falls with each step of a walk.
 use Rattle.std.specs.Prelude.{ℕ, ◌+◌, ◌*◌, List, [], ◌∷◌, length, Option, Some, None, if◌then◌else◌}
-use Rattle.sd_edge.specs.Disk.{DiskState, OpenList}
+use Rattle.sd_io.specs.Disk.{DiskState, OpenList}
 use Rattle.walk_rest.specs.declared.entry.DirEntry.{DirEntry}
 use Rattle.walk_rest.specs.declared.level.Folder.{Folder}
 use Rattle.walk_rest.specs.declared.level.Entries.{Entries}

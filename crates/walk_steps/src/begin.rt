@@ -1,13 +1,13 @@
 //! The root of a walk.
 
 ghost use Rattle.std.specs.Prelude.{◌≡◌, ◌≤◌, ◌⊎◌, IsTrue, IfOk, IfErr};
-ghost use Rattle.sd_edge.specs.Disk.{SameTree, SameLists};
+ghost use Rattle.sd_io.specs.Disk.{SameTree, SameLists};
 ghost use Rattle.walk_rest.specs.Listing.{begins, beginning, device_to};
 ghost use Rattle.walk_steps.specs.Steps.{CannotBegin};
 
 use crate::Inside;
 use crate::see::refusal;
-use sd_edge::{Disk, Text};
+use sd_io::{Disk, Text};
 use walk_rest::{DirEntry, Error};
 
 /// The root's own entry. Where directories on other devices aren't entered, its device is noted first. Refuses with the error that stands in place of

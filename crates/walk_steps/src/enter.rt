@@ -8,7 +8,7 @@ ghost use Rattle.walk_steps.specs.Inside.{SameWalk, levels_of};
 ghost use Rattle.walk_steps.specs.Steps.{Enters};
 
 use crate::Inside;
-use sd_edge::NoMemory;
+use sd_io::NoMemory;
 use walk_rest::{DirEntry, Entries, Folder, Level, Options};
 
 /// Whether an entry at this depth is an item.

@@ -1,9 +1,9 @@
 //! Worked examples of what answers tell, and of what levels hold.
 
 ghost use Rattle.std.specs.Prelude.{◌≡◌, Bool, true, false, [], ◌∷◌, Some, None, Ok, Err, codes};
-ghost use Rattle.sd_edge.specs.Tree.{Tree};
-ghost use Rattle.sd_edge.specs.declared.meta.Ident.{Ident};
-ghost use Rattle.sd_edge.specs.declared.meta.RawEntry.{RawEntry};
+ghost use Rattle.sd_io.specs.Tree.{Tree};
+ghost use Rattle.sd_io.specs.declared.meta.Ident.{Ident};
+ghost use Rattle.sd_io.specs.declared.meta.RawEntry.{RawEntry};
 ghost use Rattle.walk_rest.specs.declared.entry.DirEntry.{DirEntry};
 ghost use Rattle.walk_rest.specs.declared.error.Error.TheVariants as error;
 ghost use Rattle.walk_rest.specs.declared.level.Due.{Due};

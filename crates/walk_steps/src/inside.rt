@@ -1,6 +1,6 @@
 //! What a walk keeps in memory.
 
-use sd_edge::Text;
+use sd_io::Text;
 use std::alloc::Global;
 use walk_rest::{Level, Options};
 

@@ -1,7 +1,7 @@
 //! Keeping the rest of an open list, so that it can be closed.
 
 ghost use Rattle.std.specs.Prelude.{◌≡◌, ◌+◌, ◌<◌, ◌≤◌, ℕ, IsTrue, IfSome, IfNone, OnOk, OnErr};
-ghost use Rattle.sd_edge.specs.Disk.{SameTree};
+ghost use Rattle.sd_io.specs.Disk.{SameTree};
 ghost use Rattle.walk_rest.specs.Level.{AddsFaults, IsOpenEntries};
 ghost use Rattle.walk_steps.specs.Causes.{CountsFaults};
 ghost use Rattle.walk_steps.specs.Inside.{IsRead};
@@ -10,7 +10,7 @@ ghost use Rattle.walk_steps.specs.Sound.{AreApart, AreRead, AreShallow, AreSound
 ghost use Rattle.walk_steps.specs.Lists.{IsOldestOpen, KeepsLevel, KeepsOldest};
 ghost use Rattle.walk_steps.specs.Work.{work_in, work_of};
 
-use sd_edge::{Disk, NoMemory};
+use sd_io::{Disk, NoMemory};
 use std::alloc::Global;
 use walk_rest::{Entries, Level, read_list};
 

@@ -1,7 +1,7 @@
 //! Leaving directories.
 
 ghost use Rattle.std.specs.Prelude.{◌≡◌, ◌+◌, ◌∷◌, ◌≤◌, IsTrue, []};
-ghost use Rattle.sd_edge.specs.Disk.{SameTree};
+ghost use Rattle.sd_io.specs.Disk.{SameTree};
 ghost use Rattle.walk_rest.specs.Plan.{Comparison};
 ghost use Rattle.walk_rest.specs.Rest.{Rest};
 ghost use Rattle.walk_steps.specs.Causes.{faults_due};
@@ -12,7 +12,7 @@ ghost use Rattle.walk_steps.specs.Steps.{SkipsTo};
 ghost use Rattle.walk_steps.specs.Work.{left_to_do};
 
 use crate::Inside;
-use sd_edge::Disk;
+use sd_io::Disk;
 use walk_rest::{Entries, Level, Order};
 
 /// Closes a level's list, if it is open.

@@ -1,8 +1,8 @@
 //! The next item of a walk.
 
 ghost use Rattle.std.specs.Prelude.{◌≡◌, ◌≢◌, ◌+◌, ◌^◌, ◌<◌, ◌≤◌, ◌⊎◌, ◌↔◌, ℕ, true, false, [], Some, None, Err, IsTrue, IfOk, OnOk, OnSome, IfNone};
-ghost use Rattle.sd_edge.specs.Count.{HasRisen};
-ghost use Rattle.sd_edge.specs.Disk.{SameTree};
+ghost use Rattle.sd_io.specs.Count.{HasRisen};
+ghost use Rattle.sd_io.specs.Disk.{SameTree};
 ghost use Rattle.walk_rest.specs.declared.error.Error.TheVariants as error;
 ghost use Rattle.walk_rest.specs.Plan.{Comparison};
 ghost use Rattle.walk_rest.specs.Rest.{Rest};
@@ -20,7 +20,7 @@ use crate::leave::{close_level, give_up};
 use crate::open::{read_directory, read_root};
 use crate::see::{Sight, named, see};
 use crate::take::take_entry;
-use sd_edge::{Disk, DiskFault, NoMemory};
+use sd_io::{Disk, DiskFault, NoMemory};
 use walk_rest::{DirEntry, Entries, Error, Folder, Level, Order};
 
 /// The next item of a walk, or `None` where nothing is left. `NoMemory` closes every list that the walk holds and ends it.

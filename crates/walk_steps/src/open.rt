@@ -1,10 +1,10 @@
 //! Reading what was entered for the first time.
 
 ghost use Rattle.std.specs.Prelude.{◌≡◌, ◌≢◌, ◌⊎◌, ◌+◌, ◌<◌, ◌≤◌, ◌^◌, ℕ, max, vec_len, List, true, false, None, Some, Err, IsTrue, IsSome, IfOk, OnOk, OnErr};
-ghost use Rattle.sd_edge.specs.declared.meta.RawEntry as raw;
-ghost use Rattle.sd_edge.specs.Disk.{SameLists, SameTree};
-ghost use Rattle.sd_edge.specs.Count.{HasRisen};
-ghost use Rattle.sd_edge.specs.Lists.{IsOpen, directory_of};
+ghost use Rattle.sd_io.specs.declared.meta.RawEntry as raw;
+ghost use Rattle.sd_io.specs.Disk.{SameLists, SameTree};
+ghost use Rattle.sd_io.specs.Count.{HasRisen};
+ghost use Rattle.sd_io.specs.Lists.{IsOpen, directory_of};
 ghost use Rattle.walk_rest.specs.declared.level.Folder as folder;
 ghost use Rattle.walk_rest.specs.declared.level.Level as level;
 ghost use Rattle.walk_rest.specs.declared.level.Entries.TheVariants.{Unread};
@@ -24,7 +24,7 @@ use crate::Inside;
 use crate::begin::begin;
 use crate::keep::keep_list;
 use crate::see::named;
-use sd_edge::{Disk, DiskFault, NoMemory, Text};
+use sd_io::{Disk, DiskFault, NoMemory, Text};
 use std::alloc::Global;
 use walk_rest::{DirEntry, Due, Entries, Error, Folder, Level, Order, read_folder};
 

@@ -1,9 +1,9 @@
 //! What a walk makes of an entry.
 
 ghost use Rattle.std.specs.Prelude.{◌≡◌, ◌≢◌, ◌⊎◌, ◌<◌, ◌≤◌, [], Some, None, true, false, IsTrue, IfOk, IfErr, Option, option_map};
-ghost use Rattle.sd_edge.specs.Count.{HasRisen};
-ghost use Rattle.sd_edge.specs.Tree.{Node};
-ghost use Rattle.sd_edge.specs.Disk.{SameTree, SameLists};
+ghost use Rattle.sd_io.specs.Count.{HasRisen};
+ghost use Rattle.sd_io.specs.Tree.{Node};
+ghost use Rattle.sd_io.specs.Disk.{SameTree, SameLists};
 ghost use Rattle.walk_rest.specs.Plan.{Manner, ident_of, node_to, seen, seen_directory, seen_link, seen_root_link};
 ghost use Rattle.walk_rest.specs.Level.{with_folder};
 ghost use Rattle.walk_steps.specs.Inside.{chain_with};
@@ -11,7 +11,7 @@ ghost use Rattle.walk_steps.specs.Causes.{IsSightOf};
 ghost use Rattle.walk_steps.specs.Seen.{ByEachManner, seen_of, refusal_of, ancestor_path, GoesBy, KnowsIdent, LoopsTo, FailsAsSeen, FailsCounted, HasCauseAt};
 
 use crate::Inside;
-use sd_edge::{Disk, DiskFault, Ident, NoMemory, Text};
+use sd_io::{Disk, DiskFault, Ident, NoMemory, Text};
 use std::alloc::Global;
 use walk_rest::{DirEntry, Error, Folder, Level};
 

@@ -1,9 +1,9 @@
 //! Taking one entry of a directory.
 
 ghost use Rattle.std.specs.Prelude.{◌≡◌, ◌≢◌, ◌∷◌, ◌+◌, ◌^◌, ◌<◌, ◌≤◌, IsTrue, IfOk, IfSome, IfNone, OnOk, IsErrOf, []};
-ghost use Rattle.sd_edge.specs.Count.{HasRisen};
-ghost use Rattle.sd_edge.specs.Disk.{SameTree};
-ghost use Rattle.sd_edge.specs.Lists.{SameOpen};
+ghost use Rattle.sd_io.specs.Count.{HasRisen};
+ghost use Rattle.sd_io.specs.Disk.{SameTree};
+ghost use Rattle.sd_io.specs.Lists.{SameOpen};
 ghost use Rattle.walk_rest.specs.Sorting.{IsSublist};
 ghost use Rattle.walk_rest.specs.Level.{IsOpenEntries};
 ghost use Rattle.walk_steps.specs.Inside.{IsRead, entries_due};
@@ -12,7 +12,7 @@ ghost use Rattle.walk_steps.specs.Listed.{below_one, waits_of};
 ghost use Rattle.walk_steps.specs.Lists.{SameLevel};
 ghost use Rattle.walk_steps.specs.Work.{work_of};
 
-use sd_edge::{Disk, DiskFault};
+use sd_io::{Disk, DiskFault};
 use std::alloc::Global;
 use walk_rest::{DirEntry, Entries, Level, entry_of};
 

@@ -5,7 +5,8 @@
 
 ghost use Rattle.std.specs.Iterator.{IsFinite};
 
-use sd_edge::{Disk, Kind, MemDisk};
+use mem_io::MemDisk;
+use sd_io::{Disk, Kind};
 use std::alloc::{AllocError, Global};
 use std::process::Abort;
 use std::test::Fail;

@@ -3,7 +3,8 @@
 use crate::asking::{Setting, asked, check_lines, text_of};
 use crate::links::linked;
 use crate::rows::foo;
-use sd_edge::{BuildFault, Disk, DiskFault, Ident, Kind, MemDisk, Meta};
+use mem_io::{BuildFault, MemDisk};
+use sd_io::{Disk, DiskFault, Ident, Kind, Meta};
 use std::alloc::Global;
 use std::process::Abort;
 use std::test::Fail;

@@ -2,7 +2,7 @@
 
 use crate::asking::{Setting, asked, check_lines, check_text, sorted, text_of, unsorted};
 use crate::rows::foo;
-use sd_edge::MemDisk;
+use mem_io::MemDisk;
 use std::alloc::Global;
 use std::process::Abort;
 use std::test::Fail;

@@ -1,12 +1,13 @@
 //! Disks that tell nothing of their trees, and change them under a walk.
 
 ghost use Rattle.std.specs.Prelude.{◌≡◌, ◌<◌, ◌≤◌, ◌⊎◌};
-ghost use Rattle.sd_edge.specs.Count.{HasRisen};
+ghost use Rattle.sd_io.specs.Count.{HasRisen};
 
 use crate::asking::{Setting, asked, check_text, sorted, unsorted};
 use crate::links::linked;
 use crate::rows::foo;
-use sd_edge::{Disk, DiskFault, Ident, ListId, MemDisk, Meta, RawEntry, Text};
+use mem_io::MemDisk;
+use sd_io::{Disk, DiskFault, Ident, ListId, Meta, RawEntry, Text};
 use std::alloc::Global;
 use std::test::Fail;
 use walkdir::ErrorKind;
@@ -76,7 +77,7 @@ fn absent(faults: &mut u64) -> DiskFault
 impl Disk for FakeDisk {
     ghost use Rattle.std.specs.Prelude.{false};
     ghost use Rattle.std.proofs.lemmas.Bool.{false≢true};
-    ghost use Rattle.sd_edge.specs.MemDisk.{mem_state};
+    ghost use Rattle.mem_io.specs.MemDisk.{mem_state};
 
     ghost tells = { false };
 

@@ -4,7 +4,7 @@ ghost use Rattle.std.specs.Iterator.{IsFinite};
 
 use crate::asking::{Setting, asked, check_lines, check_text, push_line, text_of};
 use crate::rows::foo;
-use sd_edge::MemDisk;
+use mem_io::MemDisk;
 use std::alloc::{AllocError, Global};
 use std::process::Abort;
 use std::test::Fail;

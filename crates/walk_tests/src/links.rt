@@ -1,7 +1,7 @@
 //! Links that are followed.
 
 use crate::asking::{Setting, check_sorted, check_unsorted};
-use sd_edge::{BuildFault, MemDisk};
+use mem_io::{BuildFault, MemDisk};
 use std::alloc::Global;
 use std::test::Fail;
 

@@ -4,7 +4,8 @@ ghost use Rattle.std.specs.Iterator.{IsFinite};
 
 use crate::asking::{asked, check_lists, line};
 use crate::trees::{Question, Random, random_question, random_tree};
-use sd_edge::{Disk, MemDisk};
+use mem_io::MemDisk;
+use sd_io::Disk;
 use std::alloc::{AllocError, Global};
 use std::ops::Range;
 use std::process::Abort;

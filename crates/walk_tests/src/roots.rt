@@ -1,7 +1,7 @@
 //! Roots of all kinds.
 
 use crate::asking::{Setting, check_sorted};
-use sd_edge::{BuildFault, MemDisk};
+use mem_io::{BuildFault, MemDisk};
 use std::process::Abort;
 use std::test::Fail;
 

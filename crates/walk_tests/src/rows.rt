@@ -2,7 +2,7 @@
 
 use crate::asking::{Setting, asked, check_sorted, check_unsorted};
 use crate::links::linked;
-use sd_edge::{BuildFault, MemDisk};
+use mem_io::{BuildFault, MemDisk};
 use std::alloc::Global;
 use std::process::Abort;
 use std::test::Fail;

@@ -3,7 +3,7 @@
 ghost use Rattle.std.specs.Prelude.{◌<◌};
 
 use crate::asking::Setting;
-use sd_edge::MemDisk;
+use mem_io::MemDisk;
 use std::alloc::{AllocError, Global};
 use std::test::Fail;
 

@@ -1,6 +1,6 @@
 -- Several calls of a walk, one after another.
 use Rattle.std.specs.Prelude.{◌+◌, ◌≤◌, ℕ, Bool, List, [], ◌∷◌, Some, None}
-use Rattle.sd_edge.specs.Disk.{DiskState, SameLists, SameTree}
+use Rattle.sd_io.specs.Disk.{DiskState, SameLists, SameTree}
 use Rattle.walk_rest.specs.Plan.{Comparison, Item}
 use Rattle.walk_steps.specs.declared.inside.Inside.{Inside}
 use Rattle.walk_steps.specs.Causes.{faults_told}

@@ -1,7 +1,7 @@
 -- Steps one after another, and what collecting them gives.
 use Rattle.std.specs.Prelude.{◌≡◌, ◌+◌, ◌⊎◌, ℕ, nat_lt, Bool, List, [], ◌∷◌, map, Some, Ok, Err, if◌then◌else◌}
-use Rattle.sd_edge.specs.Disk.{DiskState}
-use Rattle.sd_edge.specs.declared.meta.Ident.{Ident}
+use Rattle.sd_io.specs.Disk.{DiskState}
+use Rattle.sd_io.specs.declared.meta.Ident.{Ident}
 use Rattle.walk_rest.specs.declared.entry.DirEntry.{DirEntry}
 use Rattle.walk_rest.specs.declared.error.Error.{Error}
 use Rattle.walk_rest.specs.declared.error.Error.TheVariants as error

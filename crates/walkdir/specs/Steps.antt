@@ -1,8 +1,8 @@
 -- What the calls of a walk do.
 use Rattle.std.specs.Prelude.{◌≡◌, ◌≢◌, ◌⊎◌, ◌≤◌, ◌+◌, ℕ, Bool, true, false, IsTrue, ◌&&◌, is_some, Option, Some, None, Ok, Err, IfNone, [], List}
 use Rattle.std.proofs.Common.{sym, subst}
-use Rattle.sd_edge.specs.Count.{HasRisen}
-use Rattle.sd_edge.specs.Disk.{DiskState, SameTree}
+use Rattle.sd_io.specs.Count.{HasRisen}
+use Rattle.sd_io.specs.Disk.{DiskState, SameTree}
 use Rattle.walk_rest.specs.declared.error.Error.TheVariants as error
 use Rattle.walk_rest.specs.declared.level.Entries.{Entries}
 use Rattle.walk_rest.specs.declared.level.Entries.TheVariants.{Unread, Open, Kept}

@@ -1,7 +1,7 @@
 //! Collecting the entries of a walk.
 
 ghost use Rattle.std.specs.Prelude.{◌≡◌, ◌+◌, ◌<◌, ◌≤◌, [], false, Some, Err, IfOk, IfErr, IsErrOf};
-ghost use Rattle.sd_edge.specs.Disk.{SameTree};
+ghost use Rattle.sd_io.specs.Disk.{SameTree};
 ghost use Rattle.walk_steps.specs.Causes.{CountsFaults, FitsTree, faults_told};
 ghost use Rattle.walk_steps.specs.Inside.{SameWalk, levels_of};
 ghost use Rattle.walk_steps.specs.Listed.{waits_in};
@@ -10,7 +10,7 @@ ghost use Rattle.walk_steps.specs.Steps.{ByEachRest};
 ghost use Rattle.walkdir.specs.Collect.{IsAll, IsNoLoop, WhyNotAll, WhyNotCollected, below_root};
 
 use crate::into_iter::give_next;
-use sd_edge::Disk;
+use sd_io::Disk;
 use walk_rest::{DirEntry, Error, Order};
 use walk_steps::{Inside, give_up};
 

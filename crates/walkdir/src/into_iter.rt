@@ -2,8 +2,8 @@
 
 ghost use Rattle.std.specs.Prelude.{◌≡◌, ◌+◌, ◌<◌, ◌≤◌, ◌&&◌, [], Bool, false, IsTrue, Some, Err, IfOk, IfErr, IsErrOf, OnSome};
 ghost use Rattle.std.specs.Iterator.{at_most};
-ghost use Rattle.sd_edge.specs.Disk.{SameLists, SameTree};
-ghost use Rattle.sd_edge.specs.Files.{Describes};
+ghost use Rattle.sd_io.specs.Disk.{SameLists, SameTree};
+ghost use Rattle.sd_io.specs.Files.{Describes};
 ghost use Rattle.walk_rest.specs.Errors.{IsRefusedFor};
 ghost use Rattle.walk_rest.specs.Plan.{Comparison};
 ghost use Rattle.walk_rest.specs.Rest.{Rest};
@@ -18,7 +18,7 @@ ghost use Rattle.walkdir.specs.Steps.{ClosesAll, GivesNext, SkipsTop, is_directo
 
 use crate::collect::collect;
 use crate::{FilterEntry, Walk};
-use sd_edge::{Disk, Meta};
+use sd_io::{Disk, Meta};
 use std::iter::FusedIterator;
 use std::marker::PhantomData;
 use walk_rest::{DirEntry, Entries, Error, Level, Order};

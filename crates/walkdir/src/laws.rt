@@ -1,7 +1,7 @@
 //! What holds of all calls of a walk together.
 
 ghost use Rattle.std.specs.Prelude.{◌≡◌, ◌+◌, ◌≤◌, Bool, true, List, Some, Ok};
-ghost use Rattle.sd_edge.specs.Disk.{DiskState};
+ghost use Rattle.sd_io.specs.Disk.{DiskState};
 ghost use Rattle.walk_rest.specs.declared.entry.DirEntry.{DirEntry};
 ghost use Rattle.walk_rest.specs.Level.{IsAllowed};
 ghost use Rattle.walk_rest.specs.Plan.{Comparison, Item};
@@ -14,7 +14,7 @@ ghost use Rattle.walk_steps.specs.Steps.{IsNextInto, StepsTo};
 ghost use Rattle.walkdir.specs.Calls.{Calls, all_below, all_told};
 ghost use Rattle.walkdir.specs.Steps.{lies_unread};
 
-use sd_edge::Disk;
+use sd_io::Disk;
 use walk_rest::Order;
 
 /// The failures of the disk that a walk gave since it began are at most as many as the disk counted, or its count stands at its last value.

@@ -11,7 +11,7 @@ ghost use Rattle.walk_steps.specs.Sound.{IsSound, opens};
 ghost use Rattle.walkdir.specs.Steps.{Begins};
 
 use crate::IntoIter;
-use sd_edge::{Disk, NoMemory, Text};
+use sd_io::{Disk, NoMemory, Text};
 use std::alloc::Global;
 use std::cmp::Ordering;
 use walk_rest::{ByCmp, ByFileName, ByKey, DirEntry, Entries, Level, Options, Order, Unsorted};

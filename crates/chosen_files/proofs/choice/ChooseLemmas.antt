@@ -2,10 +2,10 @@
 use Rattle.std.proofs.Common.{◌≡◌, ◌≤◌, ℕ, Bool, true, List, map, None, Ok, Err, refl, sym, ◌∙◌, subst, arith, Result}
 use Rattle.std.specs.Prelude.{IsTrue, IsSome, All, IfErr, IsErrAnd}
 use Rattle.std.proofs.lemmas.List.Elements.{All-from_recursion}
-use Rattle.sd_edge.specs.Disk.{DiskState, SameTree}
-use Rattle.sd_edge.specs.Files.{Resolves, path_text}
-use Rattle.sd_edge.specs.Paths.{Leads, reached}
-use Rattle.sd_edge.specs.Tree.{IsTree, Tree}
+use Rattle.sd_io.specs.Disk.{DiskState, SameTree}
+use Rattle.sd_io.specs.Files.{Resolves, path_text}
+use Rattle.sd_io.specs.Paths.{Leads, reached}
+use Rattle.sd_io.specs.Tree.{IsTree, Tree}
 use Rattle.sd_course.specs.Course.{course, DiskFailed}
 use Rattle.walk_rest.specs.declared.entry.DirEntry.{DirEntry}
 use Rattle.walk_rest.specs.declared.error.Error.{Error}

@@ -4,8 +4,8 @@ use Rattle.std.specs.Prelude.{nat_lt, Some}
 use Rattle.std.specs.List.{AllByRecursion}
 use Rattle.std.proofs.lemmas.Bool.{ltb-true, lt-ltb}
 use Rattle.std.proofs.lemmas.List.Elements.{All-from_recursion}
-use Rattle.sd_edge.specs.Tree.{NameList, Tree, name_list_cmp}
-use Rattle.sd_edge.specs.Paths.{reached}
+use Rattle.sd_io.specs.Tree.{NameList, Tree, name_list_cmp}
+use Rattle.sd_io.specs.Paths.{reached}
 use Rattle.walk_rest.specs.declared.entry.DirEntry.{DirEntry}
 use Rattle.walk_rest.specs.declared.error.Error.{Error}
 use Rattle.walk_rest.specs.Plan.{Item}

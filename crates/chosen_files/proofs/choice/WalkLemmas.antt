@@ -2,12 +2,12 @@
 use Rattle.std.proofs.Common.{◌≡◌, ◌+◌, ◌<◌, ◌≤◌, ◌-◌, ◌^◌, ◌⊎◌, inl, inr, ℕ, Bool, true, false, List, [], ◌∷◌, map, length, Option, Some, Err, refl, sym, ◌∙◌, ap, subst, arith}
 use Rattle.std.specs.Prelude.{IsTrue, is_some}
 use Rattle.std.specs.List.{AllByRecursion}
-use Rattle.sd_edge.specs.Count.{HasRisen}
-use Rattle.sd_edge.specs.Disk.{DiskState}
-use Rattle.sd_edge.specs.Files.{Resolves, path_text}
-use Rattle.sd_edge.specs.Paths.{reached}
-use Rattle.sd_edge.specs.Tree.{NameList, Tree, IsTree}
-use Rattle.sd_edge.proofs.PathTextLemmas.{text_not_followed}
+use Rattle.sd_io.specs.Count.{HasRisen}
+use Rattle.sd_io.specs.Disk.{DiskState}
+use Rattle.sd_io.specs.Files.{Resolves, path_text}
+use Rattle.sd_io.specs.Paths.{reached}
+use Rattle.sd_io.specs.Tree.{NameList, Tree, IsTree}
+use Rattle.sd_io.proofs.PathTextLemmas.{text_not_followed}
 use Rattle.sd_course.specs.Course.{course}
 use Rattle.walk_rest.specs.declared.entry.DirEntry.{DirEntry}
 use Rattle.walk_rest.specs.declared.error.Error.{Error}

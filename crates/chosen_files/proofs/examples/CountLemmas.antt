@@ -4,8 +4,8 @@ use Rattle.std.specs.Prelude.{codes, IsSome, is_some}
 use Rattle.std.specs.List.Sorted.{IsStrictlySortedBy}
 use Rattle.std.specs.FinMap.{find}
 use Rattle.std.proofs.lemmas.List.Elements.{All-from_recursion}
-use Rattle.sd_edge.specs.Tree.{NameList, directory, name_list_cmp, is_directory_at, is_directory_node}
-use Rattle.sd_edge.specs.Paths.{parts_of, reached}
+use Rattle.sd_io.specs.Tree.{NameList, directory, name_list_cmp, is_directory_at, is_directory_node}
+use Rattle.sd_io.specs.Paths.{parts_of, reached}
 use Rattle.walk_rest.specs.Examples.{tree_with}
 use Rattle.chosen_files.specs.Below.{IsBelow, HasFewerBelow, HasManyBelow}
 use Rattle.chosen_files.specs.Examples.{d_nodes}

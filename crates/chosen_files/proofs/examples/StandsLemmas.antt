@@ -8,8 +8,8 @@ use Rattle.std.specs.Cmp.Lexicographic.{lists_total, nat_list_cmp_total}
 use Rattle.std.specs.FinMap.{find, get-from_entries, nat_cmp-IsAntisymmetric, slice_cmp-IsAntisymmetric}
 use Rattle.std.specs.FinMap.Entries.{is_some-find}
 use Rattle.std.proofs.lemmas.Map.Views.{tells_apart}
-use Rattle.sd_edge.specs.Tree.{Name, NameList, Content, directory, link, file, other, Node, Tree, name_list_cmp, node_at, is_directory_at}
-use Rattle.sd_edge.specs.Paths.{Linking, through_node, steps, followed, links_most, start_of, parts_of, is_up, reached}
+use Rattle.sd_io.specs.Tree.{Name, NameList, Content, directory, link, file, other, Node, Tree, name_list_cmp, node_at, is_directory_at}
+use Rattle.sd_io.specs.Paths.{Linking, through_node, steps, followed, links_most, start_of, parts_of, is_up, reached}
 use Rattle.walk_rest.specs.Examples.{tree_with}
 use Rattle.chosen_files.proofs.laws.PlaceLemmas.{In}
 

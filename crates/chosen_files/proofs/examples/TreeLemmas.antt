@@ -5,10 +5,10 @@ use Rattle.std.specs.Option.{option_and_then}
 use Rattle.std.specs.Str.{bytes_eq}
 use Rattle.std.specs.FinMap.{find}
 use Rattle.std.proofs.lemmas.Option.{same_Some}
-use Rattle.sd_edge.specs.Tree.{Name, NameList, Content, directory, link, file, other, Node, Tree, name_list_cmp, node_at, is_directory_at, is_directory_node}
-use Rattle.sd_edge.specs.Paths.{Linking, through_node, steps, followed, start_of, parts_of, is_up, reached}
-use Rattle.sd_edge.specs.Files.{len_of}
-use Rattle.sd_edge.specs.declared.meta.Kind.TheVariants as kind
+use Rattle.sd_io.specs.Tree.{Name, NameList, Content, directory, link, file, other, Node, Tree, name_list_cmp, node_at, is_directory_at, is_directory_node}
+use Rattle.sd_io.specs.Paths.{Linking, through_node, steps, followed, start_of, parts_of, is_up, reached}
+use Rattle.sd_io.specs.Files.{len_of}
+use Rattle.sd_io.specs.declared.meta.Kind.TheVariants as kind
 use Rattle.walk_rest.specs.declared.entry.DirEntry.{DirEntry}
 use Rattle.walk_rest.specs.Examples.{tree_with}
 use Rattle.walk_rest.specs.Plan.{node_to, path_below}

@@ -3,9 +3,9 @@ use Rattle.std.proofs.Common.{rules, ◌≡◌, ◌≢◌, ◌-◌, ℕ, suc, Bo
 use Rattle.std.specs.Prelude.{IsSome, nat_eq, ◌&&◌}
 use Rattle.std.specs.List.{AllByRecursion, ends_with, join_with_byte}
 use Rattle.std.proofs.lemmas.List.{append_cancel_left}
-use Rattle.sd_edge.specs.Tree.{NameList, Name, Tree, IsTree, IsName, node_at}
-use Rattle.sd_edge.specs.Files.{path_text}
-use Rattle.sd_edge.proofs.PathTextLemmas.{names_of, text_below}
+use Rattle.sd_io.specs.Tree.{NameList, Name, Tree, IsTree, IsName, node_at}
+use Rattle.sd_io.specs.Files.{path_text}
+use Rattle.sd_io.proofs.PathTextLemmas.{names_of, text_below}
 use Rattle.walk_rest.specs.Plan.{path_below}
 use Rattle.chosen_files.proofs.laws.PlaceLemmas.{In, contains_from_in}
 

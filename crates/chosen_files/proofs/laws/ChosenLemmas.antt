@@ -2,7 +2,7 @@
 use Rattle.std.proofs.Common.{◌≡◌, ◌≤◌, inl, inr, ℕ, arith, length, List, [], ◌∷◌, ◌++◌, map, refl, sym, subst, ap, ◌∙◌, Ordering, Less}
 use Rattle.std.specs.List.Sorted.{IsStrictlySortedBy}
 use Rattle.std.specs.Cmp.{IsTotalOrder, tied_itself}
-use Rattle.sd_edge.specs.Tree.{NameList, Tree, name_list_cmp}
+use Rattle.sd_io.specs.Tree.{NameList, Tree, name_list_cmp}
 use Rattle.std.proofs.lemmas.List.{append_cancel_left}
 use Rattle.std.proofs.lemmas.List.Elements.{recursion_from_All}
 use Rattle.chosen_files.specs.Below.{IsBelow, HasFewerBelow, HasManyBelow}

@@ -2,9 +2,9 @@
 use Rattle.std.proofs.Common.{◌≡◌, ◌≢◌, ℕ, ◌<◌, List, [], ◌∷◌, refl, sym, arith}
 use Rattle.std.specs.Prelude.{Option, Some, None, IsSome}
 use Rattle.std.proofs.lemmas.Option.{some_pair_parts}
-use Rattle.sd_edge.specs.Tree.{Content, directory, link, file, other, Node, file_node, file_content}
-use Rattle.sd_edge.specs.Files.{kind_of, len_of}
-use Rattle.sd_edge.specs.declared.meta.Kind.TheVariants as kind
+use Rattle.sd_io.specs.Tree.{Content, directory, link, file, other, Node, file_node, file_content}
+use Rattle.sd_io.specs.Files.{kind_of, len_of}
+use Rattle.sd_io.specs.declared.meta.Kind.TheVariants as kind
 
 pub nonempty_content : (c : Content) → kind_of c ≡ kind.File → 0 < len_of c → (byte : ℕ) × (bytes : List ℕ) × (mode : ℕ) × (file_content c ≡ Some (byte ∷ bytes, mode))
 nonempty_content directory is some = cc

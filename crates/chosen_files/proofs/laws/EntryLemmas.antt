@@ -9,10 +9,10 @@ use Rattle.std.specs.Cmp.Lexicographic.{bytes_decides}
 use Rattle.std.proofs.lemmas.List.{get_or-map, length-map}
 use Rattle.std.proofs.lemmas.List.Sorted.{IsPermutation-map}
 use Rattle.std.proofs.lemmas.Map.Keys.{IsDistinct-IsPermutation, apart_from_distinct, sorted_from_all_adjacent}
-use Rattle.sd_edge.specs.Tree.{Name, NameList, Tree, name_cmp}
-use Rattle.sd_edge.specs.Lists.{Tells, TellAll}
-use Rattle.sd_edge.specs.declared.meta.Kind.TheVariants as kind
-use Rattle.sd_edge.specs.declared.meta.RawEntry.{RawEntry}
+use Rattle.sd_io.specs.Tree.{Name, NameList, Tree, name_cmp}
+use Rattle.sd_io.specs.Lists.{Tells, TellAll}
+use Rattle.sd_io.specs.declared.meta.Kind.TheVariants as kind
+use Rattle.sd_io.specs.declared.meta.RawEntry.{RawEntry}
 use Rattle.chosen_files.proofs.laws.PlaceLemmas.{In, name_total}
 
 -- ---- names in order

@@ -8,11 +8,11 @@ use Rattle.std.specs.Cmp.{IsTotalOrder}
 use Rattle.std.proofs.lemmas.List.Elements.{All-from_recursion, recursion_from_All}
 use Rattle.std.proofs.lemmas.List.Sorted.{All-permutation, Contains-permutation, IsPermutation-map, IsPermutation-refl, IsPermutation-cons, IsPermutation-trans, IsPermutation-middle}
 use Rattle.std.proofs.lemmas.Option.{same_Some}
-use Rattle.sd_edge.specs.Tree.{NameList, Name, Tree, IsTree, IsName, name_cmp, node_at, is_directory_at}
-use Rattle.sd_edge.specs.Files.{path_text}
-use Rattle.sd_edge.specs.Lists.{Tells, TellAll, directory_of}
-use Rattle.sd_edge.specs.declared.meta.RawEntry.{RawEntry}
-use Rattle.sd_edge.proofs.PathTextLemmas.{text_directory}
+use Rattle.sd_io.specs.Tree.{NameList, Name, Tree, IsTree, IsName, name_cmp, node_at, is_directory_at}
+use Rattle.sd_io.specs.Files.{path_text}
+use Rattle.sd_io.specs.Lists.{Tells, TellAll, directory_of}
+use Rattle.sd_io.specs.declared.meta.RawEntry.{RawEntry}
+use Rattle.sd_io.proofs.PathTextLemmas.{text_directory}
 use Rattle.walk_rest.specs.declared.entry.DirEntry.{DirEntry}
 use Rattle.walk_rest.specs.declared.level.Folder.{Folder}
 use Rattle.walk_rest.specs.Names.{by_file_name}

@@ -4,15 +4,15 @@ use Rattle.std.specs.Prelude.{IsSome, is_some, nat_le, nat_eq, ◌&&◌}
 use Rattle.std.specs.List.{AllByRecursion}
 use Rattle.std.specs.List.Sorted.{IsStrictlySortedBy}
 use Rattle.std.specs.Option.{option_and_then, option_map_or}
-use Rattle.sd_edge.specs.Tree.{NameList, Name, Content, directory, link, file, other, Node, Tree, IsTree, name_cmp, name_list_cmp, node_at, is_directory_at, is_directory_node, is_directory_content}
-use Rattle.sd_edge.specs.Paths.{reached}
-use Rattle.sd_edge.specs.Files.{kind_of, path_text}
-use Rattle.sd_edge.specs.Lists.{Tells}
-use Rattle.sd_edge.specs.declared.meta.Kind.{Kind}
-use Rattle.sd_edge.specs.declared.meta.Kind.TheVariants as kind
-use Rattle.sd_edge.specs.declared.meta.Kind.TheVariants.{Directory, Link, File, Other}
-use Rattle.sd_edge.specs.declared.meta.RawEntry.{RawEntry}
-use Rattle.sd_edge.proofs.PathTextLemmas.{above, directory_stands, text_not_followed}
+use Rattle.sd_io.specs.Tree.{NameList, Name, Content, directory, link, file, other, Node, Tree, IsTree, name_cmp, name_list_cmp, node_at, is_directory_at, is_directory_node, is_directory_content}
+use Rattle.sd_io.specs.Paths.{reached}
+use Rattle.sd_io.specs.Files.{kind_of, path_text}
+use Rattle.sd_io.specs.Lists.{Tells}
+use Rattle.sd_io.specs.declared.meta.Kind.{Kind}
+use Rattle.sd_io.specs.declared.meta.Kind.TheVariants as kind
+use Rattle.sd_io.specs.declared.meta.Kind.TheVariants.{Directory, Link, File, Other}
+use Rattle.sd_io.specs.declared.meta.RawEntry.{RawEntry}
+use Rattle.sd_io.proofs.PathTextLemmas.{above, directory_stands, text_not_followed}
 use Rattle.walk_rest.specs.declared.entry.DirEntry.{DirEntry}
 use Rattle.walk_rest.specs.declared.error.Error.TheVariants as error
 use Rattle.walk_rest.specs.declared.level.Folder.{Folder}

@@ -6,11 +6,11 @@ use Rattle.std.specs.List.Sorted.{IsStrictlySortedBy}
 use Rattle.std.specs.Option.{option_and_then}
 use Rattle.std.proofs.lemmas.List.{append_cancel_left}
 use Rattle.std.proofs.lemmas.Option.{same_Some}
-use Rattle.sd_edge.specs.Tree.{NameList, Node, Tree, IsTree, name_list_cmp, node_at, file_at, file_node}
-use Rattle.sd_edge.specs.Paths.{reached}
-use Rattle.sd_edge.specs.Files.{kind_of, len_of, path_text}
-use Rattle.sd_edge.specs.declared.meta.Kind.TheVariants as kind
-use Rattle.sd_edge.proofs.PathTextLemmas.{text_not_followed}
+use Rattle.sd_io.specs.Tree.{NameList, Node, Tree, IsTree, name_list_cmp, node_at, file_at, file_node}
+use Rattle.sd_io.specs.Paths.{reached}
+use Rattle.sd_io.specs.Files.{kind_of, len_of, path_text}
+use Rattle.sd_io.specs.declared.meta.Kind.TheVariants as kind
+use Rattle.sd_io.proofs.PathTextLemmas.{text_not_followed}
 use Rattle.walk_rest.specs.declared.entry.DirEntry.{DirEntry}
 use Rattle.walk_rest.specs.declared.options.Options.{Options}
 use Rattle.walk_rest.specs.Plan.{Item, path_below, node_to}

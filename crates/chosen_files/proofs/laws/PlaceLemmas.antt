@@ -5,7 +5,7 @@ use Rattle.std.specs.List.Sorted.{IsStrictlySortedBy}
 use Rattle.std.specs.Ordering.{ordering_then}
 use Rattle.std.specs.Cmp.{IsTotalOrder, tied_itself, nat_cmp_total}
 use Rattle.std.specs.Cmp.Lexicographic.{lists_total}
-use Rattle.sd_edge.specs.Tree.{Name, NameList, name_cmp, name_list_cmp}
+use Rattle.sd_io.specs.Tree.{Name, NameList, name_cmp, name_list_cmp}
 
 -- ---- membership by recursion
 

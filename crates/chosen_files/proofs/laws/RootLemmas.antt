@@ -3,11 +3,11 @@ use Rattle.std.proofs.Common.{◌≡◌, ◌≢◌, ℕ, Bool, true, false, cond
 use Rattle.std.specs.Prelude.{IsSome, is_some, Option}
 use Rattle.std.specs.List.{join_with_byte}
 use Rattle.std.proofs.lemmas.List.{append_cancel_left}
-use Rattle.sd_edge.specs.Tree.{Name, NameList, Content, directory, link, file, other, Node, Tree, IsTree, IsName, IsNonemptyFile, node_at, file_node, file_content, is_directory_at, is_directory_node, is_directory_content}
-use Rattle.sd_edge.specs.Paths.{reached}
-use Rattle.sd_edge.specs.Lists.{directory_of}
-use Rattle.sd_edge.proofs.PathTextLemmas.{above}
-use Rattle.sd_edge.proofs.PathLemmas.{reached_no_link}
+use Rattle.sd_io.specs.Tree.{Name, NameList, Content, directory, link, file, other, Node, Tree, IsTree, IsName, IsNonemptyFile, node_at, file_node, file_content, is_directory_at, is_directory_node, is_directory_content}
+use Rattle.sd_io.specs.Paths.{reached}
+use Rattle.sd_io.specs.Lists.{directory_of}
+use Rattle.sd_io.proofs.PathTextLemmas.{above}
+use Rattle.sd_io.proofs.PathLemmas.{reached_no_link}
 use Rattle.walk_rest.specs.Plan.{path_below}
 use Rattle.walk_rest.proofs.ReachLemmas.{into_directory, leads_below, named_below}
 use Rattle.chosen_files.specs.Chosen.{path_from, ListsChosen}

@@ -3,17 +3,17 @@ use Rattle.std.proofs.Common.{◌≡◌, ◌≢◌, ℕ, ◌+◌, ◌<◌, ◌�
 use Rattle.std.specs.Prelude.{Option, Some, None, Result, Ok, Err, IsOk, OnOk, ◌↔◌, is_some, codes, ◌||◌}
 use Rattle.std.specs.List.{list_any}
 use Rattle.std.proofs.lemmas.Option.{same_Some}
-use Rattle.sd_edge.specs.Tree.{NameList, Content, directory, file, Node, Tree, IsTree, node_at, is_directory_at, is_directory_node}
-use Rattle.sd_edge.specs.Disk.{OpenList}
-use Rattle.sd_edge.specs.Outcomes.{content_of, content_at}
-use Rattle.sd_edge.specs.Paths.{parts_of, parent_of, is_up}
-use Rattle.sd_edge.specs.Files.{path_text}
+use Rattle.sd_io.specs.Tree.{NameList, Content, directory, file, Node, Tree, IsTree, node_at, is_directory_at, is_directory_node}
+use Rattle.sd_io.specs.Disk.{OpenList}
+use Rattle.sd_io.specs.Outcomes.{content_of, content_at}
+use Rattle.sd_io.specs.Paths.{parts_of, parent_of, is_up}
+use Rattle.sd_io.specs.Files.{path_text}
 use Rattle.sd_base.specs.declared.no_memory.NoMemory.{NoMemory}
-use Rattle.sd_edge.specs.declared.fault.BuildFault.{BuildFault}
-use Rattle.sd_edge.specs.MemTree.{HasNoFreePlace}
-use Rattle.sd_edge.specs.MemDisk.{mem_state, IsTopAlone, IsUncalled, Builds, KeepsCounts}
-use Rattle.sd_edge.specs.declared.memory.disk.MemDisk.{MemDisk}
-use Rattle.sd_edge.proofs.WayLemmas.{same_or_other}
+use Rattle.mem_io.specs.declared.fault.BuildFault.{BuildFault}
+use Rattle.mem_io.specs.MemTree.{HasNoFreePlace}
+use Rattle.mem_io.specs.MemDisk.{mem_state, IsTopAlone, IsUncalled, Builds, KeepsCounts}
+use Rattle.mem_io.specs.declared.disk.MemDisk.{MemDisk}
+use Rattle.sd_io.proofs.WayLemmas.{same_or_other}
 use Rattle.demo_tree.specs.Building.{HasNextFolder}
 use Rattle.demo_tree.specs.Demo.{demo_place, demo_folder, demo_file, demo_content, demo_bytes, demo_mode, IsDemo}
 use Rattle.demo_tree.proofs.building.NameLemmas.{demo_parts, folder_parts, file_parts}

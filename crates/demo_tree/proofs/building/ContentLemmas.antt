@@ -8,8 +8,8 @@ use Rattle.std.specs.Cmp.Lexicographic.{pointwise_decides, bytes_decides}
 use Rattle.std.proofs.lemmas.Bool.{eqb-true, eqb-false}
 use Rattle.std.proofs.lemmas.List.Folds.{find-append, list_any-append}
 use Rattle.std.proofs.lemmas.List.FromFn.{map-range_with_len_more}
-use Rattle.sd_edge.specs.Tree.{NameList, Content, directory, file}
-use Rattle.sd_edge.specs.Outcomes.{same_place}
+use Rattle.sd_io.specs.Tree.{NameList, Content, directory, file}
+use Rattle.sd_io.specs.Outcomes.{same_place}
 use Rattle.demo_tree.specs.Demo.{DemoFile, demo_place, demo_folder, demo_file, demo_files}
 use Rattle.demo_tree.specs.Demo.{folder_content, file_or_folder, demo_content, demo_bytes, demo_mode, digits_of}
 use Rattle.demo_tree.proofs.building.NameLemmas.{folders_differ, files_differ}

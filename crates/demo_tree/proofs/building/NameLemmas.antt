@@ -6,9 +6,9 @@ use Rattle.std.specs.List.{AllByRecursion}
 use Rattle.std.proofs.lemmas.Bool.{ne_eqb}
 use Rattle.std.proofs.lemmas.List.Elements.{All-from_recursion}
 use Rattle.std.proofs.lemmas.List.Splits.{slice_split_none, slice_split_at}
-use Rattle.sd_edge.specs.Tree.{Name, NameList}
-use Rattle.sd_edge.specs.Paths.{parts_of, kept}
-use Rattle.sd_edge.specs.Files.{path_text}
+use Rattle.sd_io.specs.Tree.{Name, NameList}
+use Rattle.sd_io.specs.Paths.{parts_of, kept}
+use Rattle.sd_io.specs.Files.{path_text}
 use Rattle.demo_tree.specs.Demo.{digits_of, digit_at, demo_place, demo_folder, demo_name, demo_file}
 use Rattle.demo_tree.proofs.building.DigitLemmas.{digits_tell}
 

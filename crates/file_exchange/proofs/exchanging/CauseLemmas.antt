@@ -1,10 +1,10 @@
 -- Results that are passed on, and why they are errors.
 use Rattle.std.proofs.Common.{◌≡◌, ◌⊎◌, ◌∙◌, ℕ, ◌<◌, ◌≤◌, Bool, true, false, refl, sym, ap, subst, inl, inr, arith}
 use Rattle.std.specs.Prelude.{IsTrue, Result, Ok, Err, IsErrOf, IsErrAnd, IfErr, MatchResult, OnErr, OnOk}
-use Rattle.sd_edge.specs.declared.fault.DiskFault.{DiskFault}
-use Rattle.sd_edge.specs.declared.fault.DiskFault.TheVariants as disk
-use Rattle.sd_edge.specs.Count.{HasRisen}
-use Rattle.sd_edge.specs.Disk.{DiskState, HasCause}
+use Rattle.sd_io.specs.declared.fault.DiskFault.{DiskFault}
+use Rattle.sd_io.specs.declared.fault.DiskFault.TheVariants as disk
+use Rattle.sd_io.specs.Count.{HasRisen}
+use Rattle.sd_io.specs.Disk.{DiskState, HasCause}
 use Rattle.file_exchange.specs.declared.fault.ExchangeFault.{ExchangeFault}
 use Rattle.file_exchange.specs.declared.fault.ExchangeFault.TheVariants as exchange_fault
 use Rattle.file_exchange.specs.Causes.{HasCauseOf, HasRisenBy}

@@ -4,16 +4,16 @@ use Rattle.std.specs.Prelude.{Some, IsSome, IsTrue, Result, Err, IsErrOf}
 use Rattle.std.specs.Option.{option_and_then}
 use Rattle.std.proofs.lemmas.Option.{same_Some}
 use Rattle.std.proofs.lemmas.Bool.{cases_lt}
-use Rattle.sd_edge.specs.declared.fault.DiskFault.{DiskFault}
-use Rattle.sd_edge.specs.declared.fault.DiskFault.TheVariants as disk
-use Rattle.sd_edge.specs.Tree.{NameList, Tree, IsTree, node_at, file_at}
-use Rattle.sd_edge.specs.Paths.{parts_of, parent_of, named}
-use Rattle.sd_edge.specs.Outcomes.{own, any_file, own_of, left_behind}
-use Rattle.sd_edge.specs.Disk.{DiskState, SameTree, SameLists, HasCause, outcomes_now}
-use Rattle.sd_edge.specs.Files.{path_text, file_of, Creates, CannotCreate, IsTaken}
-use Rattle.sd_edge.proofs.PathTextLemmas.{text_names}
-use Rattle.sd_edge.proofs.OutcomeLemmas.{put_there, own_append, own_behind}
-use Rattle.sd_edge.proofs.CrashLemmas.{since_same, since_loose, since_then, settled_same, settled_put}
+use Rattle.sd_io.specs.declared.fault.DiskFault.{DiskFault}
+use Rattle.sd_io.specs.declared.fault.DiskFault.TheVariants as disk
+use Rattle.sd_io.specs.Tree.{NameList, Tree, IsTree, node_at, file_at}
+use Rattle.sd_io.specs.Paths.{parts_of, parent_of, named}
+use Rattle.sd_io.specs.Outcomes.{own, any_file, own_of, left_behind}
+use Rattle.sd_io.specs.Disk.{DiskState, SameTree, SameLists, HasCause, outcomes_now}
+use Rattle.sd_io.specs.Files.{path_text, file_of, Creates, CannotCreate, IsTaken}
+use Rattle.sd_io.proofs.PathTextLemmas.{text_names}
+use Rattle.sd_io.proofs.OutcomeLemmas.{put_there, own_append, own_behind}
+use Rattle.sd_io.proofs.CrashLemmas.{since_same, since_loose, since_then, settled_same, settled_put}
 use Rattle.file_exchange.specs.Reserved.{reserved_name, reserved_names, NoneFree, IsReservedPath}
 use Rattle.file_exchange.specs.Exchange.{IsFilePath}
 use Rattle.file_exchange.specs.Temporary.{CreatesTemporary}

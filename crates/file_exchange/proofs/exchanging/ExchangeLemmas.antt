@@ -3,18 +3,18 @@ use Rattle.std.proofs.Common.{◌≡◌, ◌≢◌, ◌⊎◌, ℕ, ◌≤◌, L
 use Rattle.std.specs.Prelude.{Option, Some, None, IsSome, is_some, Result, Ok, Err, OnOk, OnErr}
 use Rattle.std.specs.Option.{option_and_then}
 use Rattle.std.proofs.lemmas.Option.{same_Some}
-use Rattle.sd_edge.specs.Count.{HasRisen}
-use Rattle.sd_edge.specs.Tree.{Name, NameList, Content, directory, link, file, other, Node, Tree, IsTree, SameBut, node_at, file_content, file_node, file_at}
-use Rattle.sd_edge.specs.Paths.{parts_of, parent_of, named, way_of_node, SameWays}
-use Rattle.sd_edge.specs.Outcomes.{Outcome, older, gone, Outcomes, Leaves, own_of, alone, after_folder_sync}
-use Rattle.sd_edge.specs.Disk.{DiskState, SameTree, HoldsPresent, outcomes_now}
-use Rattle.sd_edge.specs.Files.{path_text, Removes, CannotRemove}
-use Rattle.sd_edge.specs.Lists.{SyncsFolder}
-use Rattle.sd_edge.specs.Crashes.{LeavesSince, IsDurable, SettledBut, KeepsSettled}
-use Rattle.sd_edge.proofs.WayLemmas.{same_or_other, named_alike, ways_kept, file_has_no_way}
-use Rattle.sd_edge.proofs.PathTextLemmas.{text_names}
-use Rattle.sd_edge.proofs.OutcomeLemmas.{folder_leaves, alone_there}
-use Rattle.sd_edge.proofs.CrashLemmas.{since_same, since_loose, since_folder, since_then, since_more, settled_same, settled_then, settled_put, settled_folder}
+use Rattle.sd_io.specs.Count.{HasRisen}
+use Rattle.sd_io.specs.Tree.{Name, NameList, Content, directory, link, file, other, Node, Tree, IsTree, SameBut, node_at, file_content, file_node, file_at}
+use Rattle.sd_io.specs.Paths.{parts_of, parent_of, named, way_of_node, SameWays}
+use Rattle.sd_io.specs.Outcomes.{Outcome, older, gone, Outcomes, Leaves, own_of, alone, after_folder_sync}
+use Rattle.sd_io.specs.Disk.{DiskState, SameTree, HoldsPresent, outcomes_now}
+use Rattle.sd_io.specs.Files.{path_text, Removes, CannotRemove}
+use Rattle.sd_io.specs.Lists.{SyncsFolder}
+use Rattle.sd_io.specs.Crashes.{LeavesSince, IsDurable, SettledBut, KeepsSettled}
+use Rattle.sd_io.proofs.WayLemmas.{same_or_other, named_alike, ways_kept, file_has_no_way}
+use Rattle.sd_io.proofs.PathTextLemmas.{text_names}
+use Rattle.sd_io.proofs.OutcomeLemmas.{folder_leaves, alone_there}
+use Rattle.sd_io.proofs.CrashLemmas.{since_same, since_loose, since_folder, since_then, since_more, settled_same, settled_then, settled_put, settled_folder}
 use Rattle.file_exchange.specs.declared.fault.ExchangeFault.{ExchangeFault}
 use Rattle.file_exchange.specs.Reserved.{reserved_name, FirstFree, IsFolderPath}
 use Rattle.file_exchange.specs.Exchange.{IsFilePath, Exchanges, LeavesBytes, IsCleared}

@@ -3,18 +3,18 @@ use Rattle.std.proofs.Common.{◌≡◌, ◌≢◌, ◌⊎◌, ℕ, List, [], �
 use Rattle.std.specs.Prelude.{Option, Some, None, IsSome, is_some, Result, Ok, Err, IsErrOf, IfErr, OnOk}
 use Rattle.std.specs.Option.{option_and_then}
 use Rattle.std.proofs.lemmas.Option.{same_Some}
-use Rattle.sd_edge.specs.declared.fault.DiskFault.{DiskFault}
-use Rattle.sd_edge.specs.declared.fault.DiskFault.TheVariants.{Absent, Taken, Failed, NoMemory}
-use Rattle.sd_edge.specs.Tree.{NameList, Content, directory, link, file, other, Node, Tree, SameBut, node_at, file_content, file_node, file_at}
-use Rattle.sd_edge.specs.Paths.{named, SameWays}
-use Rattle.sd_edge.specs.Outcomes.{Outcome, own, older, gone, this, any_file, Leaves, own_of, left_behind, settled, put, after_move, after_no_move, content_of}
-use Rattle.sd_edge.specs.Disk.{DiskState, SameTree, Advances, outcomes_now}
-use Rattle.sd_edge.specs.Files.{Writes, MayHaveWritten, Syncs, Renames, RenamesNot, CannotRename, MayHaveRenamed}
-use Rattle.sd_edge.specs.Crashes.{LeavesSince, IsSettledAt, SettledBut}
-use Rattle.sd_edge.proofs.PathLemmas.{reached_file}
-use Rattle.sd_edge.proofs.WayLemmas.{same_or_other, same_ways, named_alike, writes_ways, renames_ways}
-use Rattle.sd_edge.proofs.OutcomeLemmas.{put_elsewhere, put_there, own_append, own_behind, own_twice, own_settled, own_no_move}
-use Rattle.sd_edge.proofs.CrashLemmas.{since_same, since_loose, since_then, since_moved, since_not_moved, settled_kept, settled_same, settled_then, settled_put}
+use Rattle.sd_io.specs.declared.fault.DiskFault.{DiskFault}
+use Rattle.sd_io.specs.declared.fault.DiskFault.TheVariants.{Absent, Taken, Failed, NoMemory}
+use Rattle.sd_io.specs.Tree.{NameList, Content, directory, link, file, other, Node, Tree, SameBut, node_at, file_content, file_node, file_at}
+use Rattle.sd_io.specs.Paths.{named, SameWays}
+use Rattle.sd_io.specs.Outcomes.{Outcome, own, older, gone, this, any_file, Leaves, own_of, left_behind, settled, put, after_move, after_no_move, content_of}
+use Rattle.sd_io.specs.Disk.{DiskState, SameTree, Advances, outcomes_now}
+use Rattle.sd_io.specs.Files.{Writes, MayHaveWritten, Syncs, Renames, RenamesNot, CannotRename, MayHaveRenamed}
+use Rattle.sd_io.specs.Crashes.{LeavesSince, IsSettledAt, SettledBut}
+use Rattle.sd_io.proofs.PathLemmas.{reached_file}
+use Rattle.sd_io.proofs.WayLemmas.{same_or_other, same_ways, named_alike, writes_ways, renames_ways}
+use Rattle.sd_io.proofs.OutcomeLemmas.{put_elsewhere, put_there, own_append, own_behind, own_twice, own_settled, own_no_move}
+use Rattle.sd_io.proofs.CrashLemmas.{since_same, since_loose, since_then, since_moved, since_not_moved, settled_kept, settled_same, settled_then, settled_put}
 use Rattle.file_exchange.specs.Temporary.{IsReady, ChangesOnly, Moves, MayHaveMoved, FillLeaves}
 use Rattle.file_exchange.proofs.exchanging.PlaceLemmas.{some_not_none, IsFileAt}
 

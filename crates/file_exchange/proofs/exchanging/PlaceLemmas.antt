@@ -3,12 +3,12 @@ use Rattle.std.proofs.Common.{◌≡◌, ◌≢◌, ℕ, ◌+◌, ◌/◌, ◌%�
 use Rattle.std.specs.Prelude.{Option, Some, None, IsSome, IsTrue, All, codes}
 use Rattle.std.specs.Option.{option_and_then}
 use Rattle.std.proofs.lemmas.List.Elements.{All-from_recursion, All-cons, All-append, All-contains}
-use Rattle.sd_edge.specs.Tree.{Name, NameList, Node, Tree, IsTree, IsName, Content, directory, link, file, other, node_at, is_directory_node, is_directory_content, is_directory_at, file_node, file_content, file_at}
-use Rattle.sd_edge.specs.Paths.{parts_of, parent_of, reached, named}
-use Rattle.sd_edge.specs.Files.{path_text, file_of}
-use Rattle.sd_edge.specs.Lists.{directory_of}
-use Rattle.sd_edge.proofs.PathLemmas.{reached_file}
-use Rattle.sd_edge.proofs.PathTextLemmas.{text_names, text_directory}
+use Rattle.sd_io.specs.Tree.{Name, NameList, Node, Tree, IsTree, IsName, Content, directory, link, file, other, node_at, is_directory_node, is_directory_content, is_directory_at, file_node, file_content, file_at}
+use Rattle.sd_io.specs.Paths.{parts_of, parent_of, reached, named}
+use Rattle.sd_io.specs.Files.{path_text, file_of}
+use Rattle.sd_io.specs.Lists.{directory_of}
+use Rattle.sd_io.proofs.PathLemmas.{reached_file}
+use Rattle.sd_io.proofs.PathTextLemmas.{text_names, text_directory}
 use Rattle.file_exchange.specs.Reserved.{hex_digit, reserved_name, Free, FirstFree, IsFolderPath}
 use Rattle.file_exchange.specs.Exchange.{IsFilePath}
 

@@ -2,12 +2,12 @@
 use Rattle.std.proofs.Common.{◌≡◌, ◌≢◌, ◌⊎◌, ℕ, List, refl, sym, ◌∙◌, ap, inl, inr}
 use Rattle.std.specs.Prelude.{Option, Some}
 use Rattle.std.proofs.lemmas.Option.{same_Some}
-use Rattle.sd_edge.specs.Tree.{NameList, Content, file, Tree, file_node, file_at}
-use Rattle.sd_edge.specs.Paths.{parent_of}
-use Rattle.sd_edge.specs.Outcomes.{Leaves, content_at}
-use Rattle.sd_edge.specs.Disk.{DiskState, MayLeave, MayLeaveSince, outcomes_now}
-use Rattle.sd_edge.specs.Crashes.{IsDurable}
-use Rattle.sd_edge.proofs.CrashLemmas.{since_image}
+use Rattle.sd_io.specs.Tree.{NameList, Content, file, Tree, file_node, file_at}
+use Rattle.sd_io.specs.Paths.{parent_of}
+use Rattle.sd_io.specs.Outcomes.{Leaves, content_at}
+use Rattle.sd_io.specs.Disk.{DiskState, MayLeave, MayLeaveSince, outcomes_now}
+use Rattle.sd_io.specs.Crashes.{IsDurable}
+use Rattle.sd_io.proofs.CrashLemmas.{since_image}
 use Rattle.file_exchange.specs.Reserved.{FirstFree}
 use Rattle.file_exchange.specs.Crash.{IsNewFile, ExchangeLeaves}
 

@@ -9,9 +9,9 @@ use Rattle.std.specs.Fmt.{digits, digits_onto, digit_glyph, padded_integral, cha
 use Rattle.std.proofs.lemmas.List.Elements.{Contains-append_right}
 use Rattle.std.proofs.lemmas.Bool.{cases_lt}
 use Rattle.std.proofs.lemmas.Fmt.{hex_one_digit, hex_two_digits}
-use Rattle.sd_edge.specs.Tree.{Name, NameList}
-use Rattle.sd_edge.specs.Files.{path_text}
-use Rattle.sd_edge.proofs.PathTextLemmas.{text_below}
+use Rattle.sd_io.specs.Tree.{Name, NameList}
+use Rattle.sd_io.specs.Files.{path_text}
+use Rattle.sd_io.proofs.PathTextLemmas.{text_below}
 use Rattle.file_exchange.specs.Reserved.{hex_digit, reserved_name, IsReservedPath, IsFolderPath}
 
 -- ---- the last `/` of a text

@@ -2,9 +2,9 @@
 use Rattle.std.proofs.Common.{◌≡◌, ◌≢◌, ◌⊎◌, ℕ, List, sym, ◌∙◌, ap, inl, inr}
 use Rattle.std.specs.Prelude.{Option, Some, None, IsSome}
 use Rattle.std.proofs.lemmas.Option.{same_Some}
-use Rattle.sd_edge.specs.Tree.{NameList, Tree, node_at, file_node, file_at}
-use Rattle.sd_edge.specs.Disk.{DiskState}
-use Rattle.sd_edge.proofs.WayLemmas.{same_or_other}
+use Rattle.sd_io.specs.Tree.{NameList, Tree, node_at, file_node, file_at}
+use Rattle.sd_io.specs.Disk.{DiskState}
+use Rattle.sd_io.proofs.WayLemmas.{same_or_other}
 use Rattle.sd_change.specs.Change.{Change, FileChange}
 use Rattle.file_exchange.specs.Crash.{KeepsFiles}
 use Rattle.file_exchange.proofs.PlaceLemmas.{some_not_none}

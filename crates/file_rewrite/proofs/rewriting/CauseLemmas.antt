@@ -2,12 +2,12 @@
 use Rattle.std.proofs.Common.{◌≡◌, ◌≤◌, ℕ, Bool, true, false, List, [], refl, sym, ap, subst, inl, inr, arith}
 use Rattle.std.specs.Prelude.{IsTrue, None, is_some, Result, Ok, Err, IsErrOf, IsErrAnd, IfErr}
 use Rattle.std.specs.Option.{option_and_then}
-use Rattle.sd_edge.specs.Tree.{Tree, file_at}
-use Rattle.sd_edge.specs.Paths.{parts_of, parent_of, reached}
-use Rattle.sd_edge.specs.Files.{file_of}
-use Rattle.sd_edge.specs.Disk.{DiskState, SameTree, HasCause}
-use Rattle.sd_edge.specs.declared.fault.DiskFault.{DiskFault}
-use Rattle.sd_edge.specs.declared.fault.DiskFault.TheVariants as disk
+use Rattle.sd_io.specs.Tree.{Tree, file_at}
+use Rattle.sd_io.specs.Paths.{parts_of, parent_of, reached}
+use Rattle.sd_io.specs.Files.{file_of}
+use Rattle.sd_io.specs.Disk.{DiskState, SameTree, HasCause}
+use Rattle.sd_io.specs.declared.fault.DiskFault.{DiskFault}
+use Rattle.sd_io.specs.declared.fault.DiskFault.TheVariants as disk
 use Rattle.file_exchange.specs.declared.fault.ExchangeFault.{ExchangeFault}
 use Rattle.file_exchange.specs.declared.fault.ExchangeFault.TheVariants as exchange
 use Rattle.file_exchange.specs.Causes.{HasCauseOf}

@@ -2,13 +2,13 @@
 use Rattle.std.proofs.Common.{◌≡◌, ◌≢◌, ◌⊎◌, ◌≤◌, ℕ, Bool, true, false, List, [], ◌∷◌, refl, sym, ◌∙◌, ap, subst, inl, inr, arith}
 use Rattle.std.specs.Prelude.{IsTrue, Option, Some, None, is_some, Err, IsErrOf}
 use Rattle.std.proofs.lemmas.Option.{same_Some}
-use Rattle.sd_edge.specs.Tree.{NameList, Content, file, Tree, SameBut, node_at, file_at}
-use Rattle.sd_edge.specs.Paths.{parts_of, parent_of, reached}
-use Rattle.sd_edge.specs.Outcomes.{Leaves}
-use Rattle.sd_edge.specs.Disk.{DiskState, SameTree, outcomes_now}
-use Rattle.sd_edge.specs.Crashes.{LeavesSince, IsDurable}
-use Rattle.sd_edge.specs.declared.fault.DiskFault.TheVariants as disk
-use Rattle.sd_edge.proofs.CrashLemmas.{since_same, since_then, since_more}
+use Rattle.sd_io.specs.Tree.{NameList, Content, file, Tree, SameBut, node_at, file_at}
+use Rattle.sd_io.specs.Paths.{parts_of, parent_of, reached}
+use Rattle.sd_io.specs.Outcomes.{Leaves}
+use Rattle.sd_io.specs.Disk.{DiskState, SameTree, outcomes_now}
+use Rattle.sd_io.specs.Crashes.{LeavesSince, IsDurable}
+use Rattle.sd_io.specs.declared.fault.DiskFault.TheVariants as disk
+use Rattle.sd_io.proofs.CrashLemmas.{since_same, since_then, since_more}
 use Rattle.sd_change.specs.Change.{Change, IsOne, FileChange, TellsRewritten}
 use Rattle.sd_change.specs.declared.changed.Changed.{Changed}
 use Rattle.sd_change.specs.declared.changed.Rewritten.{Rewritten}

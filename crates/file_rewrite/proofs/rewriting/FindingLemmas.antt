@@ -2,11 +2,11 @@
 use Rattle.std.proofs.Common.{◌≡◌, ℕ, List, true, sym, ◌∙◌, ap, subst}
 use Rattle.std.specs.Prelude.{Some, None, is_some}
 use Rattle.std.specs.Option.{option_and_then}
-use Rattle.sd_edge.specs.Tree.{NameList, Tree, IsTree, file_at}
-use Rattle.sd_edge.specs.Paths.{parts_of, reached}
-use Rattle.sd_edge.specs.Files.{path_text, file_of, Resolves, Reads, IsNoFile}
-use Rattle.sd_edge.specs.Disk.{DiskState, SameTree}
-use Rattle.sd_edge.proofs.PathTextLemmas.{text_no_link, text_parts}
+use Rattle.sd_io.specs.Tree.{NameList, Tree, IsTree, file_at}
+use Rattle.sd_io.specs.Paths.{parts_of, reached}
+use Rattle.sd_io.specs.Files.{path_text, file_of, Resolves, Reads, IsNoFile}
+use Rattle.sd_io.specs.Disk.{DiskState, SameTree}
+use Rattle.sd_io.proofs.PathTextLemmas.{text_no_link, text_parts}
 use Rattle.file_rewrite.specs.Reading.{FindsFile}
 use Rattle.file_rewrite.proofs.rewriting.ReachedLemmas.{IsNoLink, reached_no_link}
 

@@ -7,8 +7,8 @@ use Rattle.std.specs.Cmp.Lexicographic.{lists_total}
 use Rattle.std.proofs.lemmas.List.{get_or_default, get_or-take, get_or-map, length-take-le, length-map, take_more}
 use Rattle.std.proofs.lemmas.List.Elements.{Contains-get_or}
 use Rattle.std.proofs.lemmas.Map.Keys.{Less-from_sorted}
-use Rattle.sd_edge.specs.Tree.{NameList, Node, Tree, name_cmp, name_list_cmp, node_at, file_node, file_at, IsNonemptyFile}
-use Rattle.sd_edge.specs.Paths.{reached}
+use Rattle.sd_io.specs.Tree.{NameList, Node, Tree, name_cmp, name_list_cmp, node_at, file_node, file_at, IsNonemptyFile}
+use Rattle.sd_io.specs.Paths.{reached}
 use Rattle.many_files.specs.Files.{ListsFiles}
 
 name_total : IsTotalOrder name_cmp

@@ -2,8 +2,8 @@
 use Rattle.std.proofs.Common.{◌≡◌, ◌≢◌, ◌⊎◌, zero, suc, List, [], ◌∷◌, ◌++◌, map, refl, sym, ap, inl, inr, arith}
 use Rattle.std.specs.Prelude.{Option, Some, None, Contains}
 use Rattle.std.proofs.lemmas.Option.{same_Some}
-use Rattle.sd_edge.specs.Tree.{NameList}
-use Rattle.sd_edge.proofs.WayLemmas.{same_or_other}
+use Rattle.sd_io.specs.Tree.{NameList}
+use Rattle.sd_io.proofs.WayLemmas.{same_or_other}
 
 -- a member, by recursion
 abbrev pub In : {X : Type 0} → X → List X → Type 0

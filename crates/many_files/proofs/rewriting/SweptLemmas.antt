@@ -6,12 +6,12 @@ use Rattle.std.specs.Cmp.Lexicographic.{bytes_decides}
 use Rattle.std.proofs.lemmas.List.{append-nil, map_push, length_push, take-append-drop}
 use Rattle.std.proofs.lemmas.List.Elements.{All-nil, All-push, Contains-append_left, Contains-push, Contains-push_cases}
 use Rattle.std.proofs.lemmas.Option.{same_Some}
-use Rattle.sd_edge.specs.Tree.{NameList, Content, Tree, file_node, file_at, IsNonemptyFile}
-use Rattle.sd_edge.specs.Paths.{reached}
-use Rattle.sd_edge.specs.Files.{file_of}
-use Rattle.sd_edge.specs.Disk.{DiskState}
-use Rattle.sd_edge.specs.Crashes.{LeavesSince, IsDurable}
-use Rattle.sd_edge.proofs.PathTextLemmas.{differs}
+use Rattle.sd_io.specs.Tree.{NameList, Content, Tree, file_node, file_at, IsNonemptyFile}
+use Rattle.sd_io.specs.Paths.{reached}
+use Rattle.sd_io.specs.Files.{file_of}
+use Rattle.sd_io.specs.Disk.{DiskState}
+use Rattle.sd_io.specs.Crashes.{LeavesSince, IsDurable}
+use Rattle.sd_io.proofs.PathTextLemmas.{differs}
 use Rattle.sd_change.specs.Change.{Change, FileChange}
 use Rattle.sd_course.specs.Course.{course}
 use Rattle.file_rewrite.specs.Paths.{IsNoPath}

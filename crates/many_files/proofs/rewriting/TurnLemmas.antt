@@ -3,16 +3,16 @@ use Rattle.std.proofs.Common.{◌≡◌, ◌≢◌, ◌⊎◌, ℕ, ◌≤◌, B
 use Rattle.std.specs.Prelude.{Option, Some, None, IsSome, IsTrue, true}
 use Rattle.std.specs.Option.{option_and_then}
 use Rattle.std.proofs.lemmas.Option.{same_Some}
-use Rattle.sd_edge.specs.Count.{HasRisen}
-use Rattle.sd_edge.specs.Tree.{NameList, Content, Tree, node_at, file_at, IsNonemptyFile}
-use Rattle.sd_edge.specs.Paths.{reached, parent_of}
-use Rattle.sd_edge.specs.Outcomes.{Leaves}
-use Rattle.sd_edge.specs.Files.{file_of}
-use Rattle.sd_edge.specs.Disk.{DiskState, SameTree, outcomes_now}
-use Rattle.sd_edge.specs.Crashes.{LeavesSince}
-use Rattle.sd_edge.specs.declared.fault.DiskFault.{DiskFault}
-use Rattle.sd_edge.specs.declared.fault.DiskFault.TheVariants as disk
-use Rattle.sd_edge.proofs.CrashLemmas.{since_more}
+use Rattle.sd_io.specs.Count.{HasRisen}
+use Rattle.sd_io.specs.Tree.{NameList, Content, Tree, node_at, file_at, IsNonemptyFile}
+use Rattle.sd_io.specs.Paths.{reached, parent_of}
+use Rattle.sd_io.specs.Outcomes.{Leaves}
+use Rattle.sd_io.specs.Files.{file_of}
+use Rattle.sd_io.specs.Disk.{DiskState, SameTree, outcomes_now}
+use Rattle.sd_io.specs.Crashes.{LeavesSince}
+use Rattle.sd_io.specs.declared.fault.DiskFault.{DiskFault}
+use Rattle.sd_io.specs.declared.fault.DiskFault.TheVariants as disk
+use Rattle.sd_io.proofs.CrashLemmas.{since_more}
 use Rattle.sd_change.specs.Change.{Change, FileChange}
 use Rattle.sd_course.specs.Course.{course, HasRisenBy}
 use Rattle.file_exchange.specs.Reserved.{Free}

@@ -4,13 +4,13 @@ use Rattle.std.specs.Prelude.{Option, Some, None, IsSome, is_some, Contains, All
 use Rattle.std.proofs.lemmas.List.{map_push}
 use Rattle.std.proofs.lemmas.List.Sums.{sum_by_push}
 use Rattle.std.proofs.lemmas.List.Elements.{All-nil, All-push, All-weaker, All-contains, All-contains_itself, Contains-append_left, Contains-push}
-use Rattle.sd_edge.specs.Tree.{NameList, Content, Node, node_at, file_at, file_node, IsNonemptyFile}
-use Rattle.sd_edge.specs.Paths.{parent_of, way_of_node}
-use Rattle.sd_edge.specs.Outcomes.{Leaves}
-use Rattle.sd_edge.specs.Disk.{DiskState, outcomes_now}
-use Rattle.sd_edge.specs.Crashes.{LeavesSince}
-use Rattle.sd_edge.proofs.CrashLemmas.{since_same, since_then, since_more}
-use Rattle.sd_edge.proofs.WayLemmas.{file_has_no_way}
+use Rattle.sd_io.specs.Tree.{NameList, Content, Node, node_at, file_at, file_node, IsNonemptyFile}
+use Rattle.sd_io.specs.Paths.{parent_of, way_of_node}
+use Rattle.sd_io.specs.Outcomes.{Leaves}
+use Rattle.sd_io.specs.Disk.{DiskState, outcomes_now}
+use Rattle.sd_io.specs.Crashes.{LeavesSince}
+use Rattle.sd_io.proofs.CrashLemmas.{since_same, since_then, since_more}
+use Rattle.sd_io.proofs.WayLemmas.{file_has_no_way}
 use Rattle.sd_change.specs.Change.{Change}
 use Rattle.sd_course.specs.Course.{HasRisenBy}
 use Rattle.file_exchange.specs.Reserved.{Free}

@@ -3,10 +3,10 @@ use Rattle.std.proofs.Common.{◌≡◌, ℕ, zero, suc, List, [], ◌∷◌, �
 use Rattle.std.specs.Prelude.{Option, Some, None, IsSome}
 use Rattle.std.specs.Str.{bytes_eq}
 use Rattle.std.proofs.lemmas.Option.{same_Some}
-use Rattle.sd_edge.specs.Tree.{Name, NameList, Content, directory, link, file, other, Node, Tree, node_at, is_directory_at, is_directory_node, is_directory_content}
-use Rattle.sd_edge.specs.Paths.{Linking, through_node, ends_at_link, steps, followed, links_most, start_of, parts_of, is_up, parent_of, reached, way_of, way_of_node}
-use Rattle.sd_edge.proofs.WayLemmas.{by_way, by_way_then, through_some, cond_some_then}
-use Rattle.sd_edge.proofs.PathTextLemmas.{directory_stands}
+use Rattle.sd_io.specs.Tree.{Name, NameList, Content, directory, link, file, other, Node, Tree, node_at, is_directory_at, is_directory_node, is_directory_content}
+use Rattle.sd_io.specs.Paths.{Linking, through_node, ends_at_link, steps, followed, links_most, start_of, parts_of, is_up, parent_of, reached, way_of, way_of_node}
+use Rattle.sd_io.proofs.WayLemmas.{by_way, by_way_then, through_some, cond_some_then}
+use Rattle.sd_io.proofs.PathTextLemmas.{directory_stands}
 
 -- what stood goes on as before; where nothing stood, anything may stand
 pub record KeepsWays (old new : Tree) : Type 0 where

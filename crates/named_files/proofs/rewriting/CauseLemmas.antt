@@ -4,11 +4,11 @@ use Rattle.std.specs.Prelude.{None, is_none, IsTrue, All, sum_by, Result, Ok, Er
 use Rattle.std.proofs.lemmas.List.{append-nil}
 use Rattle.std.proofs.lemmas.List.Sums.{sum_by_push}
 use Rattle.std.proofs.lemmas.List.Elements.{All-nil, All-push, All-weaker}
-use Rattle.sd_edge.specs.Count.{HasRisen}
-use Rattle.sd_edge.specs.Files.{file_of}
-use Rattle.sd_edge.specs.Disk.{DiskState}
-use Rattle.sd_edge.specs.declared.fault.DiskFault.{DiskFault}
-use Rattle.sd_edge.specs.declared.fault.DiskFault.TheVariants as disk
+use Rattle.sd_io.specs.Count.{HasRisen}
+use Rattle.sd_io.specs.Files.{file_of}
+use Rattle.sd_io.specs.Disk.{DiskState}
+use Rattle.sd_io.specs.declared.fault.DiskFault.{DiskFault}
+use Rattle.sd_io.specs.declared.fault.DiskFault.TheVariants as disk
 use Rattle.sd_change.specs.Change.{Change}
 use Rattle.sd_course.specs.Course.{course, HasRisenBy}
 use Rattle.file_exchange.specs.Reserved.{reserved_names}

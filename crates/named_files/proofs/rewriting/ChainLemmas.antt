@@ -3,8 +3,8 @@ use Rattle.std.proofs.Common.{◌≡◌, ◌≢◌, ℕ, ◌≤◌, Bool, true, 
 use Rattle.std.specs.Prelude.{IsTrue, All, Option, Some, None, Result, Ok, Err, IsOk, IfOk, IfErr, OnOk}
 use Rattle.std.specs.List.{AllZip}
 use Rattle.std.proofs.lemmas.List.Elements.{All-nil, All-cons}
-use Rattle.sd_edge.specs.Disk.{DiskState}
-use Rattle.sd_edge.specs.Crashes.{LeavesSince, IsDurable}
+use Rattle.sd_io.specs.Disk.{DiskState}
+use Rattle.sd_io.specs.Crashes.{LeavesSince, IsDurable}
 use Rattle.sd_change.specs.Change.{Change}
 use Rattle.sd_course.specs.Course.{course}
 use Rattle.file_rewrite.specs.Paths.{IsNoPath}

@@ -2,10 +2,10 @@
 use Rattle.std.proofs.Common.{◌≡◌, ◌⊎◌, ℕ, ◌≤◌, Bool, true, List, [], ◌∷◌, ◌++◌, refl, sym, ◌∙◌, ap, subst, inl, inr, arith}
 use Rattle.std.specs.Prelude.{Option, Some, None, IsSome, IsTrue, Ok, Err, IfOk, IfErr}
 use Rattle.std.proofs.lemmas.List.{append-nil}
-use Rattle.sd_edge.specs.Count.{HasRisen}
-use Rattle.sd_edge.specs.Tree.{NameList, Node, Tree, node_at}
-use Rattle.sd_edge.specs.Paths.{reached, parent_of}
-use Rattle.sd_edge.specs.Disk.{DiskState}
+use Rattle.sd_io.specs.Count.{HasRisen}
+use Rattle.sd_io.specs.Tree.{NameList, Node, Tree, node_at}
+use Rattle.sd_io.specs.Paths.{reached, parent_of}
+use Rattle.sd_io.specs.Disk.{DiskState}
 use Rattle.sd_change.specs.Change.{Change}
 use Rattle.sd_course.specs.Course.{course}
 use Rattle.file_exchange.specs.Reserved.{Free}

@@ -3,11 +3,11 @@ use Rattle.std.proofs.Common.{◌≡◌, ◌≢◌, ◌⊎◌, ℕ, true, List, 
 use Rattle.std.specs.Prelude.{Option, Some, None, IsSome, is_some, Result, Ok, Err, IfOk, IfErr}
 use Rattle.std.specs.Option.{option_and_then}
 use Rattle.std.proofs.lemmas.Option.{same_Some}
-use Rattle.sd_edge.specs.Tree.{NameList, Content, directory, link, file, other, Node, Tree, node_at, file_content, file_node, file_at}
-use Rattle.sd_edge.specs.Paths.{reached, way_of, way_of_node}
-use Rattle.sd_edge.specs.Files.{file_of}
-use Rattle.sd_edge.specs.Disk.{DiskState}
-use Rattle.sd_edge.proofs.WayLemmas.{same_or_other}
+use Rattle.sd_io.specs.Tree.{NameList, Content, directory, link, file, other, Node, Tree, node_at, file_content, file_node, file_at}
+use Rattle.sd_io.specs.Paths.{reached, way_of, way_of_node}
+use Rattle.sd_io.specs.Files.{file_of}
+use Rattle.sd_io.specs.Disk.{DiskState}
+use Rattle.sd_io.proofs.WayLemmas.{same_or_other}
 use Rattle.sd_change.specs.Change.{Change, FileChange}
 use Rattle.file_rewrite.specs.Rewritten.{IsOldOrNew, IsLeft}
 use Rattle.file_rewrite.specs.OneFile.{RewritesFile, LeavesFile}

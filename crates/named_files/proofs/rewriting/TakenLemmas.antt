@@ -6,13 +6,13 @@ use Rattle.std.specs.Cmp.Lexicographic.{pointwise_decides, bytes_decides}
 use Rattle.std.proofs.lemmas.List.Sums.{sum_by_push, sum_by-append}
 use Rattle.std.proofs.lemmas.List.Elements.{Contains-append_left, Contains-append_right, Contains-push}
 use Rattle.std.proofs.lemmas.Option.{same_Some}
-use Rattle.sd_edge.specs.Count.{HasRisen}
-use Rattle.sd_edge.specs.Tree.{NameList, Node, Tree, node_at}
-use Rattle.sd_edge.specs.Paths.{reached, parent_of}
-use Rattle.sd_edge.specs.Outcomes.{same_place}
-use Rattle.sd_edge.specs.Disk.{DiskState}
-use Rattle.sd_edge.proofs.WayLemmas.{same_or_other}
-use Rattle.sd_edge.proofs.OutcomeLemmas.{parent_of_child}
+use Rattle.sd_io.specs.Count.{HasRisen}
+use Rattle.sd_io.specs.Tree.{NameList, Node, Tree, node_at}
+use Rattle.sd_io.specs.Paths.{reached, parent_of}
+use Rattle.sd_io.specs.Outcomes.{same_place}
+use Rattle.sd_io.specs.Disk.{DiskState}
+use Rattle.sd_io.proofs.WayLemmas.{same_or_other}
+use Rattle.sd_io.proofs.OutcomeLemmas.{parent_of_child}
 use Rattle.sd_change.specs.Change.{Change}
 use Rattle.sd_course.specs.Course.{HasRisenBy}
 use Rattle.file_exchange.specs.Reserved.{Free, Reserved}

@@ -2,9 +2,9 @@
 use Rattle.std.proofs.Common.{◌≡◌, ◌∙◌, ◌+◌, ◌^◌, ℕ, zero, suc, List, [], ◌∷◌, ◌++◌, take, Some, ap, sym, inl, inr, arith}
 use Rattle.std.specs.Prelude.{slice_get}
 use Rattle.std.proofs.lemmas.Option.{same_Some}
-use Rattle.sd_edge.specs.Tree.{Tree}
-use Rattle.sd_edge.specs.Disk.{DiskState}
-use Rattle.sd_edge.specs.Streams.{SourceState, SinkState}
+use Rattle.sd_io.specs.Tree.{Tree}
+use Rattle.sd_io.specs.Disk.{DiskState}
+use Rattle.sd_io.specs.Streams.{SourceState, SinkState}
 use Rattle.sd_change.specs.Change.{Change}
 use Rattle.sd_course.specs.Course.{Course}
 use Rattle.stream_rewrite.specs.Stream.{StreamFails, IsTooLongFor}

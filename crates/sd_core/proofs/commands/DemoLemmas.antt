@@ -1,7 +1,7 @@
 -- How a demo's answer becomes that of its command.
 use Rattle.std.proofs.Common.{◌≡◌, ◌⊎◌, ℕ, List, subst, sym}
 use Rattle.std.specs.Prelude.{All}
-use Rattle.sd_edge.specs.Streams.{SinkState}
+use Rattle.sd_io.specs.Streams.{SinkState}
 use Rattle.sd_change.specs.Change.{Change}
 use Rattle.sd_course.specs.Course.{Course}
 use Rattle.chosen_files.specs.Globs.{IsValid, IsFirstInvalid}

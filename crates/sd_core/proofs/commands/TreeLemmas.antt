@@ -1,11 +1,11 @@
 -- How a sweep's answer becomes that of a command on a tree.
 use Rattle.std.proofs.Common.{◌≡◌, ℕ, ap, subst, sym, ◌⊎◌, inl, inr, ◌^◌, List}
 use Rattle.std.specs.Prelude.{IsTrue, Result, Ok, Err}
-use Rattle.sd_edge.specs.Tree.{Tree}
-use Rattle.sd_edge.specs.Outcomes.{content_at}
-use Rattle.sd_edge.specs.Disk.{DiskState}
-use Rattle.sd_edge.specs.Streams.{SinkState}
-use Rattle.sd_edge.specs.Crashes.{LeavesSince}
+use Rattle.sd_io.specs.Tree.{Tree}
+use Rattle.sd_io.specs.Outcomes.{content_at}
+use Rattle.sd_io.specs.Disk.{DiskState}
+use Rattle.sd_io.specs.Streams.{SinkState}
+use Rattle.sd_io.specs.Crashes.{LeavesSince}
 use Rattle.sd_change.specs.Change.{Change}
 use Rattle.sd_course.specs.Course.{Course}
 use Rattle.chosen_files.specs.Globs.{IsFirstInvalid}

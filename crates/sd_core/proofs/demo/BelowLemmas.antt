@@ -15,8 +15,8 @@ use Rattle.std.proofs.lemmas.List.Kept.{IsStrictlySortedBy-filter}
 use Rattle.std.proofs.lemmas.List.FromFn.{length-map-range_with_len}
 use Rattle.std.proofs.lemmas.Map.Keys.{IsDistinct-from_sorted}
 use Rattle.std.proofs.lemmas.Map.Made.{length-le_from_is_member}
-use Rattle.sd_edge.specs.Tree.{NameList, Content, Node, Tree, name_list_cmp, node_at}
-use Rattle.sd_edge.specs.Files.{path_text}
+use Rattle.sd_io.specs.Tree.{NameList, Content, Node, Tree, name_list_cmp, node_at}
+use Rattle.sd_io.specs.Files.{path_text}
 use Rattle.chosen_files.specs.Chosen.{IsListOf}
 use Rattle.chosen_files.specs.Below.{IsBelow, HasFewerBelow}
 use Rattle.chosen_files.proofs.PlaceLemmas.{In, in_from_contains, contains_from_in, in_left, in_right, place_total}

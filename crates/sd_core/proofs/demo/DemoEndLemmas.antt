@@ -4,12 +4,12 @@ use Rattle.std.specs.Prelude.{Option, Some, None, IsSome, is_some, IsTrue, Conta
 use Rattle.std.specs.Option.{option_map_or}
 use Rattle.std.proofs.lemmas.Option.{same_Some}
 use Rattle.std.proofs.lemmas.List.Elements.{All-nil, All-cons}
-use Rattle.sd_edge.specs.Tree.{NameList, node_at, file_at}
-use Rattle.sd_edge.specs.Paths.{reached, parent_of, way_of_node}
-use Rattle.sd_edge.specs.Files.{path_text}
-use Rattle.sd_edge.specs.Outcomes.{same_place}
-use Rattle.sd_edge.specs.Disk.{DiskState}
-use Rattle.sd_edge.proofs.WayLemmas.{file_has_no_way}
+use Rattle.sd_io.specs.Tree.{NameList, node_at, file_at}
+use Rattle.sd_io.specs.Paths.{reached, parent_of, way_of_node}
+use Rattle.sd_io.specs.Files.{path_text}
+use Rattle.sd_io.specs.Outcomes.{same_place}
+use Rattle.sd_io.specs.Disk.{DiskState}
+use Rattle.sd_io.proofs.WayLemmas.{file_has_no_way}
 use Rattle.sd_change.specs.Change.{Change}
 use Rattle.sd_course.specs.Course.{course, DiskFailed}
 use Rattle.file_rewrite.specs.declared.fault.JobFault.{JobFault}

@@ -2,9 +2,9 @@
 use Rattle.std.proofs.Common.{◌≡◌, ℕ, false, cond, List, [], ◌∷◌, ◌++◌, map, inl, inr, refl, sym, ap, ◌∙◌, subst, arith}
 use Rattle.std.specs.Prelude.{Some, None, find}
 use Rattle.std.specs.List.{list_any, range_with_len}
-use Rattle.sd_edge.specs.Tree.{NameList, directory, file, Tree, node_at}
-use Rattle.sd_edge.specs.Outcomes.{same_place}
-use Rattle.sd_edge.specs.Paths.{parent_of}
+use Rattle.sd_io.specs.Tree.{NameList, directory, file, Tree, node_at}
+use Rattle.sd_io.specs.Outcomes.{same_place}
+use Rattle.sd_io.specs.Paths.{parent_of}
 use Rattle.file_exchange.specs.Reserved.{reserved_name, Free}
 use Rattle.many_files.specs.Files.{HasRoom}
 use Rattle.sd_core.specs.Sweep.{IsChosenBelow}

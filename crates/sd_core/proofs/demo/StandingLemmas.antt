@@ -5,11 +5,11 @@ use Rattle.std.specs.Prelude.{◌||◌, Option, Some, None, IsSome, find}
 use Rattle.std.specs.List.{list_any, range_with_len}
 use Rattle.std.specs.Cmp.Lexicographic.{pointwise_decides, bytes_decides}
 use Rattle.std.proofs.lemmas.Option.{same_Some}
-use Rattle.sd_edge.specs.Tree.{NameList, Content, directory, link, file, other, Node, Tree, file_node, file_content, node_at}
-use Rattle.sd_edge.specs.Outcomes.{same_place, content_of}
-use Rattle.sd_edge.specs.Paths.{reached}
-use Rattle.sd_edge.specs.Files.{path_text}
-use Rattle.sd_edge.proofs.PathTextLemmas.{text_no_link}
+use Rattle.sd_io.specs.Tree.{NameList, Content, directory, link, file, other, Node, Tree, file_node, file_content, node_at}
+use Rattle.sd_io.specs.Outcomes.{same_place, content_of}
+use Rattle.sd_io.specs.Paths.{reached}
+use Rattle.sd_io.specs.Files.{path_text}
+use Rattle.sd_io.proofs.PathTextLemmas.{text_no_link}
 use Rattle.demo_tree.specs.Demo.{DemoFile, demo_place, demo_folder, demo_file, demo_files}
 use Rattle.demo_tree.specs.Demo.{folder_content, file_or_folder, demo_content, demo_bytes, demo_mode, IsDemo}
 use Rattle.demo_tree.proofs.ContentLemmas.{demo_there}

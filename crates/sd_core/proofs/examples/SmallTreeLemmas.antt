@@ -6,8 +6,8 @@ use Rattle.std.specs.List.Sorted.{IsStrictlySortedBy}
 use Rattle.std.specs.FinMap.{find}
 use Rattle.std.proofs.lemmas.List.{append_cancel_left}
 use Rattle.std.proofs.lemmas.Option.{same_Some}
-use Rattle.sd_edge.specs.Tree.{NameList, directory, Tree, name_list_cmp, node_at, file_at, file_node, is_directory_at, is_directory_node}
-use Rattle.sd_edge.specs.Paths.{parts_of, reached}
+use Rattle.sd_io.specs.Tree.{NameList, directory, Tree, name_list_cmp, node_at, file_at, file_node, is_directory_at, is_directory_node}
+use Rattle.sd_io.specs.Paths.{parts_of, reached}
 use Rattle.walk_rest.specs.Examples.{tree_with}
 use Rattle.file_rewrite.specs.Examples.{a_place}
 use Rattle.chosen_files.specs.Below.{IsBelow, HasFewerBelow}

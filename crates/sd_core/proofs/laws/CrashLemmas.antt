@@ -4,10 +4,10 @@ use Rattle.std.specs.Prelude.{Option, Some, None}
 use Rattle.std.specs.Str.{bytes_eq}
 use Rattle.std.specs.Cmp.Lexicographic.{bytes_decides}
 use Rattle.std.proofs.lemmas.Option.{same_Some, none-some}
-use Rattle.sd_edge.specs.Tree.{NameList, Content, directory, link, file, other, Node, Tree, node_at, file_content, file_node}
-use Rattle.sd_edge.specs.Outcomes.{content_of, content_at}
-use Rattle.sd_edge.specs.Disk.{DiskState, MayLeave}
-use Rattle.sd_edge.specs.Crashes.{IsDurable}
+use Rattle.sd_io.specs.Tree.{NameList, Content, directory, link, file, other, Node, Tree, node_at, file_content, file_node}
+use Rattle.sd_io.specs.Outcomes.{content_of, content_at}
+use Rattle.sd_io.specs.Disk.{DiskState, MayLeave}
+use Rattle.sd_io.specs.Crashes.{IsDurable}
 use Rattle.sd_change.specs.Change.{Change, IsOne}
 use Rattle.file_rewrite.specs.Rewritten.{IsNewFile, IsChangedFile}
 use Rattle.many_files.specs.Files.{IsFreeBeside}

@@ -5,8 +5,8 @@ use Rattle.std.specs.List.{list_all, filter}
 use Rattle.std.specs.Str.{bytes_eq}
 use Rattle.std.proofs.lemmas.List.Elements.{All-same, All-map, All-weaker, All-contains_itself, All-head, All-tail, filter_passes}
 use Rattle.std.proofs.lemmas.Option.{same_Some}
-use Rattle.sd_edge.specs.Tree.{NameList, Content, directory, link, file, other, Node, Tree, IsTree, node_at, file_at, file_node, file_content, is_directory_node, IsNonemptyFile}
-use Rattle.sd_edge.specs.Paths.{parts_of, followed, links_most, reached}
+use Rattle.sd_io.specs.Tree.{NameList, Content, directory, link, file, other, Node, Tree, IsTree, node_at, file_at, file_node, file_content, is_directory_node, IsNonemptyFile}
+use Rattle.sd_io.specs.Paths.{parts_of, followed, links_most, reached}
 use Rattle.chosen_files.specs.Chosen.{path_from, ListsChosen}
 use Rattle.chosen_files.proofs.PlaceLemmas.{in_from_contains}
 use Rattle.chosen_files.proofs.RootLemmas.{chosen_lead, chosen_names, file_leads}

@@ -3,13 +3,13 @@ use Rattle.std.proofs.Common.{◌≡◌, ◌⊎◌, ℕ, zero, suc, ◌≤◌, B
 use Rattle.std.specs.Prelude.{Option, Some, None, IsTrue, Contains, All, Result, Ok, Err, IsErrAnd, IfErr, sum_by}
 use Rattle.std.proofs.lemmas.Option.{same_Some}
 use Rattle.std.proofs.lemmas.List.Elements.{All-weaker, All-contains, All-head, All-tail}
-use Rattle.sd_edge.specs.Tree.{NameList, Content, Tree, node_at, file_at}
-use Rattle.sd_edge.specs.Paths.{parent_of}
-use Rattle.sd_edge.specs.Files.{file_of}
-use Rattle.sd_edge.specs.Disk.{DiskState, SameTree}
-use Rattle.sd_edge.specs.Crashes.{LeavesSince, IsDurable}
-use Rattle.sd_edge.specs.declared.fault.DiskFault.TheVariants as disk
-use Rattle.sd_edge.proofs.CrashLemmas.{since_same, since_then, since_more}
+use Rattle.sd_io.specs.Tree.{NameList, Content, Tree, node_at, file_at}
+use Rattle.sd_io.specs.Paths.{parent_of}
+use Rattle.sd_io.specs.Files.{file_of}
+use Rattle.sd_io.specs.Disk.{DiskState, SameTree}
+use Rattle.sd_io.specs.Crashes.{LeavesSince, IsDurable}
+use Rattle.sd_io.specs.declared.fault.DiskFault.TheVariants as disk
+use Rattle.sd_io.proofs.CrashLemmas.{since_same, since_then, since_more}
 use Rattle.sd_change.specs.Change.{Change}
 use Rattle.sd_course.specs.Course.{course, HasRisenBy}
 use Rattle.file_exchange.specs.Reserved.{Free}
@@ -35,7 +35,7 @@ use Rattle.many_files.specs.declared.fault.FilesFault.{FilesFault}
 use Rattle.many_files.specs.declared.fault.FilesFault.TheVariants as files_fault
 use Rattle.sd_core.specs.declared.sweep_fault.SweepFault.TheVariants as sweep
 use Rattle.file_rewrite.specs.Paths.{IsNoPath}
-use Rattle.sd_edge.specs.Tree.{IsTree}
+use Rattle.sd_io.specs.Tree.{IsTree}
 use Rattle.many_files.proofs.TurnLemmas.{left_before}
 use Rattle.sd_core.proofs.sweeping.NamedLemmas.{lists_files, all_named}
 

@@ -1,8 +1,8 @@
 -- What is carried out, from the parts of it.
 use Rattle.std.proofs.Common.{◌≡◌, ℕ, ap, subst, sym, refl, inl, inr, List, arith}
 use Rattle.std.specs.Prelude.{IsTrue}
-use Rattle.sd_edge.specs.Disk.{DiskState}
-use Rattle.sd_edge.specs.Streams.{SourceState, SinkState}
+use Rattle.sd_io.specs.Disk.{DiskState}
+use Rattle.sd_io.specs.Streams.{SourceState, SinkState}
 use Rattle.sd_course.specs.Course.{Course}
 use Rattle.sd_words.specs.declared.options.Options.{Options}
 use Rattle.sd_replace.specs.Making.{AnAskedReplacementIsReadable, IsReplacerRefused}

@@ -2,8 +2,8 @@
 use Rattle.std.proofs.Common.{◌≡◌, ◌≢◌, ◌∙◌, ℕ, ap, subst, sym, refl, inl, inr, List, arith}
 use Rattle.std.specs.Prelude.{Some, None}
 use Rattle.std.proofs.lemmas.Option.{same_Some, none-some}
-use Rattle.sd_edge.specs.Disk.{DiskState}
-use Rattle.sd_edge.specs.Streams.{SourceState, SinkState}
+use Rattle.sd_io.specs.Disk.{DiskState}
+use Rattle.sd_io.specs.Streams.{SourceState, SinkState}
 use Rattle.sd_change.specs.Change.{Change}
 use Rattle.sd_course.specs.Course.{Course}
 use Rattle.sd_words.specs.Order.{order_of}

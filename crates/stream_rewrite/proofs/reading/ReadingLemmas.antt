@@ -3,8 +3,8 @@ use Rattle.std.proofs.Common.{◌≡◌, ◌<◌, ◌≤◌, ℕ, ◌+◌, ◌^�
 use Rattle.std.proofs.lemmas.List.{append-nil, take-append-le, take-append-drop, length-take-le, take_all}
 use Rattle.std.proofs.lemmas.Bool.{cases_lt}
 use Rattle.std.specs.Prelude.{IsTrue}
-use Rattle.sd_edge.specs.Count.{HasRisen}
-use Rattle.sd_edge.specs.Streams.{SourceState, GivesBytes, taken_after}
+use Rattle.sd_io.specs.Count.{HasRisen}
+use Rattle.sd_io.specs.Streams.{SourceState, GivesBytes, taken_after}
 use Rattle.sd_course.specs.Course.{course}
 use Rattle.stream_rewrite.specs.Reading.{Gives, HasTaken, ReadsAll, HasGivenOver}
 

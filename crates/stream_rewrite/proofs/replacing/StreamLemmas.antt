@@ -1,7 +1,7 @@
 -- How the replacing of a stream ends.
 use Rattle.std.proofs.Common.{◌≡◌, ◌<◌, ◌≤◌, ℕ, Bool, true, false, List, ◌++◌, length, refl, sym, ap, subst, inl, inr, arith}
 use Rattle.std.specs.Prelude.{IsTrue, Result, Ok, Err, IsErrAnd, IfErr, MatchResult}
-use Rattle.sd_edge.specs.Streams.{SourceState, SinkState}
+use Rattle.sd_io.specs.Streams.{SourceState, SinkState}
 use Rattle.sd_change.specs.Change.{Change}
 use Rattle.sd_course.specs.Course.{Course, course, AppendsPrefix, SinkFailed}
 use Rattle.stream_rewrite.specs.Reading.{ReadsAll, ReadFails}

@@ -6,11 +6,10 @@ use Rattle.std.specs.Str.{bytes_eq}
 use Rattle.std.specs.declared.cmp.Ordering.{Ordering}
 use Rattle.std.specs.Cmp.Lexicographic.{lists_total, nat_list_cmp_total}
 use Rattle.std.specs.FinMap.{find, get-from_entries}
-use Rattle.sd_edge.specs.Tree.{Name, NameList, Node, Tree, name_list_cmp, node_at, is_directory_node}
-use Rattle.sd_edge.specs.Paths.{Linking, through_node, steps, followed, links_most, start_of, parts_of, pieces_of, kept, is_up, parent_of, reached}
-use Rattle.sd_edge.specs.Lists.{TellAll}
-use Rattle.sd_edge.specs.MemTree.{raw_entry}
-use Rattle.sd_edge.specs.declared.meta.RawEntry.{RawEntry}
+use Rattle.sd_io.specs.Tree.{Name, NameList, Node, Tree, name_list_cmp, node_at, is_directory_node}
+use Rattle.sd_io.specs.Paths.{Linking, through_node, steps, followed, links_most, start_of, parts_of, pieces_of, kept, is_up, parent_of, reached}
+use Rattle.sd_io.specs.Lists.{TellAll, raw_entry}
+use Rattle.sd_io.specs.declared.meta.RawEntry.{RawEntry}
 use Rattle.walk_rest.specs.declared.entry.DirEntry.{DirEntry}
 use Rattle.walk_rest.specs.declared.level.Folder.{Folder}
 use Rattle.walk_rest.specs.declared.options.Options.{Options}

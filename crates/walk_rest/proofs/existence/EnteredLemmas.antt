@@ -1,7 +1,7 @@
 -- What a walk enters.
 use Rattle.std.proofs.Common.{◌≡◌, Bool, true, false, cond, List, Option, Some, None, refl, sym, ◌∙◌, ap}
 use Rattle.std.specs.Prelude.{nat_eq, nat_lt, ◌&&◌}
-use Rattle.sd_edge.specs.Tree.{Node, is_directory_content}
+use Rattle.sd_io.specs.Tree.{Node, is_directory_content}
 use Rattle.walk_rest.specs.declared.entry.DirEntry.{DirEntry}
 use Rattle.walk_rest.specs.declared.level.Folder.{Folder}
 use Rattle.walk_rest.specs.Plan.{Manner, stays, enters, seen_by, seen_link, seen_target, seen_unfollowed, seen_directory, seen_root_link, is_foreign, followed_entry, folder_of, ident_of, ancestor_with, is_directory, is_link}

@@ -12,11 +12,11 @@ use Rattle.std.proofs.Math.Nat.{suc-mul}
 use Rattle.std.proofs.lemmas.Bool.{cases_lt, false≢true, true≢false}
 use Rattle.std.proofs.lemmas.Option.{same_Some}
 use Rattle.std.proofs.lemmas.List.Folds.{list_any_at}
-use Rattle.sd_edge.specs.Tree.{NameList, Name, Content, directory, link, file, other, Node, Tree, IsTree, name_list_cmp, node_at, is_directory_content}
-use Rattle.sd_edge.specs.Files.{kind_of}
-use Rattle.sd_edge.specs.Lists.{Tells, TellAll, directory_of}
-use Rattle.sd_edge.specs.declared.meta.Ident.{Ident}
-use Rattle.sd_edge.specs.declared.meta.RawEntry.{RawEntry}
+use Rattle.sd_io.specs.Tree.{NameList, Name, Content, directory, link, file, other, Node, Tree, IsTree, name_list_cmp, node_at, is_directory_content}
+use Rattle.sd_io.specs.Files.{kind_of}
+use Rattle.sd_io.specs.Lists.{Tells, TellAll, directory_of}
+use Rattle.sd_io.specs.declared.meta.Ident.{Ident}
+use Rattle.sd_io.specs.declared.meta.RawEntry.{RawEntry}
 use Rattle.walk_rest.specs.declared.entry.DirEntry.{DirEntry}
 use Rattle.walk_rest.specs.declared.error.Error.{Error}
 use Rattle.walk_rest.specs.declared.level.Folder.{Folder}

@@ -9,12 +9,12 @@ use Rattle.std.proofs.lemmas.List.{get_or_default}
 use Rattle.std.proofs.lemmas.List.Elements.{filter-append}
 use Rattle.std.proofs.lemmas.List.Splits.{slice_split_none}
 use Rattle.std.proofs.lemmas.Option.{same_Some, option_and_then_some, cond_some}
-use Rattle.sd_edge.specs.Tree.{Name, NameList, Content, directory, link, file, other, Node, Tree, IsTree, IsName, node_at, is_directory_node, is_directory_content, is_directory_at}
-use Rattle.sd_edge.specs.Paths.{Linking, through_node, steps, followed, links_most, start_of, parts_of, parent_of, pieces_of, kept, is_up, reached, named, folder_and_name, child_in}
-use Rattle.sd_edge.specs.Lists.{directory_of}
-use Rattle.sd_edge.proofs.WayLemmas.{cond_some_then}
-use Rattle.sd_edge.proofs.PathTextLemmas.{differs}
-use Rattle.sd_edge.proofs.PathLemmas.{reached_no_link}
+use Rattle.sd_io.specs.Tree.{Name, NameList, Content, directory, link, file, other, Node, Tree, IsTree, IsName, node_at, is_directory_node, is_directory_content, is_directory_at}
+use Rattle.sd_io.specs.Paths.{Linking, through_node, steps, followed, links_most, start_of, parts_of, parent_of, pieces_of, kept, is_up, reached, named, folder_and_name, child_in}
+use Rattle.sd_io.specs.Lists.{directory_of}
+use Rattle.sd_io.proofs.WayLemmas.{cond_some_then}
+use Rattle.sd_io.proofs.PathTextLemmas.{differs}
+use Rattle.sd_io.proofs.PathLemmas.{reached_no_link}
 use Rattle.walk_rest.specs.Plan.{path_below, node_to}
 
 -- ---- the parts of a path and a name

@@ -7,10 +7,10 @@ use Rattle.std.specs.Str.{bytes_eq}
 use Rattle.std.proofs.lemmas.Bool.{eqb-true}
 use Rattle.std.proofs.lemmas.List.{get_or_default}
 use Rattle.std.proofs.lemmas.List.Splits.{slice_split_none}
-use Rattle.sd_edge.specs.Tree.{Name, IsName, name_cmp}
-use Rattle.sd_edge.specs.Paths.{parts_of, pieces_of, kept, is_dropped, is_up, folder_and_name}
-use Rattle.sd_edge.specs.declared.meta.RawEntry.{RawEntry}
-use Rattle.sd_edge.proofs.PathTextLemmas.{differs}
+use Rattle.sd_io.specs.Tree.{Name, IsName, name_cmp}
+use Rattle.sd_io.specs.Paths.{parts_of, pieces_of, kept, is_dropped, is_up, folder_and_name}
+use Rattle.sd_io.specs.declared.meta.RawEntry.{RawEntry}
+use Rattle.sd_io.proofs.PathTextLemmas.{differs}
 use Rattle.walk_rest.specs.declared.level.Folder.{Folder}
 use Rattle.walk_rest.specs.Plan.{path_below, entry_below}
 use Rattle.walk_rest.specs.Names.{file_name, by_file_name}

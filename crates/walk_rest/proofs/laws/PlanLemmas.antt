@@ -1,9 +1,9 @@
 -- The plan of a directory is one, and that of some of its entries is a cut of it.
 use Rattle.std.proofs.Common.{◌≡◌, ℕ, List, [], ◌∷◌, Option, Some, map, refl, sym, ◌∙◌, ap, subst, arith, inl, inr}
-use Rattle.sd_edge.specs.Tree.{NameList, Name, Node, Tree}
-use Rattle.sd_edge.specs.Files.{kind_of}
-use Rattle.sd_edge.specs.Lists.{Tells, TellAll}
-use Rattle.sd_edge.specs.declared.meta.RawEntry.{RawEntry}
+use Rattle.sd_io.specs.Tree.{NameList, Name, Node, Tree}
+use Rattle.sd_io.specs.Files.{kind_of}
+use Rattle.sd_io.specs.Lists.{Tells, TellAll}
+use Rattle.sd_io.specs.declared.meta.RawEntry.{RawEntry}
 use Rattle.walk_rest.specs.declared.entry.DirEntry.{DirEntry}
 use Rattle.walk_rest.specs.declared.level.Folder.{Folder}
 use Rattle.walk_rest.specs.Plan.{Item, Plan, done, past, into, Manner, Seen, fails, stays, enters, seen, IsPast, IsInto, IsPlan, IsContents, ListsNames, in_order, entry_below}

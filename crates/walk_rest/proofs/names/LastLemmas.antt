@@ -8,8 +8,8 @@ use Rattle.std.proofs.lemmas.List.Splits.{slice_split_none}
 use Rattle.std.proofs.lemmas.Str.Pattern.{NoCharPasses-char}
 use Rattle.std.specs.Option.{option_and_then, option_map_or}
 use Rattle.std.specs.List.{last_or}
-use Rattle.sd_edge.specs.Tree.{Name}
-use Rattle.sd_edge.specs.Paths.{parts_of, pieces_of, kept, is_dropped, folder_and_name, is_up}
+use Rattle.sd_io.specs.Tree.{Name}
+use Rattle.sd_io.specs.Paths.{parts_of, pieces_of, kept, is_dropped, folder_and_name, is_up}
 use Rattle.walk_rest.proofs.laws.NameLemmas.{is_slash, split_append, kept_append}
 
 pub last_map : {A B : Type 0} (f : A → B) (o : Option A) (xs : List A) → option_map f (last_or o xs) ≡ last_or (option_map f o) (map f xs)

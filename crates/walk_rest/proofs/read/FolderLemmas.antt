@@ -4,15 +4,15 @@ use Rattle.std.proofs.lemmas.List.{map-append}
 use Rattle.std.specs.declared.cmp.Ordering.{Ordering}
 use Rattle.std.specs.Ordering.{is_lt}
 use Rattle.std.specs.Cmp.{IsTotalOrder}
-use Rattle.sd_edge.specs.Count.{HasRisen}
-use Rattle.sd_edge.specs.Tree.{Tree}
+use Rattle.sd_io.specs.Count.{HasRisen}
+use Rattle.sd_io.specs.Tree.{Tree}
 use Rattle.std.specs.Prelude.{Result, Err, IsTrue, IsSome, is_some}
 use Rattle.std.proofs.lemmas.Bool.{cases_Bool}
-use Rattle.sd_edge.specs.Disk.{DiskState, SameLists, HasCause}
-use Rattle.sd_edge.specs.declared.meta.ListId.{ListId}
-use Rattle.sd_edge.specs.declared.fault.DiskFault.{DiskFault}
-use Rattle.sd_edge.specs.declared.fault.DiskFault.TheVariants.{Absent, Taken, Failed, NoMemory}
-use Rattle.sd_edge.specs.Lists.{ListsDirectory, IsNoDirectory, directory_of}
+use Rattle.sd_io.specs.Disk.{DiskState, SameLists, HasCause}
+use Rattle.sd_io.specs.declared.meta.ListId.{ListId}
+use Rattle.sd_io.specs.declared.fault.DiskFault.{DiskFault}
+use Rattle.sd_io.specs.declared.fault.DiskFault.TheVariants.{Absent, Taken, Failed, NoMemory}
+use Rattle.sd_io.specs.Lists.{ListsDirectory, IsNoDirectory, directory_of}
 use Rattle.walk_rest.specs.declared.entry.DirEntry.{DirEntry}
 use Rattle.walk_rest.specs.declared.level.Folder.{Folder}
 use Rattle.walk_rest.specs.declared.level.Due.{Due}

@@ -3,12 +3,12 @@ use Rattle.std.proofs.Common.{◌≡◌, ◌+◌, ◌^◌, ◌<◌, ◌≤◌, �
 use Rattle.std.proofs.lemmas.List.{map-append}
 use Rattle.std.proofs.lemmas.Bool.{cases_order}
 use Rattle.std.specs.Prelude.{Ok, Err, ◌≢◌, IsErrOf, Result}
-use Rattle.sd_edge.specs.declared.fault.DiskFault.{DiskFault}
-use Rattle.sd_edge.specs.Count.{HasRisen, IsAtLast}
-use Rattle.sd_edge.specs.declared.fault.DiskFault.TheVariants.{Absent, Taken, Failed, NoMemory}
-use Rattle.sd_edge.specs.Disk.{DiskState, OpenList, SameLists}
-use Rattle.sd_edge.specs.Lists.{Passes, Ends, Gives, PassesOver, PassesOverNext, GivesNext, HasNoneLeft, IsFull}
-use Rattle.sd_edge.specs.declared.meta.RawEntry.{RawEntry}
+use Rattle.sd_io.specs.declared.fault.DiskFault.{DiskFault}
+use Rattle.sd_io.specs.Count.{HasRisen, IsAtLast}
+use Rattle.sd_io.specs.declared.fault.DiskFault.TheVariants.{Absent, Taken, Failed, NoMemory}
+use Rattle.sd_io.specs.Disk.{DiskState, OpenList, SameLists}
+use Rattle.sd_io.specs.Lists.{Passes, Ends, Gives, PassesOver, PassesOverNext, GivesNext, HasNoneLeft, IsFull}
+use Rattle.sd_io.specs.declared.meta.RawEntry.{RawEntry}
 use Rattle.walk_rest.specs.declared.entry.DirEntry.{DirEntry}
 use Rattle.walk_rest.specs.declared.level.Folder.{Folder}
 use Rattle.walk_rest.specs.declared.level.Due.{Due}

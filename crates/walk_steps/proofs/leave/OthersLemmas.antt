@@ -1,7 +1,7 @@
 -- Lists that no level reads, and folders of open lists.
 use Rattle.std.proofs.Common.{◌≡◌, ℕ, List, [], ◌∷◌, ◌++◌, length, Option, Some, None, refl, ◌∙◌, ap, arith, length-append}
-use Rattle.sd_edge.specs.Disk.{DiskState}
-use Rattle.sd_edge.specs.Lists.{IsOpen}
+use Rattle.sd_io.specs.Disk.{DiskState}
+use Rattle.sd_io.specs.Lists.{IsOpen}
 use Rattle.walk_rest.specs.declared.entry.DirEntry.{DirEntry}
 use Rattle.walk_rest.specs.declared.level.Due.{Due}
 use Rattle.walk_rest.specs.declared.level.Folder.{Folder}

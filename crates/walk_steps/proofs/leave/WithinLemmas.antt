@@ -1,6 +1,6 @@
 -- How many lists are open.
 use Rattle.std.proofs.Common.{◌≡◌, ◌+◌, ◌≤◌, ◌<◌, ℕ, Bool, true, false, cond, List, [], ◌∷◌, ◌++◌, length, length-append, Option, Some, None, refl, sym, subst, ◌∙◌, ap, arith}
-use Rattle.sd_edge.specs.Disk.{DiskState, OpenList}
+use Rattle.sd_io.specs.Disk.{DiskState, OpenList}
 use Rattle.walk_rest.specs.declared.level.Entries.{Entries}
 use Rattle.walk_rest.specs.declared.level.Entries.TheVariants.{Unread, Open, Kept}
 use Rattle.walk_rest.specs.declared.entry.DirEntry.{DirEntry}

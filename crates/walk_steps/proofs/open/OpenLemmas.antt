@@ -4,10 +4,10 @@ use Rattle.std.specs.Prelude.{IsErr, IsSome, IsTrue, OnOk, option_map}
 use Rattle.std.proofs.lemmas.Bool.{cases_order}
 use Rattle.std.specs.List.{filter}
 use Rattle.std.specs.declared.cmp.Ordering.{Ordering}
-use Rattle.sd_edge.specs.Tree.{Tree}
-use Rattle.sd_edge.specs.Disk.{DiskState, SameLists, SameTree}
-use Rattle.sd_edge.specs.Lists.{IsOpen, ListsDirectory, directory_of}
-use Rattle.sd_edge.specs.declared.meta.RawEntry.{RawEntry}
+use Rattle.sd_io.specs.Tree.{Tree}
+use Rattle.sd_io.specs.Disk.{DiskState, SameLists, SameTree}
+use Rattle.sd_io.specs.Lists.{IsOpen, ListsDirectory, directory_of}
+use Rattle.sd_io.specs.declared.meta.RawEntry.{RawEntry}
 use Rattle.walk_rest.specs.declared.entry.DirEntry.{DirEntry}
 use Rattle.walk_rest.specs.declared.options.Options.{Options}
 use Rattle.walk_rest.specs.declared.level.Due.{Due}

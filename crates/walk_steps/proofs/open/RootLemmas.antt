@@ -3,8 +3,8 @@ use Rattle.std.proofs.Common.{◌≡◌, ◌⊎◌, ◌<◌, ◌≤◌, ℕ, zer
 use Rattle.std.specs.Prelude.{IsTrue, option_map}
 use Rattle.std.specs.Option.{option_map_or}
 use Rattle.std.specs.declared.cmp.Ordering.{Ordering}
-use Rattle.sd_edge.specs.Tree.{Node, Tree}
-use Rattle.sd_edge.specs.Disk.{DiskState, SameLists, SameTree}
+use Rattle.sd_io.specs.Tree.{Node, Tree}
+use Rattle.sd_io.specs.Disk.{DiskState, SameLists, SameTree}
 use Rattle.walk_rest.specs.declared.entry.DirEntry.{DirEntry}
 use Rattle.walk_rest.specs.declared.error.Error.{Error}
 use Rattle.walk_rest.specs.declared.error.Error.TheVariants as error

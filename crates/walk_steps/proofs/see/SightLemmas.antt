@@ -2,13 +2,13 @@
 use Rattle.std.proofs.Common.{◌≡◌, ℕ, Bool, true, false, cond, List, [], ◌∷◌, ◌++◌, Option, Some, None, refl, ◌∙◌, ap}
 use Rattle.std.specs.Prelude.{IsTrue, nat_eq, nat_lt, ◌&&◌, ◌||◌}
 use Rattle.std.specs.Option.{option_map_or, option_and_then}
-use Rattle.sd_edge.specs.Disk.{DiskState}
-use Rattle.sd_edge.specs.Tree.{NameList, Node, Tree, Content, directory, link, file, other, node_at, is_directory_content}
-use Rattle.sd_edge.specs.Paths.{Leads}
-use Rattle.sd_edge.specs.Files.{LeadsNowhere, kind_of}
-use Rattle.sd_edge.specs.declared.meta.Kind.{Kind}
-use Rattle.sd_edge.specs.declared.meta.Kind.TheVariants as kind
-use Rattle.sd_edge.specs.declared.meta.Ident.{Ident}
+use Rattle.sd_io.specs.Disk.{DiskState}
+use Rattle.sd_io.specs.Tree.{NameList, Node, Tree, Content, directory, link, file, other, node_at, is_directory_content}
+use Rattle.sd_io.specs.Paths.{Leads}
+use Rattle.sd_io.specs.Files.{LeadsNowhere, kind_of}
+use Rattle.sd_io.specs.declared.meta.Kind.{Kind}
+use Rattle.sd_io.specs.declared.meta.Kind.TheVariants as kind
+use Rattle.sd_io.specs.declared.meta.Ident.{Ident}
 use Rattle.walk_rest.specs.declared.level.Folder.{Folder}
 use Rattle.walk_rest.specs.declared.level.Level.{Level}
 use Rattle.walk_rest.specs.declared.entry.DirEntry.{DirEntry}

@@ -1,9 +1,9 @@
 -- What a failed reading loses.
 use Rattle.std.proofs.Common.{◌≡◌, ◌⊎◌, ℕ, List, map, Result, Ok, Err, ap, sym, ◌∙◌, inl, inr}
 use Rattle.std.specs.Result.{IsErrOf, IsErrAnd}
-use Rattle.sd_edge.specs.Disk.{DiskState}
-use Rattle.sd_edge.specs.Lists.{Passes, Ends, PassesOver, PassesOverNext}
-use Rattle.sd_edge.specs.declared.meta.RawEntry.{RawEntry}
+use Rattle.sd_io.specs.Disk.{DiskState}
+use Rattle.sd_io.specs.Lists.{Passes, Ends, PassesOver, PassesOverNext}
+use Rattle.sd_io.specs.declared.meta.RawEntry.{RawEntry}
 use Rattle.walk_rest.specs.declared.entry.DirEntry.{DirEntry}
 use Rattle.walk_rest.specs.Level.{left_in}
 use Rattle.walk_rest.specs.Sorting.{IsSublist, skipped}

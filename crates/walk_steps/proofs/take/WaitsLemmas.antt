@@ -2,7 +2,7 @@
 use Rattle.std.proofs.Common.{◌≡◌, ◌+◌, ◌≤◌, ℕ, Bool, true, false, cond, List, [], ◌∷◌, ◌++◌, length, Option, Some, None, Result, Ok, Err, refl, ◌∙◌, ap, arith}
 use Rattle.std.specs.Prelude.{IfOk, IfSome, ◌&&◌, not, nat_lt, option_map}
 use Rattle.std.specs.Option.{option_to_list}
-use Rattle.sd_edge.specs.Disk.{DiskState}
+use Rattle.sd_io.specs.Disk.{DiskState}
 use Rattle.walk_rest.specs.declared.entry.DirEntry.{DirEntry}
 use Rattle.walk_rest.specs.declared.level.Folder.{Folder}
 use Rattle.walk_rest.specs.declared.level.Level.{Level}

@@ -3,7 +3,7 @@ use Rattle.std.proofs.Common.{◌≡◌, ◌+◌, ◌<◌, ◌≤◌, ◌⊎◌,
 use Rattle.std.specs.Prelude.{nat_lt, IsTrue, IfErr, IsErrAnd}
 use Rattle.std.proofs.lemmas.List.{map-append}
 use Rattle.std.proofs.lemmas.Bool.{lt-ltb, ltb-true}
-use Rattle.sd_edge.specs.Disk.{DiskState}
+use Rattle.sd_io.specs.Disk.{DiskState}
 use Rattle.walk_rest.specs.declared.entry.DirEntry.{DirEntry}
 use Rattle.walk_rest.specs.declared.error.Error.{Error}
 use Rattle.walk_rest.specs.declared.error.Error.TheVariants as error

@@ -1,7 +1,7 @@
 -- Calls of a walk, one after another.
 use Rattle.std.proofs.Common.{◌≡◌, ◌+◌, ◌≤◌, ◌⊎◌, ℕ, Bool, true, List, [], Option, Some, None, Err, refl, sym, subst, ap, arith, inl, inr}
 use Rattle.std.specs.Prelude.{IsTrue}
-use Rattle.sd_edge.specs.Disk.{DiskState}
+use Rattle.sd_io.specs.Disk.{DiskState}
 use Rattle.walk_rest.specs.declared.error.Error.TheVariants as error
 use Rattle.walk_rest.specs.declared.level.Level.{Level}
 use Rattle.walk_rest.specs.Listing.{manner_of}

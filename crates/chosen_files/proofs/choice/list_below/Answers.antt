@@ -1,8 +1,8 @@
 use Rattle.std.proofs.Common.{rules, ◌≡◌, ◌-◌, ◌^◌, ◌≤◌, ◌∙◌, Err, true, refl, sym, ap, subst, arith}
 use Rattle.std.specs.Prelude.{IsTrue, length}
-use Rattle.sd_edge.specs.Disk.{DiskState}
-use Rattle.sd_edge.specs.Files.{Resolves}
-use Rattle.sd_edge.specs.Tree.{IsTree}
+use Rattle.sd_io.specs.Disk.{DiskState}
+use Rattle.sd_io.specs.Files.{Resolves}
+use Rattle.sd_io.specs.Tree.{IsTree}
 use Rattle.sd_course.specs.Course.{course}
 use Rattle.walk_rest.specs.declared.options.Options.{Options}
 use Rattle.walk_rest.specs.Listing.{first_options, manner_of}

@@ -1,6 +1,6 @@
 use Rattle.std.proofs.Common.{map, ◌≤◌}
 use Rattle.std.specs.Prelude.{All, IsTrue}
-use Rattle.sd_edge.specs.Disk.{SameLists, SameTree}
+use Rattle.sd_io.specs.Disk.{SameLists, SameTree}
 use Rattle.walkdir.specs.Collect.{entry_item}
 use Rattle.chosen_files.specs.Chosen.{IsPathBelow}
 use Rattle.chosen_files.specs.Picks.{Picks}

@@ -1,8 +1,8 @@
 use Rattle.std.proofs.Common.{true, refl, sym, ◌∙◌, ap, subst}
 use Rattle.std.specs.Prelude.{codes}
 use Rattle.std.proofs.lemmas.Bool.{false≢true}
-use Rattle.sd_edge.specs.Paths.{reached}
-use Rattle.sd_edge.specs.Tree.{Tree}
+use Rattle.sd_io.specs.Paths.{reached}
+use Rattle.sd_io.specs.Tree.{Tree}
 use Rattle.chosen_files.specs.Below.{HasFewerBelow, HasManyBelow}
 use Rattle.chosen_files.proofs.examples.CountLemmas.{fewer_than_six, five_or_more, to_d, to_none}
 use Rattle.chosen_files.proofs.laws.ChosenLemmas.{fewer_not_many}

@@ -1,7 +1,7 @@
 use Rattle.std.proofs.Common.{List, ap, sym, ◌∙◌, subst}
 use Rattle.std.specs.Prelude.{is_some}
 use Rattle.std.proofs.lemmas.Bool.{false≢true}
-use Rattle.sd_edge.specs.Tree.{is_directory_node}
+use Rattle.sd_io.specs.Tree.{is_directory_node}
 use Rattle.walk_rest.specs.Plan.{Item}
 use Rattle.chosen_files.specs.Picks.{Picks}
 use Rattle.chosen_files.proofs.laws.ReachedLemmas.{reached_no_link}

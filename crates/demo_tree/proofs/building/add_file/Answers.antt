@@ -1,7 +1,7 @@
 use Rattle.std.proofs.Common.{◌≡◌, ◌+◌, List, ℕ, ap, subst, ◌∙◌}
-use Rattle.sd_edge.specs.Tree.{file}
-use Rattle.sd_edge.specs.Paths.{parts_of}
-use Rattle.sd_edge.specs.MemDisk.{mem_state, Builds}
+use Rattle.sd_io.specs.Tree.{file}
+use Rattle.sd_io.specs.Paths.{parts_of}
+use Rattle.mem_io.specs.MemDisk.{mem_state, Builds}
 use Rattle.demo_tree.specs.Demo.{demo_file, demo_bytes, demo_mode, IsDemo}
 use Rattle.demo_tree.proofs.building.BuildLemmas.{Puts, file_can_stand, file_added, built_puts, told_of_built, tree_stands}
 use Rattle.demo_tree.proofs.building.NameLemmas.{file_parts}

@@ -1,7 +1,7 @@
 use Rattle.std.proofs.Common.{◌≡◌, ap, ◌∙◌, arith}
-use Rattle.sd_edge.specs.Tree.{directory}
-use Rattle.sd_edge.specs.Paths.{parts_of}
-use Rattle.sd_edge.specs.MemDisk.{mem_state, Builds}
+use Rattle.sd_io.specs.Tree.{directory}
+use Rattle.sd_io.specs.Paths.{parts_of}
+use Rattle.mem_io.specs.MemDisk.{mem_state, Builds}
 use Rattle.demo_tree.specs.Demo.{demo_folder}
 use Rattle.demo_tree.specs.Building.{HasNextFolder}
 use Rattle.demo_tree.proofs.building.BuildLemmas.{folder_can_stand, folder_stands, folder_added, built_puts, told_of_built}

@@ -1,6 +1,6 @@
 use Rattle.std.specs.Prelude.{codes}
-use Rattle.sd_edge.specs.Tree.{directory}
-use Rattle.sd_edge.specs.MemDisk.{mem_state, Builds}
+use Rattle.sd_io.specs.Tree.{directory}
+use Rattle.mem_io.specs.MemDisk.{mem_state, Builds}
 use Rattle.demo_tree.specs.Demo.{demo_place}
 use Rattle.demo_tree.proofs.building.NameLemmas.{demo_parts}
 use Rattle.demo_tree.proofs.building.BuildLemmas.{demo_can_stand, demo_first, built_puts, built_where_told, tree_stands, counts_kept}

@@ -1,4 +1,4 @@
-use Rattle.sd_edge.specs.MemDisk.{mem_state, IsUncalled}
+use Rattle.mem_io.specs.MemDisk.{mem_state, IsUncalled}
 use Rattle.demo_tree.specs.Demo.{IsDemo}
 use Rattle.demo_tree.proofs.building.demo_disk.Given as goal
 

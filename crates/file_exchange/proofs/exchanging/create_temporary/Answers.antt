@@ -1,5 +1,5 @@
 use Rattle.std.proofs.Common.{◌≡◌, ◌≢◌, rules, subst, sym, arith, ◌+◌}
-use Rattle.sd_edge.specs.declared.fault.DiskFault.TheVariants as disk
+use Rattle.sd_io.specs.declared.fault.DiskFault.TheVariants as disk
 use Rattle.file_exchange.specs.Reserved.{IsReservedPath}
 use Rattle.file_exchange.proofs.exchanging.CauseLemmas.{same_error, step_cause}
 use Rattle.file_exchange.proofs.exchanging.CreatingLemmas.{created, none_absent, one_more, none_free}

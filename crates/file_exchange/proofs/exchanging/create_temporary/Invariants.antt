@@ -1,4 +1,4 @@
-use Rattle.sd_edge.specs.Paths.{parts_of}
+use Rattle.sd_io.specs.Paths.{parts_of}
 use Rattle.file_exchange.proofs.exchanging.CreatingLemmas.{IsTried}
 use Rattle.file_exchange.proofs.exchanging.create_temporary.Given as goal
 

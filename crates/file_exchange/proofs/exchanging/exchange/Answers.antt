@@ -1,8 +1,8 @@
 use Rattle.std.proofs.Common.{rules, ◌≡◌, ◌≢◌, ◌∙◌, inl, inr, sym, ap, Err, arith}
-use Rattle.sd_edge.specs.Paths.{parts_of}
-use Rattle.sd_edge.specs.Disk.{SameTree}
-use Rattle.sd_edge.specs.declared.fault.DiskFault.{DiskFault}
-use Rattle.sd_edge.specs.declared.fault.DiskFault.TheVariants as disk
+use Rattle.sd_io.specs.Paths.{parts_of}
+use Rattle.sd_io.specs.Disk.{SameTree}
+use Rattle.sd_io.specs.declared.fault.DiskFault.{DiskFault}
+use Rattle.sd_io.specs.declared.fault.DiskFault.TheVariants as disk
 use Rattle.file_exchange.specs.declared.fault.ExchangeFault.{ExchangeFault}
 use Rattle.file_exchange.specs.declared.fault.ExchangeFault.TheVariants as exchange_fault
 use Rattle.file_exchange.proofs.exchanging.CauseLemmas.{on_ok, at_err, if_err, before_move, failed_before, failed_risen, risen_since, later_cause, no_cause}

@@ -1,6 +1,6 @@
 use Rattle.std.proofs.Common.{refl, inl, arith}
-use Rattle.sd_edge.specs.declared.fault.DiskFault.TheVariants as disk
-use Rattle.sd_edge.proofs.WayLemmas.{same_ways, writes_ways}
+use Rattle.sd_io.specs.declared.fault.DiskFault.TheVariants as disk
+use Rattle.sd_io.proofs.WayLemmas.{same_ways, writes_ways}
 use Rattle.file_exchange.proofs.exchanging.PlaceLemmas.{leads_to_file}
 use Rattle.file_exchange.proofs.exchanging.CauseLemmas.{at_err, at_ok, passed_as, before_move, move_ok, move_err, move_disk, move_move, move_named, step_cause, no_cause}
 use Rattle.file_exchange.proofs.exchanging.FillingLemmas.{at_source, can_rename, then_ways, wrote_after, wrote_ways, renamed, renamed_ways, filled, synced, write_refused, sync_refused, rename_leaves, moved, may_have_moved}

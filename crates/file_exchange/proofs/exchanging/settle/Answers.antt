@@ -1,5 +1,5 @@
 use Rattle.std.proofs.Common.{refl, arith}
-use Rattle.sd_edge.specs.declared.fault.DiskFault.TheVariants as disk
+use Rattle.sd_io.specs.declared.fault.DiskFault.TheVariants as disk
 use Rattle.file_exchange.proofs.exchanging.PlaceLemmas.{folder_leads}
 use Rattle.file_exchange.proofs.exchanging.CauseLemmas.{at_ok, move_ok, move_err, move_disk, move_move, move_named, step_cause}
 use Rattle.file_exchange.proofs.exchanging.settle.Goals as goal

@@ -1,5 +1,5 @@
 use Rattle.std.proofs.Common.{false, true, refl, inl, arith}
-use Rattle.sd_edge.proofs.CrashLemmas.{since_same}
+use Rattle.sd_io.proofs.CrashLemmas.{since_same}
 use Rattle.sd_change.specs.Change.{FileChange}
 use Rattle.file_exchange.proofs.CauseLemmas.{if_err}
 use Rattle.file_rewrite.specs.declared.fault.JobFault.TheVariants as job

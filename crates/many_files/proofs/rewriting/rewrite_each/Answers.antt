@@ -4,7 +4,7 @@ use Rattle.std.specs.Prelude.{All, Contains}
 use Rattle.std.proofs.lemmas.List.Elements.{All-get_or, All-nil}
 use Rattle.std.proofs.lemmas.Iterator.Adapters.{YieldsList-from_vec}
 use Rattle.std.proofs.lemmas.Iterator.Consumers.{YieldsList-turn, YieldsList-end}
-use Rattle.sd_edge.specs.Tree.{NameList}
+use Rattle.sd_io.specs.Tree.{NameList}
 use Rattle.file_rewrite.specs.Paths.{IsNoPath}
 use Rattle.many_files.specs.Files.{ListsFiles}
 use Rattle.many_files.specs.Jobs.{Job, failed_of, end_of}

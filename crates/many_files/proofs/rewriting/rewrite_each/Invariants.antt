@@ -1,7 +1,7 @@
 use Rattle.std.proofs.Common.{◌≤◌, ◌*◌, ◌^◌, List, length}
 use Rattle.std.specs.Prelude.{All, Contains, IsTrue, vec_len, vec_capacity}
-use Rattle.sd_edge.specs.Tree.{NameList}
-use Rattle.sd_edge.specs.Disk.{SameLists}
+use Rattle.sd_io.specs.Tree.{NameList}
+use Rattle.sd_io.specs.Disk.{SameLists}
 use Rattle.many_files.specs.Files.{ListsFiles}
 use Rattle.many_files.proofs.rewriting.JobLemmas.{HaveCausesSoFar}
 use Rattle.many_files.proofs.rewriting.SweptLemmas.{IsSweptTo}

@@ -1,5 +1,5 @@
 use Rattle.std.proofs.Common.{◌≤◌}
-use Rattle.sd_edge.specs.Disk.{SameLists}
+use Rattle.sd_io.specs.Disk.{SameLists}
 use Rattle.named_files.specs.Preview.{have_headers}
 use Rattle.named_files.proofs.preview.PreviewLemmas.{IsShownSoFar}
 use Rattle.named_files.proofs.preview.preview_named.Given as goal

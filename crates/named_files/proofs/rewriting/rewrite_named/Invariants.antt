@@ -1,6 +1,6 @@
 use Rattle.std.proofs.Common.{◌≤◌, length}
 use Rattle.std.specs.Prelude.{IsTrue, vec_len, vec_capacity}
-use Rattle.sd_edge.specs.Disk.{SameLists}
+use Rattle.sd_io.specs.Disk.{SameLists}
 use Rattle.named_files.proofs.rewriting.CauseLemmas.{HaveCausesSoFar}
 use Rattle.named_files.proofs.rewriting.CrowdLemmas.{AreCrowded}
 use Rattle.named_files.proofs.rewriting.ChainLemmas.{IsNamedSoFar}

@@ -1,5 +1,5 @@
 use Rattle.std.proofs.Common.{refl, sym, subst}
-use Rattle.sd_edge.specs.Disk.{DiskState}
+use Rattle.sd_io.specs.Disk.{DiskState}
 use Rattle.demo_tree.specs.Demo.{IsDemo}
 use Rattle.demo_tree.specs.FaultlessDisk.{faultless_state}
 use Rattle.sd_core.proofs.demo.DemoEndLemmas.{reports_demo, is_clear, refused_for_memory, refused_so}

@@ -3,10 +3,10 @@ use Rattle.std.specs.Prelude.{codes, is_none, map}
 use Rattle.std.proofs.lemmas.Bool.{false≢true}
 use Rattle.std.proofs.lemmas.List.Elements.{All-from_recursion}
 use Rattle.std.proofs.lemmas.List.Sums.{sum_by-cons}
-use Rattle.sd_edge.specs.Files.{file_of}
-use Rattle.sd_edge.specs.Paths.{reached}
-use Rattle.sd_edge.specs.Tree.{Tree, node_at}
-use Rattle.sd_edge.specs.declared.fault.DiskFault.TheVariants as disk
+use Rattle.sd_io.specs.Files.{file_of}
+use Rattle.sd_io.specs.Paths.{reached}
+use Rattle.sd_io.specs.Tree.{Tree, node_at}
+use Rattle.sd_io.specs.declared.fault.DiskFault.TheVariants as disk
 use Rattle.sd_course.specs.Course.{course, HasRisenBy}
 use Rattle.file_rewrite.specs.declared.fault.JobFault.TheVariants as job
 use Rattle.file_rewrite.specs.Examples.{OneToDigit, a_place}

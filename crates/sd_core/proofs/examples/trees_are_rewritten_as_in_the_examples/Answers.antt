@@ -2,8 +2,8 @@ use Rattle.std.proofs.Common.{◌≡◌, ◌≢◌, [], ◌∷◌, true, refl, s
 use Rattle.std.specs.Prelude.{codes}
 use Rattle.std.specs.List.Sorted.{IsStrictlySortedBy}
 use Rattle.std.proofs.lemmas.Option.{some_pair_parts}
-use Rattle.sd_edge.specs.Paths.{reached}
-use Rattle.sd_edge.specs.Tree.{NameList, Tree, file_at, name_list_cmp}
+use Rattle.sd_io.specs.Paths.{reached}
+use Rattle.sd_io.specs.Tree.{NameList, Tree, file_at, name_list_cmp}
 use Rattle.file_rewrite.specs.Examples.{a_place}
 use Rattle.chosen_files.specs.Chosen.{IsChosen}
 use Rattle.sd_core.specs.Examples.{txt}

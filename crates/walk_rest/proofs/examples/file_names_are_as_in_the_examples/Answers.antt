@@ -1,5 +1,5 @@
 use Rattle.std.proofs.Common.{refl}
-use Rattle.sd_edge.specs.Paths.{parts_of}
+use Rattle.sd_io.specs.Paths.{parts_of}
 use Rattle.walk_rest.proofs.examples.file_names_are_as_in_the_examples.Goals as goal
 
 pub returns : goal.returns

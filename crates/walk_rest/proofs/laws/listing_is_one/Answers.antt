@@ -1,5 +1,5 @@
 use Rattle.std.proofs.Common.{◌≡◌, ◌∙◌, ap, sym, [], ◌∷◌, List, ℕ}
-use Rattle.sd_edge.specs.Tree.{Tree}
+use Rattle.sd_io.specs.Tree.{Tree}
 use Rattle.walk_rest.specs.Plan.{Plan, items_in, Manner}
 use Rattle.walk_rest.specs.Listing.{Beginning, ends, begins, beginning, manner_of, IsBegun}
 use Rattle.walk_rest.proofs.laws.PlanLemmas.{plan_same}

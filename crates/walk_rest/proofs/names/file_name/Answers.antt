@@ -2,8 +2,8 @@ use Rattle.std.proofs.Common.{◌≡◌, ◌∙◌, sym, ap, List, ℕ, true, fa
 use Rattle.std.specs.Prelude.{option_map}
 use Rattle.std.specs.Option.{option_map_or}
 use Rattle.std.specs.List.{last_or}
-use Rattle.sd_edge.specs.Tree.{Name}
-use Rattle.sd_edge.specs.Paths.{parts_of, is_up}
+use Rattle.sd_io.specs.Tree.{Name}
+use Rattle.sd_io.specs.Paths.{parts_of, is_up}
 use Rattle.walk_rest.proofs.names.LastLemmas.{name_is}
 use Rattle.walk_rest.specs.Names.{file_name}
 use Rattle.walk_rest.proofs.names.file_name.Goals as goal

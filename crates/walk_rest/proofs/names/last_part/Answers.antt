@@ -6,7 +6,7 @@ use Rattle.std.proofs.lemmas.Iterator.Consumers.{YieldsList-at, YieldsList-from_
 use Rattle.std.proofs.lemmas.Iterator.Splits.{YieldsList-from_str_split}
 use Rattle.std.specs.List.{last_or}
 use Rattle.std.specs.Prelude.{option_map}
-use Rattle.sd_edge.specs.Paths.{parts_of, is_dropped}
+use Rattle.sd_io.specs.Paths.{parts_of, is_dropped}
 use Rattle.walk_rest.proofs.names.LastLemmas.{last_map, last_behind}
 use Rattle.walk_rest.proofs.names.last_part.Goals as goal
 

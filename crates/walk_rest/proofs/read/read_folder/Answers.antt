@@ -1,7 +1,7 @@
 use Rattle.std.proofs.Common.{refl, sym, ◌∙◌, ap, reverse}
 use Rattle.std.specs.Prelude.{IsTrue, IsSome}
-use Rattle.sd_edge.specs.Count.{HasRisen}
-use Rattle.sd_edge.specs.Lists.{directory_of}
+use Rattle.sd_io.specs.Count.{HasRisen}
+use Rattle.sd_io.specs.Lists.{directory_of}
 use Rattle.walk_rest.proofs.read.ReadLemmas.{added_none, added_one}
 use Rattle.walk_rest.specs.Read.{manner_by}
 use Rattle.walk_rest.proofs.read.FolderLemmas.{read_too_deep, read_whole, read_not_opened, is_there, same_leaves, refused_risen}

@@ -1,8 +1,8 @@
 use Rattle.std.proofs.Common.{◌≡◌, ◌≤◌, ◌+◌, ◌*◌, vec_len}
 use Rattle.std.specs.Prelude.{IsTrue, All}
 use Rattle.walk_rest.specs.declared.entry.DirEntry.{DirEntry}
-use Rattle.sd_edge.specs.Disk.{SameTree}
-use Rattle.sd_edge.specs.Lists.{IsOpen, SameOtherLists, SameOpen}
+use Rattle.sd_io.specs.Disk.{SameTree}
+use Rattle.sd_io.specs.Lists.{IsOpen, SameOtherLists, SameOpen}
 use Rattle.walk_rest.specs.Level.{AddsFaults, TakesEntries, TakesWithFaults, listable, unended}
 use Rattle.walk_rest.proofs.read.ReadLemmas.{weight_open, entries_left}
 use Rattle.walk_rest.proofs.read.read_list.Given as goal

@@ -1,5 +1,5 @@
 use Rattle.std.proofs.Common.{◌≡◌, None, length}
-use Rattle.sd_edge.specs.Disk.{SameTree}
+use Rattle.sd_io.specs.Disk.{SameTree}
 use Rattle.walk_steps.specs.Inside.{SameWalk, levels_of}
 use Rattle.walk_steps.specs.Sound.{AreSound, SameOthers, StaysWithin}
 use Rattle.walk_steps.proofs.leave.give_up.Given as goal

@@ -1,5 +1,5 @@
 use Rattle.std.proofs.Common.{◌≡◌, ◌+◌, ◌≤◌, ℕ, true, false}
-use Rattle.sd_edge.specs.Count.{HasRisen}
+use Rattle.sd_io.specs.Count.{HasRisen}
 use Rattle.std.specs.Prelude.{IsTrue}
 use Rattle.std.specs.declared.cmp.Ordering.{Ordering}
 use Rattle.walk_rest.specs.declared.entry.DirEntry.{DirEntry}

@@ -1,7 +1,7 @@
 use Rattle.std.proofs.Common.{ℕ, inl, inr, sym, subst, ◌∙◌, ap, arith}
 use Rattle.std.specs.Prelude.{IsSome, OnOk}
-use Rattle.sd_edge.specs.Tree.{Tree}
-use Rattle.sd_edge.specs.Lists.{directory_of}
+use Rattle.sd_io.specs.Tree.{Tree}
+use Rattle.sd_io.specs.Lists.{directory_of}
 use Rattle.walk_steps.specs.Inside.{HasRest, levels_of, with_top}
 use Rattle.walk_steps.specs.Steps.{MovesTo}
 use Rattle.walk_steps.specs.Sound.{open_limit}

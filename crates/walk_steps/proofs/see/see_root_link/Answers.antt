@@ -1,5 +1,5 @@
 use Rattle.std.proofs.Common.{true, Some, sym, ◌∙◌, ap}
-use Rattle.sd_edge.specs.Files.{Describes}
+use Rattle.sd_io.specs.Files.{Describes}
 use Rattle.walk_rest.specs.Plan.{seen_root_link}
 use Rattle.walk_steps.proofs.see.SightLemmas.{node_led, directory_content, root_directory, root_needs_none}
 use Rattle.walk_steps.proofs.see.see_root_link.Goals as goal

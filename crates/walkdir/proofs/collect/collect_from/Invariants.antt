@@ -1,6 +1,6 @@
 use Rattle.std.specs.Prelude.{IsTrue}
 use Rattle.std.proofs.Common.{◌≡◌, ◌<◌, ◌≤◌}
-use Rattle.sd_edge.specs.Disk.{SameTree}
+use Rattle.sd_io.specs.Disk.{SameTree}
 use Rattle.walk_rest.specs.declared.error.Error.{Error}
 use Rattle.walk_rest.specs.Plan.{Comparison}
 use Rattle.walk_rest.specs.Rest.{Rest}

@@ -1,8 +1,8 @@
 use Rattle.std.proofs.Common.{◌∙◌, subst}
 use Rattle.std.specs.Prelude.{Option, IfNone}
-use Rattle.sd_edge.specs.declared.meta.RawEntry.{RawEntry}
-use Rattle.sd_edge.specs.Lists.{Ends}
-use Rattle.sd_edge.specs.MemDisk.{mem_state}
+use Rattle.sd_io.specs.declared.meta.RawEntry.{RawEntry}
+use Rattle.sd_io.specs.Lists.{Ends}
+use Rattle.mem_io.specs.MemDisk.{mem_state}
 use Rattle.demo_tree.proofs.faultless.FaultlessDiskDisk.next_entry.Goals as goal
 
 pub invariant_of-self-in-None : goal.invariant_of-self-in-None

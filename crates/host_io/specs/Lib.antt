@@ -1,0 +1,4 @@
+pub mod HostStreams
+pub mod HostDisk
+pub mod HostDiskState
+pub mod Told

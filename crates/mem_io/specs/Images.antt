@@ -1,0 +1,13 @@
+-- The image of a crash as a disk: what stands there is on the medium.
+use Rattle.std.specs.Prelude.{◌≡◌, Option, Some, None, List}
+use Rattle.sd_io.specs.Tree.{NameList, Node, Tree, node_at}
+use Rattle.sd_io.specs.Outcomes.{Outcome, Outcomes, never_used, built}
+
+-- what stands at a place alone, or absent alone
+abbrev pub alone_outcome : Option Node → List Outcome
+alone_outcome None = never_used
+alone_outcome (Some node) = built node
+
+-- each place has one outcome: what stands there, or absent
+abbrev pub StandsAlone : Outcomes → Tree → Type 0
+StandsAlone outcomes tree = (q : NameList) → outcomes q ≡ alone_outcome (node_at tree q)

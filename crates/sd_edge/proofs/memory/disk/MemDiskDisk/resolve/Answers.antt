@@ -1,7 +1,0 @@
-use Rattle.sd_edge.specs.MemDisk.{mem_state}
-use Rattle.sd_edge.proofs.memory.disk.DiskLemmas.{resolves}
-use Rattle.sd_edge.proofs.memory.disk.MemDiskDisk.resolve.Goals as goal
-
-pub returns-in_ok-path-in-Some-clause-answer : goal.returns-in_ok-path-in-Some-clause-answer
-returns-in_ok-path-in-Some-clause-answer c =
-    resolves (mem_state c.args.self.now) c.args.self.now.medium.tree.sound.is_tree c.args.path.now _ c.in-Some.place _ c.in_ok-reached.ensures c.in-Some.is c.in_ok-path-in-Some.ensures

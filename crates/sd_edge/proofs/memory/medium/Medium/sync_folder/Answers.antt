@@ -1,9 +1,0 @@
-use Rattle.sd_edge.specs.MemTreeView.{mem_tree}
-use Rattle.sd_edge.proofs.memory.log.ChangeLemmas.{folder_sync_keeps}
-use Rattle.sd_edge.proofs.memory.medium.MediumLemmas.{kept_after}
-use Rattle.sd_edge.proofs.memory.medium.Medium.sync_folder.Goals as goal
-
-pub invariant_of-self-2 : goal.invariant_of-self-2
-invariant_of-self-2 c =
-    let self = c.args.self.now in
-    record { kept = kept_after _ _ _ _ _ c.reserve.ensures.kept c.note.ensures (folder_sync_keeps (mem_tree self.tree) c.args.folder _ self.kept) }

@@ -1,7 +1,0 @@
-use Rattle.std.proofs.Common.{◌≡◌, ◌++◌, map, take, drop}
-use Rattle.sd_edge.specs.Outcomes.{older}
-use Rattle.sd_edge.proofs.memory.outcome.OutcomeList.leave_behind.Given as goal
-
--- the outcomes so far are changed, and the others are as before
-abbrev pub invariant-loop-outcome : goal.invariant-loop-outcome
-invariant-loop-outcome l = l.outcome-items ≡ map (λ o. older o.left) (take l.outcome-index l.initial.outcome-items) ++ drop l.outcome-index l.initial.outcome-items

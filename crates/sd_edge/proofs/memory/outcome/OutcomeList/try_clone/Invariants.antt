@@ -1,6 +1,0 @@
-use Rattle.std.proofs.Common.{◌≡◌, take}
-use Rattle.sd_edge.proofs.memory.outcome.OutcomeList.try_clone.Given as goal
-
--- the copy has the outcomes so far
-abbrev pub invariant-loop-outcome : goal.invariant-loop-outcome
-invariant-loop-outcome l = l.outcomes.items ≡ take l.outcome-index l.outcome-items

@@ -1,8 +1,0 @@
-use Rattle.std.proofs.Common.{◌≡◌, take}
-use Rattle.sd_edge.specs.Log.{outcomes_after}
-use Rattle.sd_edge.specs.OutcomeTable.{outcomes_of}
-use Rattle.sd_edge.proofs.memory.outcome_table.OutcomeTable.after.Given as goal
-
--- the outcomes after the changes so far
-abbrev pub invariant-loop-change : goal.invariant-loop-change
-invariant-loop-change l = outcomes_of l.table ≡ outcomes_after (take l.change-index l.change-items)

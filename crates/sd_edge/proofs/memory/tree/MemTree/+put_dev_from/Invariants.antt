@@ -1,7 +1,0 @@
-use Rattle.sd_edge.specs.MemNode.{now_of}
-use Rattle.sd_edge.proofs.memory.trail.TrailLemmas.{left_of}
-use Rattle.sd_edge.proofs.memory.tree.MemTree.+put_dev_from.Given as goal
-
--- the bytes that are left, and one
-abbrev pub decreases-put_dev_from : goal.decreases-put_dev_from
-decreases-put_dev_from l = left_of (now_of l.rest)

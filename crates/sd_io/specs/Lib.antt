@@ -1,0 +1,14 @@
+pub mod Tree
+pub mod Paths
+pub mod Count
+pub mod Outcomes
+pub mod Disk
+pub mod Files
+pub mod Lists
+pub mod Crashes
+pub mod Streams
+pub mod Calls
+pub mod Examples
+pub mod OutcomeExamples
+pub use Rattle.sd_base.specs.Steps
+pub use Rattle.sd_base.specs.StepsView
