@@ -2,3 +2,4 @@ pub mod HostStreams
 pub mod HostDisk
 pub mod HostDiskState
 pub mod Told
+pub mod KnownFolders

@@ -4,6 +4,7 @@
 mod disk;
 mod faults;
 mod folders;
+mod known_folders;
 mod list;
 mod new_file;
 mod stream;
