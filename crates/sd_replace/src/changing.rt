@@ -150,7 +150,7 @@ impl Replacer {
         made.finish(content)
     }
 
-    /// Puts the text of each match in its place, from match to match.
+    /// Puts the text of each match within the limit in its place, from match to match. The search found the first one last.
     fn replace_all(
         &self,
         content: &[u8],

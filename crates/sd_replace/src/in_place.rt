@@ -1,6 +1,6 @@
 //! Changes in the room of the old bytes.
 
-ghost use Rattle.std.specs.Prelude.{◌≡◌, ◌≢◌, ◌<◌, ◌≤◌, ◌+◌, ◌-◌, ◌^◌, ◌++◌, [], ℕ, List, None, Some, true, false, IfOk, OnOk, length, drop, slice_range, take};
+ghost use Rattle.std.specs.Prelude.{◌≡◌, ◌≢◌, ◌<◌, ◌≤◌, ◌+◌, ◌^◌, ◌++◌, ℕ, List, true, false, IfOk, OnOk, length, drop, slice_range, take};
 ghost use Rattle.grep_matcher.specs.References.{LieIn, group_text};
 ghost use Rattle.hir_tree.specs.Onward.{looks_nowhere};
 ghost use Rattle.hir_tree.specs.Tree.{tree_of};
@@ -67,7 +67,7 @@ impl Replacer {
         room.finish()
     }
 
-    /// Puts a text in the place of each match, from match to match.
+    /// Puts a text in the place of each match, from match to match. The search found the first one last.
     fn rewrite_all(
         &self,
         search: &mut Search<'_>,
