@@ -100,8 +100,41 @@ impl Replacer {
         ensures refused { IfErr result (IsReplacerRefused (asked find.now replace_with.now is_literal (Some letters.now) replacements counted)) }
     {
         let substitute = substitute_of(alloc, replace_with, is_literal)?;
-        let matcher = matcher_for(alloc, counted, is_literal, letters, find)?;
-        Replacer::of_parts(alloc, matcher, substitute, replacements, counted)
+        Replacer::of_find(
+            alloc,
+            find,
+            is_literal,
+            letters,
+            substitute,
+            replacements,
+            counted,
+        )
+    }
+
+    /// A replacer of a text to find, and of what takes the place of each match. It is refused where no matcher is built. Want of
+    /// memory may come at any time.
+    fn of_find(
+        alloc: Global,
+        find: &str,
+        is_literal: bool,
+        letters: &str,
+        substitute: Substitute,
+        replacements: u64,
+        counted: Counted,
+    ) -> Result<Replacer, ReplacerFault>
+        ensures built { IfOk result (λ replacer. IsBuilt (options_for counted is_literal letters.now) (find.now ∷ []) (tree_of replacer.matcher.searcher)) }
+        ensures substitute { IfOk result (λ replacer. replacer.substitute ≡ substitute) }
+        ensures limit { IfOk result (λ replacer. replacer.limit ≡ replacements) }
+        ensures counted { IfOk result (λ replacer. replacer.counted ≡ counted) }
+        ensures refused { IfErr result (IsFindRefused (options_for counted is_literal letters.now) find.now) }
+    {
+        match matcher_for(alloc, counted, is_literal, letters, find) {
+            Ok(matcher) => { Replacer::of_parts(alloc, matcher, substitute, replacements, counted) }
+            Err(fault) => {
+                drop(substitute);
+                Err(fault)
+            }
+        }
     }
 }
 

@@ -111,8 +111,32 @@ fn groups_at(
     ensures lie { IfOk result (λ groups. LieIn groups content.now) }
 {
     let mut groups = matcher.new_captures()?;
-    matcher.captures_at(content, found.start(), &mut groups)?;
-    Ok(groups)
+    match fill(matcher, content, found, &mut groups) {
+        Ok(()) => Ok(groups),
+        Err(NoMemory) => {
+            // A value that is let go by a call isn't taken apart here, which would be dear to check.
+            drop(groups);
+            Err(NoMemory)
+        }
+    }
+}
+
+/// Fills in the groups of a match.
+fn fill(
+    matcher: &RegexMatcher,
+    content: &[u8],
+    found: Match,
+    groups: &mut RegexCaptures,
+) -> Result<(), NoMemory>
+    requires found { end_at (tree_of matcher.now.searcher) content.now found.start ≡ Some found.end }
+    requires place { found.start ≤ length content.now }
+    requires room { length groups.old ≡ groups_of matcher.now.searcher + 1 }
+    ensures room { length groups.new ≡ groups_of matcher.now.searcher + 1 }
+    ensures groups { OnOk result (groups.new ≡ spans_at (tree_of matcher.now.searcher) content.now found.start) }
+    ensures lie { OnOk result (LieIn groups.new content.now) }
+{
+    matcher.captures_at(content, found.start(), groups)?;
+    Ok(())
 }
 
 /// The first match from a place on, with its groups where they are asked for. There is none past the end.

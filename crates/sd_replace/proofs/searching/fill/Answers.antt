@@ -1,6 +1,6 @@
 use Rattle.hir_tree.specs.Tree.{tree_of}
 use Rattle.sd_replace.proofs.searching.GroupsLemmas.{here}
-use Rattle.sd_replace.proofs.searching.groups_at.Goals as goal
+use Rattle.sd_replace.proofs.searching.fill.Goals as goal
 
 pub returns-clause-groups : goal.returns-clause-groups
 returns-clause-groups c =
