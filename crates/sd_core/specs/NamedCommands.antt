@@ -6,9 +6,12 @@ use Rattle.sd_io.specs.declared.fault.DiskFault.TheVariants as disk
 use Rattle.sd_change.specs.Change.{Change}
 use Rattle.sd_course.specs.Course.{Course, DiskFailed, SinkFailed}
 use Rattle.file_rewrite.specs.Paths.{IsNoPath}
+use Rattle.many_files.specs.Clear.{AreFilesClear}
+use Rattle.many_files.specs.InTurn as in_turn
+use Rattle.many_files.specs.InTurn.{DoesFiles}
+use Rattle.many_files.specs.declared.report.Report.{Report}
 use Rattle.many_files.specs.declared.fault.FilesFault.TheVariants as files
-use Rattle.named_files.specs.Clear.{AreFilesClear, IsFirstUnshown, IsPreviewClear}
-use Rattle.named_files.specs.Named.{DoesFiles, NamedFail}
+use Rattle.named_files.specs.Clear.{IsFirstUnshown, IsPreviewClear}
 use Rattle.named_files.specs.Preview.{DoesPreview, PreviewFails}
 use Rattle.named_files.specs.declared.fault.PreviewFault.TheVariants as preview
 use Rattle.sd_core.specs.TreeCommand.{IsDoneOrForMemory}
@@ -21,8 +24,8 @@ use Rattle.sd_core.specs.declared.ended.Why.TheVariants as why
 
 -- What a refused command on named files leaves, and why it is refused.
 abbrev pub FilesFail : Change → List (List ℕ) → Course DiskState → Error → Type 0
-FilesFail change paths d (error.FailedProcessing jobs) = NamedFail change paths d (files.Failed jobs)
-FilesFail change paths d error.NoMemory = NamedFail change paths d files.NoMemory
+FilesFail change paths d (error.FailedProcessing jobs) = in_turn.FilesFail change paths d (files.Failed jobs)
+FilesFail change paths d error.NoMemory = in_turn.FilesFail change paths d files.NoMemory
 FilesFail change paths d (error.Regex refused) = ⊥
 FilesFail change paths d (error.File fault) = ⊥
 FilesFail change paths d (error.InvalidPath path) = ⊥
@@ -34,7 +37,7 @@ FilesFail change paths d error.TooMany = ⊥
 FilesFail change paths d error.InputTooLong = ⊥
 
 abbrev pub FilesEnd : Change → List (List ℕ) → Course DiskState → Why → Type 0
-FilesEnd change paths d why.Done = DoesFiles change paths d
+FilesEnd change paths d why.Done = (report : Report) × DoesFiles change paths report d
 FilesEnd change paths d (why.Fault failed) = FilesFail change paths d failed
 FilesEnd change paths d why.Usage = ⊥
 FilesEnd change paths d why.Print = ⊥
