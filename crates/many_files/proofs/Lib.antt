@@ -7,3 +7,4 @@ pub use Rattle.many_files.proofs.rewriting.JobLemmas
 pub use Rattle.many_files.proofs.rewriting.CutLemmas
 pub use Rattle.many_files.proofs.rewriting.KeepLemmas
 pub use Rattle.many_files.proofs.rewriting.ListedLemmas
+pub use Rattle.many_files.proofs.rewriting.MemoryLemmas

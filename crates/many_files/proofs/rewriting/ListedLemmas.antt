@@ -4,17 +4,22 @@ use Rattle.std.specs.Prelude.{Option, Some, None, IsSome, is_some, IsTrue, Conta
 use Rattle.std.specs.List.{list_all}
 use Rattle.std.specs.Option.{option_and_then}
 use Rattle.std.specs.Str.{bytes_eq}
-use Rattle.std.proofs.lemmas.List.Elements.{All-nil, All-cons, Contains-append_right}
+use Rattle.std.proofs.lemmas.List.Elements.{All-nil, All-cons, All-weaker, All-contains, All-contains_itself, Contains-append_right}
 use Rattle.std.proofs.lemmas.Option.{same_Some}
 use Rattle.sd_io.specs.Count.{HasRisen}
 use Rattle.sd_io.specs.Tree.{NameList, Content, directory, link, file, other, Node, Tree, IsTree, node_at, file_at, file_node, file_content, is_directory_node, IsNonemptyFile}
 use Rattle.sd_io.specs.Paths.{parts_of, followed, links_most, reached}
 use Rattle.sd_io.specs.Disk.{DiskState}
-use Rattle.sd_course.specs.Course.{course}
+use Rattle.sd_change.specs.Change.{Change}
+use Rattle.sd_course.specs.Course.{Course, course}
 use Rattle.file_rewrite.specs.Paths.{IsNoPath}
 use Rattle.many_files.specs.Files.{ListsFiles, HasRoom}
 use Rattle.many_files.specs.Clear.{LeadsToFile, HasRoomBy, AreFilesClear}
+use Rattle.many_files.specs.Jobs.{Job, end_of, HasJobCause, NamesFile}
+use Rattle.many_files.specs.InTurn.{FailsSome}
+use Rattle.file_rewrite.specs.declared.fault.JobFault.TheVariants as job
 use Rattle.many_files.proofs.rewriting.FileLemmas.{a_file}
+use Rattle.many_files.proofs.rewriting.MemoryLemmas.{IsOf, failed_paths}
 
 -- nothing but `/` has no parts
 both : (a b : Bool) → a && b ≡ true → (a ≡ true) × (b ≡ true)
@@ -90,3 +95,21 @@ listed_clear tells s0 s paths places is listed room none = record {
   room = λ told. listed_room s0.tree is paths places listed room;
   no_fault = none;
 }
+
+-- ---- jobs of paths that name a file
+
+-- the jobs are of these paths
+pub by_paths : (change : Change) (paths : List (List ℕ)) (d : Course DiskState) (jobs : List Job) → FailsSome change paths d jobs → All (IsOf paths) jobs
+by_paths change paths d jobs f = subst (All (IsOf paths)) (sym f.jobs_are) (failed_paths paths (map end_of f.results))
+
+module _ (paths : List (List ℕ)) (named : All (λ path. IsNoPath path → ⊥) paths) (d : Course DiskState) where
+  names_file : (failed : Job) → HasJobCause d failed → Contains paths failed.0 → NamesFile failed
+  names_file (path, job.File fault) cause c = tt
+  names_file (path, job.TempfilePersist fault) cause c = tt
+  names_file (path, job.InvalidPath) cause c = All-contains (λ p. IsNoPath p → ⊥) paths path named c cause
+  names_file (path, job.TempName) cause c = tt
+  names_file (path, job.NoMemory) cause c = tt
+
+  pub jobs_name_files : (jobs : List Job) → All (HasJobCause d) jobs → All (IsOf paths) jobs → All NamesFile jobs
+  jobs_name_files jobs causes of =
+      All-weaker (Contains jobs) NamesFile (λ failed c. names_file failed (All-contains (HasJobCause d) jobs failed causes c) (All-contains (IsOf paths) jobs failed of c)) jobs (All-contains_itself jobs)
