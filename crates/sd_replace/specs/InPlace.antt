@@ -1,8 +1,9 @@
 -- Changes in the room of the old bytes.
-use Rattle.std.specs.Prelude.{◌≡◌, ◌≢◌, ◌⊎◌, ℕ, ◌+◌, Bool, true, false, ◌++◌, List, length, take, drop, slice_range}
+use Rattle.std.specs.Prelude.{◌≡◌, ◌≢◌, ◌≤◌, ◌⊎◌, ℕ, ◌+◌, Bool, true, false, ◌++◌, List, [], length, take, drop, slice_range}
 use Rattle.std.specs.Option.{option_map_or}
 use Rattle.sd_change.specs.declared.changed.Rewritten.{Rewritten}
 use Rattle.sd_change.specs.declared.changed.Rewritten.TheVariants.{Same, Other}
+use Rattle.sd_replace.specs.Replacement.{Changes, Replacement}
 use Rattle.sd_replace.specs.declared.in_place.Room.{Room}
 
 -- the bytes, where others stand in their place from a place on
@@ -20,6 +21,22 @@ pub record IsRoomOf (bytes : List ℕ) (room : Room) : Type 0 where
   pub size : length room.bytes.items ≡ length bytes
   pub same : room.differs ≡ false → room.bytes.items ≡ bytes
   pub other : room.differs ≡ true → (rest : List ℕ) → made_of room ++ rest ≢ bytes
+
+-- the room of these bytes, in which nothing is written yet
+pub record IsUntouched (bytes : List ℕ) (room : Room) : Type 0 where
+  pub of : IsRoomOf bytes room
+  pub made : made_of room ≡ []
+  pub written : room.written ≡ 0
+  pub read : room.read ≡ 0
+  pub count : room.count ≡ 0
+
+-- the same, where each match has given way: the new bytes, and then the old ones that are left, are those of the change
+pub record IsRewritten (replacement : Replacement) (bytes : List ℕ) (room : Room) : Type 0 where
+  pub of : IsRoomOf bytes room
+  pub order : room.written ≤ room.read
+  pub within : room.read ≤ length room.bytes.items
+  pub changes : Changes replacement bytes (made_of room ++ drop room.read room.bytes.items) room.count
+  pub few : room.count ≤ length bytes + 1
 
 -- whether what is written differs is told of a piece more that is written
 pub record TellsOf (room : Room) (piece : List ℕ) (differs : Bool) : Type 0 where

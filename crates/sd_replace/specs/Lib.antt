@@ -1,6 +1,7 @@
 pub mod Ambiguous
 pub mod Examples
 pub mod Faults
+pub mod FirstMatch
 pub mod Flags
 pub mod InPlace
 pub mod Making

@@ -1,20 +1,21 @@
 //! What a replacer does to bytes.
 
 ghost use Rattle.std.specs.Prelude.{◌≡◌, ◌<◌, ◌≤◌, ◌+◌, ◌^◌, ◌↔◌, ◌++◌, ◌∷◌, [], ℕ, List};
-ghost use Rattle.std.specs.Prelude.{IfOk, OnOk, IsTrue, Some, None, length, drop, slice_range};
-ghost use Rattle.grep_matcher.specs.Cover.{IsFirst, IsAfter, accepts};
+ghost use Rattle.std.specs.Prelude.{IfOk, IfSome, OnOk, IsTrue, Some, None, length, drop, slice_range};
+ghost use Rattle.grep_matcher.specs.Cover.{IsFirst, accepts};
 ghost use Rattle.grep_matcher.specs.References.{LieIn, group_text};
 ghost use Rattle.grep_matcher.specs.Span.{Span};
 ghost use Rattle.grep_regex.specs.Matching.{end_at};
 ghost use Rattle.hir_tree.specs.Tree.{tree_of};
 ghost use Rattle.sd_change.specs.Change.{AreFew, Tells};
+ghost use Rattle.sd_replace.specs.FirstMatch.{IsAtTheStart, StandsAtTheFirst};
 ghost use Rattle.sd_replace.specs.OneChange.{one_change};
 ghost use Rattle.sd_replace.specs.Quota.{Knows, Limits};
 ghost use Rattle.sd_replace.specs.Replacement.{Changes};
 ghost use Rattle.sd_replace.specs.Replacer.{replacement_of};
 ghost use Rattle.sd_replace.specs.Searching.{AreOfMatch, groups_or_none};
 ghost use Rattle.sd_replace.specs.Templates.{SufficeFor, pieces_text};
-ghost use Rattle.sd_replace.specs.Writing.{HasWritten};
+ghost use Rattle.sd_replace.specs.Writing.{HasWritten, IsNothing};
 
 use crate::Replacer;
 use crate::quota::Quota;
@@ -36,11 +37,26 @@ impl Replacer {
         ensures few { IfOk result (AreFew content.now) }
     {
         let mut search = Search::new(&self.matcher);
-        let Some(first) = search.next(content)? else {
+        let changed = self.change_by(&mut search, content);
+        // A value that is let go by a call isn't taken apart here, which would be dear to check.
+        drop(search);
+        changed
+    }
+
+    /// The same, by a search that is at its start.
+    fn change_by(
+        &self,
+        search: &mut Search<'_>,
+        content: &[u8],
+    ) -> Result<Option<Changed>, NoMemory>
+        requires start { IsAtTheStart self.now search.old }
+        ensures changed { IfOk result (Tells (Changes (replacement_of self.now)) content.now) }
+        ensures few { IfOk result (AreFew content.now) }
+    {
+        let Some(first) = self.find_first(search, content)? else {
             return Ok(None);
         };
-        self.ask_for_groups(&mut search, content, first)?;
-        let changed = self.replace_from(content, &mut search, first)?;
+        let changed = self.replace_from(content, search, first)?;
         Ok(Some(changed))
     }
 
@@ -79,8 +95,25 @@ impl Replacer {
         }
     }
 
+    /// The first match, with its groups where there are references to them. The search is at its start.
+    pub(crate) fn find_first(
+        &self,
+        search: &mut Search<'_>,
+        content: &[u8],
+    ) -> Result<Option<Match>, NoMemory>
+        requires start { IsAtTheStart self.now search.old }
+        ensures found { IfOk result (IsFirst (accepts None (end_at (tree_of self.now.matcher.searcher) content.now)) 0 (length content.now)) }
+        ensures stands { IfOk result (λ found. IfSome found (StandsAtTheFirst self.now content.now search.new)) }
+    {
+        let Some(first) = search.next(content)? else {
+            return Ok(None);
+        };
+        self.ask_for_groups(search, content, first)?;
+        Ok(Some(first))
+    }
+
     /// Asks a search for groups, if there are references to them.
-    pub(crate) fn ask_for_groups(
+    fn ask_for_groups(
         &self,
         search: &mut Search<'_>,
         content: &[u8],
@@ -108,25 +141,39 @@ impl Replacer {
         search: &mut Search<'_>,
         first: Match,
     ) -> Result<Changed, NoMemory>
-        requires pattern { search.old.matcher.now ≡ self.now.matcher }
-        requires first { IsFirst (accepts None (end_at (tree_of self.now.matcher.searcher) content.now)) 0 (length content.now) (Some first) }
-        requires after { IsAfter first search.old.from }
-        requires last { search.old.last ≡ Some first.end }
-        requires groups { AreOfMatch (tree_of self.now.matcher.searcher) content.now first.start search.old.groups }
-        requires asked { SufficeFor self.now.template.pieces.items search.old.groups }
+        requires stands { StandsAtTheFirst self.now content.now search.old first }
         ensures changed { IfOk result (λ changed. Changes (replacement_of self.now) content.now changed.new_bytes.items changed.count) }
         ensures few { IfOk result (λ changed. changed.count ≤ length content.now + 1) }
     {
         let mut made = Made::new(self.alloc, content)?;
+        self.replace_all(content, search, first, &mut made)?;
+        made.finish(content)
+    }
+
+    /// Puts the text of each match in its place, from match to match.
+    fn replace_all(
+        &self,
+        content: &[u8],
+        search: &mut Search<'_>,
+        first: Match,
+        made: &mut Made,
+    ) -> Result<(), NoMemory>
+        requires stands { StandsAtTheFirst self.now content.now search.old first }
+        requires nothing { IsNothing made.old }
+        ensures changed { OnOk result (Changes (replacement_of self.now) content.now
+            (made.new.new_bytes.items ++ drop made.new.copied content.now) made.new.count) }
+        ensures behind { OnOk result (made.new.copied ≤ length content.now) }
+        ensures few { OnOk result (made.new.count ≤ length content.now + 1) }
+    {
         let mut quota = Quota::new(content, self.counted, self.limit);
         let mut found = first;
         'matches: loop {
-            self.replace_one(content, &search.groups, found, &mut quota, &mut made)?;
+            self.replace_one(content, &search.groups, found, &mut quota, made)?;
             if quota.is_spent() {
-                return made.finish(content);
+                return Ok(());
             }
             match search.next(content)? {
-                None => return made.finish(content),
+                None => return Ok(()),
                 Some(next) => found = next,
             }
         }
@@ -177,9 +224,7 @@ pub(crate) struct Made {
 impl Made {
     /// No new bytes yet, and room for as many as the old ones. Refuses for want of memory alone.
     fn new(alloc: Global, content: &[u8]) -> Result<Made, NoMemory>
-        ensures bytes { IfOk result (λ made. made.new_bytes.items ≡ []) }
-        ensures copied { IfOk result (λ made. made.copied ≡ 0) }
-        ensures count { IfOk result (λ made. made.count ≡ 0) }
+        ensures { IfOk result IsNothing }
     {
         let new_bytes = Vec::with_capacity(alloc, content.len())?;
         Ok(Made {

@@ -1,17 +1,16 @@
 //! Changes in the room of the old bytes.
 
 ghost use Rattle.std.specs.Prelude.{◌≡◌, ◌≢◌, ◌<◌, ◌≤◌, ◌+◌, ◌-◌, ◌^◌, ◌++◌, [], ℕ, List, None, Some, true, false, IfOk, OnOk, length, drop, slice_range, take};
-ghost use Rattle.grep_matcher.specs.Cover.{IsAfter, IsFirst, accepts};
 ghost use Rattle.grep_matcher.specs.References.{LieIn, group_text};
-ghost use Rattle.grep_regex.specs.Matching.{end_at};
 ghost use Rattle.hir_tree.specs.Onward.{looks_nowhere};
 ghost use Rattle.hir_tree.specs.Tree.{tree_of};
 ghost use Rattle.sd_change.specs.Change.{AreFewIn, TellsRewritten};
-ghost use Rattle.sd_replace.specs.InPlace.{Became, HasPut, IsRoomOf, TellsOf, made_of, put_over};
+ghost use Rattle.sd_replace.specs.FirstMatch.{IsAtTheStart, StandsAtTheFirst};
+ghost use Rattle.sd_replace.specs.InPlace.{Became, HasPut, IsRewritten, IsRoomOf, IsUntouched, TellsOf, made_of, put_over};
 ghost use Rattle.sd_replace.specs.Replacement.{Changes};
 ghost use Rattle.sd_replace.specs.Replacer.{replacement_of};
-ghost use Rattle.sd_replace.specs.Searching.{AreOfMatch, groups_or_none};
-ghost use Rattle.sd_replace.specs.Templates.{SufficeFor, pieces_text};
+ghost use Rattle.sd_replace.specs.Searching.{groups_or_none};
+ghost use Rattle.sd_replace.specs.Templates.{pieces_text};
 
 use crate::Replacer;
 use crate::searching::Search;
@@ -29,16 +28,28 @@ impl Replacer {
         ensures rewritten { IfOk result (TellsRewritten (Changes (replacement_of self.now)) content.items) }
         ensures few { IfOk result (AreFewIn content.items) }
     {
-        let bytes = content.as_slice();
         let mut search = Search::new(&self.matcher);
-        let Some(first) = search.next(bytes)? else {
-            return Ok(Rewritten::Same(0));
-        };
-        self.ask_for_groups(&mut search, bytes, first)?;
-        self.rewrite_from(content, &mut search, first)
+        let rewritten = self.rewrite_by(&mut search, content);
+        // A value that is let go by a call isn't taken apart here, which would be dear to check.
+        drop(search);
+        rewritten
     }
 
-    /// Puts a text in the place of each match, from match to match. The search found the first one last.
+    /// The same, by a search that is at its start.
+    fn rewrite_by(&self, search: &mut Search<'_>, content: Vec<u8>) -> Result<Rewritten, NoMemory>
+        requires limit { self.now.limit ≡ 0 }
+        requires onward { looks_nowhere (tree_of self.now.matcher.searcher) ≡ true }
+        requires start { IsAtTheStart self.now search.old }
+        ensures rewritten { IfOk result (TellsRewritten (Changes (replacement_of self.now)) content.items) }
+        ensures few { IfOk result (AreFewIn content.items) }
+    {
+        let Some(first) = self.find_first(search, content.as_slice())? else {
+            return Ok(Rewritten::Same(0));
+        };
+        self.rewrite_from(content, search, first)
+    }
+
+    /// Puts a text in the place of each match, and keeps the bytes that are left. The search found the first match last.
     fn rewrite_from(
         &self,
         content: Vec<u8>,
@@ -47,24 +58,36 @@ impl Replacer {
     ) -> Result<Rewritten, NoMemory>
         requires limit { self.now.limit ≡ 0 }
         requires onward { looks_nowhere (tree_of self.now.matcher.searcher) ≡ true }
-        requires pattern { search.old.matcher.now ≡ self.now.matcher }
-        requires first { IsFirst (accepts None (end_at (tree_of self.now.matcher.searcher) content.items)) 0 (length content.items) (Some first) }
-        requires after { IsAfter first search.old.from }
-        requires last { search.old.last ≡ Some first.end }
-        requires groups { AreOfMatch (tree_of self.now.matcher.searcher) content.items first.start search.old.groups }
-        requires asked { SufficeFor self.now.template.pieces.items search.old.groups }
+        requires stands { StandsAtTheFirst self.now content.items search.old first }
         ensures rewritten { IfOk result (TellsRewritten (Changes (replacement_of self.now)) content.items) }
         ensures few { IfOk result (AreFewIn content.items) }
     {
+        let mut room = Room::new(content);
+        self.rewrite_all(search, first, &mut room)?;
+        room.finish()
+    }
+
+    /// Puts a text in the place of each match, from match to match.
+    fn rewrite_all(
+        &self,
+        search: &mut Search<'_>,
+        first: Match,
+        room: &mut Room,
+    ) -> Result<(), NoMemory>
+        requires limit { self.now.limit ≡ 0 }
+        requires onward { looks_nowhere (tree_of self.now.matcher.searcher) ≡ true }
+        requires stands { StandsAtTheFirst self.now room.old.bytes.items search.old first }
+        requires untouched { IsUntouched room.old.bytes.items room.old }
+        ensures { OnOk result (IsRewritten (replacement_of self.now) room.old.bytes.items room.new) }
+    {
         hir_tree::a_pattern_without_looks_matches_by_what_follows();
         hir_tree::groups_lie_ahead();
-        let mut room = Room::new(content);
         let mut text = Vec::new(self.alloc);
         let mut found = first;
         'matches: loop {
-            self.put_one(&search.groups, found, &mut room, &mut text)?;
+            self.put_one(&search.groups, found, room, &mut text)?;
             match search.next(&room.bytes)? {
-                None => return room.finish(),
+                None => return Ok(()),
                 Some(next) => found = next,
             }
         }
@@ -119,11 +142,8 @@ pub(crate) struct Room {
 impl Room {
     /// Old bytes alone.
     fn new(bytes: Vec<u8>) -> Room
-        ensures room { IsRoomOf bytes.items result }
-        ensures made { made_of result ≡ [] }
-        ensures written { result.written ≡ 0 }
-        ensures read { result.read ≡ 0 }
-        ensures count { result.count ≡ 0 }
+        ensures bytes { result.bytes.items ≡ bytes.items }
+        ensures untouched { IsUntouched bytes.items result }
     {
         Room {
             bytes,

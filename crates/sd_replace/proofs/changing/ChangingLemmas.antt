@@ -197,10 +197,11 @@ onward span next rises after = elim (cases_lt span.start span.end) [
 -- once the rest is copied
 pub finished : {E : Type 0} (replacement : Replacement) (bytes : List ℕ) (made : Made) (result : Result Changed E)
     → IfOk result (λ changed. changed.new_bytes.items ≡ made.new_bytes.items ++ drop made.copied bytes) → IfOk result (λ changed. changed.count ≡ made.count)
-    → ((new_bytes : List ℕ) (count : ℕ) → new_bytes ≡ made.new_bytes.items ++ drop made.copied bytes → count ≡ made.count → Changes replacement bytes new_bytes count)
+    → Changes replacement bytes (made.new_bytes.items ++ drop made.copied bytes) made.count
     → IfOk result (λ changed. Changes replacement bytes changed.new_bytes.items changed.count)
-finished replacement bytes made (Ok changed) new counts step = step changed.new_bytes.items changed.count new counts
-finished replacement bytes made (Err error) new counts step = tt
+finished replacement bytes made (Ok changed) new counts changes =
+    subst (λ (l : List ℕ). Changes replacement bytes l changed.count) (sym new) (subst (λ (n : ℕ). Changes replacement bytes (made.new_bytes.items ++ drop made.copied bytes) n) (sym counts) changes)
+finished replacement bytes made (Err error) new counts changes = tt
 
 -- the count is below a bound, and stays so
 pub few_of : {E : Type 0} (count most : ℕ) (result : Result Changed E) → IfOk result (λ changed. changed.count ≡ count) → count ≤ most → IfOk result (λ changed. changed.count ≤ most)

@@ -1,5 +1,5 @@
 -- How far a change in the room of the old bytes has come.
-use Rattle.std.proofs.Common.{◌≡◌, ℕ, ◌+◌, ◌≤◌, true, List, [], ◌∷◌, ◌++◌, length, drop, slice_range, Option, None, sym, subst, ap, ◌∙◌, arith}
+use Rattle.std.proofs.Common.{◌≡◌, ℕ, ◌+◌, ◌≤◌, true, List, [], ◌∷◌, ◌++◌, length, drop, slice_range, Option, None, refl, sym, subst, ap, ◌∙◌, arith}
 use Rattle.std.specs.Prelude.{Result, Ok, Err, IfOk}
 use Rattle.grep_matcher.specs.Cover.{IsLawful, IsFirst, accepts}
 use Rattle.grep_matcher.specs.References.{LieIn, group_text}
@@ -75,19 +75,25 @@ module _ (replacement : Replacement) (bytes : List ℕ) (lawful : IsLawful (end_
   left : drop room.read room.bytes.items ≡ drop room.read bytes
   left = left_later room.bytes.items bytes room.written room.read of.left order
 
-  told : (rewritten : Rewritten) → Became bytes (made_of room ++ drop room.read room.bytes.items) room.count rewritten → TellsRewritten (Changes replacement) bytes rewritten
-  told (Same count) became =
-      made_at_the_end replacement bytes lawful done from last found (made_of room) room.read room.count h bytes count none
-      (sym became.0 ∙ ap (λ (l : List ℕ). made_of room ++ l) left) became.1
-  told (Other changed) became = (
-    made_at_the_end replacement bytes lawful done from last found (made_of room) room.read room.count h changed.new_bytes.items changed.count none
-        (became.0 ∙ ap (λ (l : List ℕ). made_of room ++ l) left) became.1,
-    λ e. became.2 (sym became.0 ∙ e),
-  )
+  pub all_rewritten : Changes replacement bytes (made_of room ++ drop room.read room.bytes.items) room.count
+  all_rewritten =
+      made_at_the_end replacement bytes lawful done from last found (made_of room) room.read room.count h (made_of room ++ drop room.read room.bytes.items) room.count none
+      (ap (λ (l : List ℕ). made_of room ++ l) left) refl
 
-  pub ends_told : {E : Type 0} (result : Result Rewritten E) → IfOk result (Became bytes (made_of room ++ drop room.read room.bytes.items) room.count) → IfOk result (TellsRewritten (Changes replacement) bytes)
-  ends_told (Ok rewritten) became = told rewritten became
-  ends_told (Err error) became = tt
+-- what is told of bytes, once the change is known
+told : (replacement : Replacement) (bytes new_bytes : List ℕ) (count : ℕ) → Changes replacement bytes new_bytes count → (rewritten : Rewritten) → Became bytes new_bytes count rewritten
+    → TellsRewritten (Changes replacement) bytes rewritten
+told replacement bytes new_bytes count changes (Same counted) became =
+    subst (λ (l : List ℕ). Changes replacement bytes l counted) became.0 (subst (λ (n : ℕ). Changes replacement bytes new_bytes n) (sym became.1) changes)
+told replacement bytes new_bytes count changes (Other changed) became = (
+  subst (λ (l : List ℕ). Changes replacement bytes l changed.count) (sym became.0) (subst (λ (n : ℕ). Changes replacement bytes new_bytes n) (sym became.1) changes),
+  λ e. became.2 (sym became.0 ∙ e),
+)
+
+pub ends_told : {E : Type 0} (replacement : Replacement) (bytes new_bytes : List ℕ) (count : ℕ) → Changes replacement bytes new_bytes count → (result : Result Rewritten E)
+    → IfOk result (Became bytes new_bytes count) → IfOk result (TellsRewritten (Changes replacement) bytes)
+ends_told replacement bytes new_bytes count changes (Ok rewritten) became = told replacement bytes new_bytes count changes rewritten became
+ends_told replacement bytes new_bytes count changes (Err error) became = tt
 
 -- there are few
 few_of : (bytes new_bytes : List ℕ) (count : ℕ) → count ≤ length bytes + 1 → (rewritten : Rewritten) → Became bytes new_bytes count rewritten → AreFewIn bytes rewritten

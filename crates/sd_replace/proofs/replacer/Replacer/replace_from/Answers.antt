@@ -1,118 +1,12 @@
-use Rattle.std.proofs.Common.{◌≡◌, ◌+◌, ◌≤◌, ◌++◌, ◌∷◌, [], ℕ, List, Option, Some, None, length, arith, sym, subst, ◌∙◌}
-use Rattle.std.specs.Prelude.{IfSome}
-use Rattle.grep_matcher.specs.Cover.{IsAfter, IsFirst, accepts}
-use Rattle.grep_matcher.specs.Span.{Span}
-use Rattle.grep_regex.specs.Matching.{end_at}
-use Rattle.grep_regex.specs.MatchingLemmas.{lawful_ends}
-use Rattle.hir_tree.specs.Tree.{tree_of}
 use Rattle.sd_replace.specs.Replacer.{replacement_of}
-use Rattle.sd_replace.specs.Searching.{AreOfMatch}
-use Rattle.sd_replace.proofs.changing.ChangingLemmas.{HasFound, as_after, as_first, as_match, few_of, finished, found_more, found_none, made_at_the_end, made_by_the_limit, onward, written_none}
-use Rattle.sd_replace.proofs.template.PieceLemmas.{suffice_on}
+use Rattle.sd_replace.proofs.changing.ChangingLemmas.{few_of, finished}
+use Rattle.std.proofs.Common.{◌+◌, length}
 use Rattle.sd_replace.proofs.replacer.Replacer.replace_from.Goals as goal
 
-pub matches-init : goal.matches-init
-matches-init c =
-    let self = c.args.self.now in
-    let bytes = c.args.content.now in
-    let search = c.args.search.now in
-    let x = c.args.first in
-    let first = c.requires.first in
-    let preferred = end_at (tree_of self.matcher.searcher) bytes in
-    let lawful = lawful_ends (tree_of self.matcher.searcher) self.matcher.whole bytes in
-    let ends = lawful x.start x.end first.1 first.2.0 in
-    let rises : x.start ≤ x.end = ends.0 in
-    record {
-      stands = record {
-        done = [];
-        found = subst (λ (last : Option ℕ). HasFound preferred bytes lawful (x ∷ []) search.from last) (sym c.requires.last)
-            (found_more preferred bytes lawful [] 0 search.from None x (found_none preferred bytes lawful) first c.requires.after);
-        written = written_none (replacement_of self) bytes c.in_ok-made.made.new_bytes.items c.in_ok-made.made.copied c.in_ok-made.made.count c.in_ok-made.ensures.bytes c.in_ok-made.ensures.copied c.in_ok-made.ensures.count;
-        known = c.new-quota.ensures.none;
-      };
-      limits = record { content = c.new-quota.ensures.content; counted = c.new-quota.ensures.counted; limit = c.new-quota.ensures.limit };
-      order = omega (arith, c.new-quota.ensures.start);
-      behind = omega (arith, c.in_ok-made.ensures.copied);
-      few = omega (arith, c.in_ok-made.ensures.count);
-      starts = omega (arith, rises, ends.1);
-      within = ends.1;
-      ahead = c.requires.after.0;
-      onward = onward x search.from rises c.requires.after;
-      pattern = c.requires.pattern;
-      groups = c.requires.groups;
-      asked = c.requires.asked;
-    }
+pub returns-clause-changed : goal.returns-clause-changed
+returns-clause-changed c =
+    finished (replacement_of c.args.self.now) c.args.content.now c.replace_all.new.made c.finish.result c.finish.ensures.bytes c.finish.ensures.count c.in_ok-replace_all.ensures.changed
 
-pub returns-then-is_spent-clause-changed : goal.returns-then-is_spent-clause-changed
-returns-then-is_spent-clause-changed c =
-    let self = c.args.self.now in
-    let bytes = c.args.content.now in
-    let stands = c.matches.invariant.stands in
-    let done : List Span = stands.done ++ c.matches.found ∷ [] in
-    let made = c.replace_one.new.made in
-    let written = c.in_ok-replace_one.ensures.written stands.done stands.known stands.written in
-    let known = c.in_ok-replace_one.ensures.known stands.done stands.known in
-    finished (replacement_of self) bytes made c.finish.result c.finish.ensures.bytes c.finish.ensures.count (λ new_bytes count new counts.
-    made_by_the_limit (replacement_of self) bytes (lawful_ends (tree_of self.matcher.searcher) self.matcher.whole bytes) done c.matches.search.from c.matches.search.last stands.found made.new_bytes.items made.copied made.count written new_bytes count
-    (λ rest. as_after c.replace_one.new.quota (replacement_of self) bytes done rest c.in_ok-replace_one.ensures.limits (c.is_spent.ensures c.if-is_spent.true done rest known)) new counts)
-
-pub returns-then-is_spent-clause-few : goal.returns-then-is_spent-clause-few
-returns-then-is_spent-clause-few c =
-    few_of c.replace_one.new.made.count (length c.args.content.now + 1) c.finish.result c.finish.ensures.count (omega (arith, c.in_ok-replace_one.ensures.few, c.matches.invariant.starts))
-
-pub returns-in-None-clause-few : goal.returns-in-None-clause-few
-returns-in-None-clause-few c =
-    few_of c.replace_one.new.made.count (length c.args.content.now + 1) c.finish-in-None.result c.finish-in-None.ensures.count (omega (arith, c.in_ok-replace_one.ensures.few, c.matches.invariant.starts))
-
-pub returns-in-None-clause-changed : goal.returns-in-None-clause-changed
-returns-in-None-clause-changed c =
-    let self = c.args.self.now in
-    let bytes = c.args.content.now in
-    let search = c.matches.search in
-    let stands = c.matches.invariant.stands in
-    let done : List Span = stands.done ++ c.matches.found ∷ [] in
-    let made = c.replace_one.new.made in
-    let written = c.in_ok-replace_one.ensures.written stands.done stands.known stands.written in
-    let none = subst (λ (o : Option Span). IsFirst (accepts search.last (end_at (tree_of search.matcher.now.searcher) bytes)) search.from (length bytes) o) c.in-None.is c.in_ok-next.ensures.found in
-    let first = as_first search.matcher.now self.matcher bytes search.last search.from None c.matches.invariant.pattern none in
-    finished (replacement_of self) bytes made c.finish-in-None.result c.finish-in-None.ensures.bytes c.finish-in-None.ensures.count (λ new_bytes count new counts.
-    made_at_the_end (replacement_of self) bytes (lawful_ends (tree_of self.matcher.searcher) self.matcher.whole bytes) done search.from search.last stands.found made.new_bytes.items made.copied made.count written new_bytes count first new counts)
-
-pub matches-preserved : goal.matches-preserved
-matches-preserved c =
-    let self = c.args.self.now in
-    let bytes = c.args.content.now in
-    let before = c.matches.invariant in
-    let search = c.matches.search in
-    let later = c.next.new.self in
-    let x = c.in-Some.next in
-    let preferred = end_at (tree_of self.matcher.searcher) bytes in
-    let lawful = lawful_ends (tree_of self.matcher.searcher) self.matcher.whole bytes in
-    let done : List Span = before.stands.done ++ c.matches.found ∷ [] in
-    let there = subst (λ (o : Option Span). IsFirst (accepts search.last (end_at (tree_of search.matcher.now.searcher) bytes)) search.from (length bytes) o) c.in-Some.is c.in_ok-next.ensures.found in
-    let first = as_first search.matcher.now self.matcher bytes search.last search.from (Some x) before.pattern there in
-    let after = subst (λ (o : Option Span). IfSome o (λ span. IsAfter span later.from)) c.in-Some.is c.in_ok-next.ensures.after in
-    let last = subst (λ (o : Option Span). IfSome o (λ span. later.last ≡ Some span.end)) c.in-Some.is c.in_ok-next.ensures.last in
-    let groups = subst (λ (o : Option Span). IfSome o (λ span. AreOfMatch (tree_of search.matcher.now.searcher) bytes span.start later.groups)) c.in-Some.is c.in_ok-next.ensures.groups in
-    let ends = lawful x.start x.end first.1 first.2.0 in
-    let rises : x.start ≤ x.end = ends.0 in
-    let starts : search.from ≤ x.start = first.0 in
-    record {
-      stands = record {
-        done = done;
-        found = subst (λ (l : Option ℕ). HasFound preferred bytes lawful (done ++ x ∷ []) later.from l) (sym last) (found_more preferred bytes lawful done search.from later.from search.last x before.stands.found first after);
-        written = c.in_ok-replace_one.ensures.written before.stands.done before.stands.known before.stands.written;
-        known = c.in_ok-replace_one.ensures.known before.stands.done before.stands.known;
-      };
-      limits = c.in_ok-replace_one.ensures.limits;
-      order = omega (arith, c.in_ok-replace_one.ensures.order, before.onward);
-      behind = omega (arith, c.in_ok-replace_one.ensures.behind, before.ahead);
-      few = omega (arith, c.in_ok-replace_one.ensures.few, before.onward);
-      starts = omega (arith, rises, ends.1);
-      within = ends.1;
-      ahead = after.0;
-      onward = onward x later.from rises after;
-      pattern = c.in_ok-next.ensures.pattern ∙ before.pattern;
-      groups = as_match search.matcher.now self.matcher bytes x.start later.groups before.pattern groups;
-      asked = suffice_on self.template.pieces.items search.groups later.groups before.asked c.in_ok-next.ensures.asked;
-    }
+pub returns-clause-few : goal.returns-clause-few
+returns-clause-few c =
+    few_of c.replace_all.new.made.count (length c.args.content.now + 1) c.finish.result c.finish.ensures.count c.in_ok-replace_all.ensures.few

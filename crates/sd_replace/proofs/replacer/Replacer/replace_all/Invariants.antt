@@ -6,7 +6,7 @@ use Rattle.sd_replace.specs.Replacer.{replacement_of}
 use Rattle.sd_replace.specs.Searching.{AreOfMatch}
 use Rattle.sd_replace.specs.Templates.{SufficeFor}
 use Rattle.sd_replace.proofs.changing.ChangingLemmas.{Stands}
-use Rattle.sd_replace.proofs.replacer.Replacer.replace_from.Given as goal
+use Rattle.sd_replace.proofs.replacer.Replacer.replace_all.Given as goal
 
 -- the loop stands at the span that was found last
 abbrev pub invariant-matches : goal.invariant-matches
