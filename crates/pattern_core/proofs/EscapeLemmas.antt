@@ -1,5 +1,5 @@
 -- An escaped text is read as itself.
-use Rattle.std.proofs.Common.{◌≡◌, ℕ, Bool, true, false, ◌&&◌, ◌||◌, ◌==◌, ◌⊎◌, inl, inr, ⊎_elim, List, [], ◌∷◌, ◌++◌, codes, encode_utf8, Some, if◌then◌else◌, refl, sym, ap, ap₂, ◌∙◌, subst, eqb-true, true≢false}
+use Rattle.std.proofs.Common.{◌≡◌, ℕ, Bool, true, false, ◌&&◌, ◌||◌, ◌==◌, ◌⊎◌, inl, inr, ⊎_elim, List, [], ◌∷◌, ◌++◌, codes, encode_utf8, Some, if◌then◌else◌, refl, sym, ap, ap₂, ◌∙◌, subst, eqb-true, true≢false, ◌≤◌, lit≤}
 use Rattle.std.proofs.lemmas.Bool.{and_parts, or_cases}
 use Rattle.std.proofs.lemmas.Grind.{flat_map-append}
 use Rattle.pattern_syntax.specs.declared.flags.Flags.{Flags}
@@ -9,7 +9,7 @@ use Rattle.pattern_syntax.specs.Sets.{closed, folds_with_another}
 use Rattle.pattern_syntax.specs.Atom.{Atom, character, escaped, all, is_escapable, write_atom}
 use Rattle.pattern_syntax.specs.Syntax.{Syntax, end, single, atom, write, Fine, is_special}
 use Rattle.pattern_syntax.specs.SetTree.{SetTree, literal, trees}
-use Rattle.pattern_syntax.specs.Reads.{Row, Found, Reads, found_of, branches, single_part, class_tree, joined as joined_rows, sequence, at_depth, put}
+use Rattle.pattern_syntax.specs.Reads.{Row, Found, Reads, found_of, branches, single_part, class_tree, joined as joined_rows, sequence, at_depth, put, names_of}
 use Rattle.pattern_core.specs.Escape.{is_meta, escaped_char, escaped_text, encoded, joined, joined_all, text_of, texts_of, EscapedIsReadAsItself}
 
 -- a test that all members pass
@@ -64,6 +64,16 @@ sequence_text [] = refl
 sequence_text (c ∷ []) = ap (λ xs. Some xs) (sym (append_nil (encode_utf8 c)))
 sequence_text (c ∷ d ∷ cs) = texts_joined (c ∷ d ∷ cs)
 
+-- several characters are one sequence, and one or none nests nowhere
+sequence_depth : (cs : List ℕ) → (joined_rows (row cs ∷ [])).depth ≤ 1
+sequence_depth [] = lit≤ tt
+sequence_depth (c ∷ []) = lit≤ tt
+sequence_depth (c ∷ d ∷ cs) = lit≤ tt
+
+no_names : (cs : List ℕ) → names_of (syntax_of cs) ≡ []
+no_names [] = refl
+no_names (c ∷ cs) = no_names cs
+
 module _ (k : Flags) (counts : k.spaces ≡ false) (apart : k.folds ≡ false) where
   fine_first : (c : ℕ) (m : Bool) (cs : List ℕ) → is_meta c ≡ m → Fine k (syntax_of cs) [] → Fine k (single (atom (atom_of c m)) [] (syntax_of cs)) []
   fine_first c true cs e f = (meta_escapable c e, tt, f)
@@ -89,12 +99,14 @@ module _ (k : Flags) (counts : k.spaces ≡ false) (apart : k.folds ≡ false) w
   rows [] = refl
   rows (c ∷ cs) = ap₂ put (single_plain c (is_meta c)) (rows cs)
 
-  pub read : (cs : List ℕ) → (found : Found) × (Reads k (escaped_text cs) found × (text_of found.part.tree ≡ Some (encoded cs)))
+  pub read : (cs : List ℕ) → (found : Found) × (Reads k (escaped_text cs) found × (text_of found.part.tree ≡ Some (encoded cs)) × (found.part.depth ≤ 1) × (found.names ≡ []))
   read cs = (
     found_of k (syntax_of cs),
     (
       record { syntax = syntax_of cs; fine = fine cs; written = written cs; read = refl },
       ap (λ bs. text_of (joined_rows bs).tree) (rows cs) ∙ sequence_text cs,
+      subst (λ (bs : List Row). (joined_rows bs).depth ≤ 1) (sym (rows cs)) (sequence_depth cs),
+      no_names cs,
     ),
   )
 

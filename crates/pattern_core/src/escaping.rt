@@ -3,7 +3,7 @@
 ghost use Rattle.std.specs.Prelude.{◌≡◌, ◌++◌, IfOk, OnOk};
 ghost use Rattle.std.specs.Str.{chars};
 ghost use Rattle.std.specs.String.{string_bytes};
-ghost use Rattle.pattern_core.specs.Escape.{EscapedIsParsedAsItself, EscapedIsReadAsItself, encoded, escaped_char, escaped_text, is_meta};
+ghost use Rattle.pattern_core.specs.Escape.{EscapedHasOneRun, EscapedIsNotRefused, EscapedIsParsedAsItself, EscapedIsReadAsItself, encoded, escaped_char, escaped_text, is_meta};
 
 use sd_base::{NoMemory, Text};
 use std::alloc::Global;
@@ -56,15 +56,21 @@ pub fn escape(alloc: Global, text: &str) -> Result<Text, NoMemory>
     Ok(Text::from(escaped))
 }
 
-/// A text that is escaped is read as itself, where white space counts and letters aren't folded.
+/// A text that is escaped is read as itself, where white space counts and letters aren't folded: it nests at most once, and has no
+/// name.
 pub fn an_escaped_text_is_read_as_itself()
     ensures { EscapedIsReadAsItself }
 {}
 
-/// What is parsed of an escaped text is that text, where white space counts and letters aren't folded.
+/// What is parsed of an escaped text is that text, where white space counts and letters aren't folded: from a place where the text
+/// stands there is one run, to its end, and from another none. Where a pattern may nest once it is answered, but for want of memory.
 pub fn an_escaped_text_is_parsed_as_itself()
-    ensures { EscapedIsParsedAsItself }
+    ensures text { EscapedIsParsedAsItself }
+    ensures run { EscapedHasOneRun }
+    ensures answered { EscapedIsNotRefused }
 {
+    hir_tree::one_text_matches_where_it_stands();
+    hir_tree::preferred_is_the_first_run();
     pattern_syntax::a_text_has_at_most_one_reading();
     an_escaped_text_is_read_as_itself();
 }
