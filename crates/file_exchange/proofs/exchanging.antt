@@ -4,3 +4,4 @@ pub mod CauseLemmas
 pub mod CreatingLemmas
 pub mod FillingLemmas
 pub mod ExchangeLemmas
+pub mod PuttingLemmas

@@ -1,8 +1,9 @@
 -- What a crash leaves of files whose bytes are exchanged.
-use Rattle.std.specs.Prelude.{◌≡◌, ◌⊎◌, ℕ, List, [], ◌∷◌, Option, Some, None}
+use Rattle.std.specs.Prelude.{◌≡◌, ◌≢◌, ◌⊎◌, ℕ, List, [], ◌∷◌, Option, Some, None}
 use Rattle.sd_io.specs.Tree.{NameList, Content, file, Tree, node_at, file_at}
 use Rattle.sd_io.specs.Paths.{parent_of}
-use Rattle.sd_io.specs.Disk.{DiskState, SameTree}
+use Rattle.sd_io.specs.Outcomes.{Leaves, own_of}
+use Rattle.sd_io.specs.Disk.{DiskState, SameTree, outcomes_now}
 use Rattle.sd_io.specs.Crashes.{LeavesSince}
 use Rattle.file_exchange.specs.Reserved.{Free, FirstFree}
 use Rattle.file_exchange.specs.Exchange.{Exchanges, LeavesBytes}
@@ -23,6 +24,11 @@ pub record ExchangeLeaves (place : NameList) (bytes : List ℕ) (old new : DiskS
   pub temporary : Option NameList
   pub was_free : (q : NameList) → temporary ≡ Some q → FirstFree old.tree (parent_of place) q
   pub leaves : LeavesSince (IsNewFile old.tree place bytes) (λ q. temporary ≡ Some q) old new
+
+-- A crash leaves the file at the place by its own outcomes alone, and elsewhere what one at `old` could have left.
+pub record IsPutForGood (place : NameList) (old new : DiskState) : Type 0 where
+  pub alone : (found : Option Content) → Leaves (outcomes_now new place) found → Leaves (own_of (outcomes_now new place)) found
+  pub elsewhere : (q : NameList) → q ≢ place → (found : Option Content) → Leaves (outcomes_now new q) found → Leaves (outcomes_now old q) found
 
 -- ---- files in turn
 

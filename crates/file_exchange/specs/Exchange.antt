@@ -16,6 +16,10 @@ pub record IsFilePath (tree : Tree) (path : List ℕ) : Type 0 where
   pub path_is : path ≡ path_text (parts_of path)
   pub is_file : IsSome (file_at tree (parts_of path))
 
+-- the file that the path is of holds these bytes
+abbrev pub FileHolds : Tree → List ℕ → List ℕ → Type 0
+FileHolds tree path bytes = (mode : ℕ) × (file_at tree (parts_of path) ≡ Some (bytes, mode))
+
 -- ---- the file has its new bytes
 
 -- the regular file at the place has these bytes and its mode

@@ -8,9 +8,9 @@ ghost use Rattle.sd_io.specs.Files.{Removes};
 ghost use Rattle.sd_io.specs.Crashes.{IsDurable, KeepsSettled};
 ghost use Rattle.file_exchange.specs.Causes.{HasCauseOf, HasRisenBy};
 ghost use Rattle.file_exchange.specs.Reserved.{NoneFree, reserved_names};
-ghost use Rattle.file_exchange.specs.Exchange.{IsFilePath, Exchanges, LeavesBytes, IsCleared, HasFailed};
+ghost use Rattle.file_exchange.specs.Exchange.{IsFilePath, FileHolds, Exchanges, LeavesBytes, IsCleared, HasFailed};
 ghost use Rattle.file_exchange.specs.Temporary.{CreatesTemporary, IsReady, ChangesOnly, Moves, MayHaveMoved, FillLeaves, SettlesFolder, IsRemoved};
-ghost use Rattle.file_exchange.specs.Crash.{IsNewFile, ExchangeLeaves};
+ghost use Rattle.file_exchange.specs.Crash.{IsNewFile, ExchangeLeaves, IsPutForGood};
 
 use crate::ExchangeFault;
 use crate::reserved::{folder_path, temporary_path};
@@ -61,9 +61,45 @@ pub fn exchange<D: Disk>(
     }
 }
 
+/// Gives the regular file at a path these bytes for good. They are exchanged, or, where the file holds them already, the
+/// names in its folder are put on the medium alone. So after `Ok` a crash leaves the file by its own outcomes alone.
+///
+/// All else is as `exchange` says.
+pub fn put<D: Disk>(
+    alloc: Global,
+    disk: &mut D,
+    path: &str,
+    held: &[u8],
+    bytes: &[u8],
+) -> Result<(), ExchangeFault>
+    requires path { IsTrue D.tells → IsFilePath (D.state disk.old).tree path.now }
+    requires held { IsTrue D.tells → FileHolds (D.state disk.old).tree path.now held.now }
+    ensures exchanged { IsTrue D.tells → OnOk result (Exchanges (D.state disk.old).tree (parts_of path.now) bytes.now (D.state disk.new).tree) }
+    ensures refused { IsTrue D.tells → OnErr result (LeavesBytes (D.state disk.old).tree (parts_of path.now) bytes.now (D.state disk.new).tree) }
+    ensures crash { IsTrue D.tells → ExchangeLeaves (parts_of path.now) bytes.now (D.state disk.old) (D.state disk.new) }
+    ensures for_good { IsTrue D.tells → OnOk result (IsPutForGood (parts_of path.now) (D.state disk.old) (D.state disk.new)) }
+    ensures settled { IsTrue D.tells → KeepsSettled (D.state disk.old) (D.state disk.new) }
+    ensures old { IsTrue D.tells → IsErrOf result (ExchangeFault.Disk DiskFault.Failed)
+        → node_at (D.state disk.new).tree (parts_of path.now) ≡ node_at (D.state disk.old).tree (parts_of path.now) }
+    ensures cleared { IsTrue D.tells → IfErr result (λ fault. HasFailed fault → IsCleared (D.state disk.old) (parts_of path.now) (D.state disk.new)) }
+    ensures none_free { IsTrue D.tells → IsErrOf result ExchangeFault.NoName → NoneFree (D.state disk.old).tree (parent_of (parts_of path.now)) }
+    ensures not_written { IsTrue D.tells → IsErrOf result ExchangeFault.NoName → SameTree (D.state disk.old) (D.state disk.new) }
+    ensures none_free_untold { D.tells ≡ false → IsErrOf result ExchangeFault.NoName → HasRisenBy reserved_names (D.state disk.old).faults (D.state disk.new).faults }
+    ensures lists { SameLists (D.state disk.old) (D.state disk.new) }
+    ensures cause { HasCauseOf ExchangeFault.Disk D.tells (D.state disk.old) (D.state disk.new) result }
+    ensures move_cause { HasCauseOf ExchangeFault.Move D.tells (D.state disk.old) (D.state disk.new) result }
+    ensures memory { IsErrOf result (ExchangeFault.Move DiskFault.NoMemory) → ⊥ }
+{
+    if held == bytes {
+        settle(disk, path)
+    } else {
+        exchange(alloc, disk, path, bytes)
+    }
+}
+
 /// Creates a file under the first reserved name that is free beside a file, with that file's mode. `None` where none
-/// is free.
-fn create_temporary<D: Disk>(
+/// is free. On a disk that tells its tree the path has no links, `.` or `..`, and leads to a regular file.
+pub fn create_temporary<D: Disk>(
     alloc: Global,
     disk: &mut D,
     path: &str,
@@ -128,8 +164,9 @@ fn clear<D: Disk>(disk: &mut D, temporary: &str, fault: ExchangeFault) -> Exchan
     }
 }
 
-/// Puts the names in the file's folder on the medium.
-fn settle<D: Disk>(disk: &mut D, path: &str) -> Result<(), ExchangeFault>
+/// Puts the names in the folder of the file at a path on the medium. On a disk that tells its tree the path has no links, `.` or
+/// `..`, and leads to a regular file. Refuses `Move` with a counted fault, or for want of memory; the tree stays.
+pub fn settle<D: Disk>(disk: &mut D, path: &str) -> Result<(), ExchangeFault>
     requires { IsTrue D.tells → IsFilePath (D.state disk.old).tree path.now }
     ensures settled { IsTrue D.tells → OnOk result (SettlesFolder (D.state disk.old) path.now (D.state disk.new)) }
     ensures refused { IsTrue D.tells → OnErr result (SameTree (D.state disk.old) (D.state disk.new)) }

@@ -3,3 +3,4 @@ pub mod ReachedLemmas
 pub mod FindingLemmas
 pub mod CauseLemmas
 pub mod FileLemmas
+pub mod PuttingLemmas

@@ -8,6 +8,7 @@ mod examples;
 mod fault;
 mod laws;
 mod path;
+mod putting;
 mod rewrite;
 mod rewriting;
 
@@ -15,5 +16,6 @@ pub use examples::files_are_rewritten_as_in_the_examples;
 pub use fault::JobFault;
 pub use laws::rewriting_keeps_files;
 pub use path::is_no_path;
+pub use putting::put_file;
 pub use rewrite::Rewrite;
-pub use rewriting::replace_file;
+pub use rewriting::{FoundFile, file_change, find_file, replace_file};

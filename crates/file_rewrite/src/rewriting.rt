@@ -70,14 +70,17 @@ pub fn replace_file<D: Disk, R: Replaces>(
 
 /// A regular file that was read.
 #[derive(Drop)]
-struct FoundFile {
+pub struct FoundFile {
     /// Its own path: `/` and the names that lead to it, without links.
-    path: Text,
-    bytes: Vec<u8>,
+    pub path: Text,
+    /// All that it holds.
+    pub bytes: Vec<u8>,
 }
 
 /// Reads the regular file that a path leads to, links followed.
-fn find_file<D: Disk>(alloc: Global, disk: &mut D, path: &str) -> Result<FoundFile, JobFault>
+///
+/// Refuses `File` with a counted fault, or where no regular file stands at the path; and for want of memory. Nothing changes.
+pub fn find_file<D: Disk>(alloc: Global, disk: &mut D, path: &str) -> Result<FoundFile, JobFault>
     ensures found { IsTrue D.tells → IfOk result (λ found. FindsFile (D.state disk.old).tree path.now found.path found.bytes.items) }
     ensures tree { SameTree (D.state disk.old) (D.state disk.new) }
     ensures cause { IfErr result (λ fault. HasFileCause (course D.tells (D.state disk.old) (D.state disk.new)) path.now fault) }
@@ -89,8 +92,8 @@ fn find_file<D: Disk>(alloc: Global, disk: &mut D, path: &str) -> Result<FoundFi
     Ok(FoundFile { path: own, bytes })
 }
 
-/// What a file's bytes become. An empty file is left alone.
-fn file_change<R: Replaces>(replacer: &R, bytes: Vec<u8>) -> Result<Rewritten, NoMemory>
+/// What a file's bytes become. An empty file is left alone. Refuses for want of memory alone.
+pub fn file_change<R: Replaces>(replacer: &R, bytes: Vec<u8>) -> Result<Rewritten, NoMemory>
     ensures told { IfOk result (TellsRewritten (FileChange (R.change replacer.now)) bytes.items) }
     ensures few { IfOk result (AreFewIn bytes.items) }
 {

@@ -5,3 +5,6 @@ pub mod Jobs
 pub mod Turns
 pub mod Ends
 pub mod Examples
+pub mod OneFile
+pub mod InTurn
+pub mod Clear

@@ -1,16 +1,15 @@
 //! Files rewritten one after the other.
 
-ghost use Rattle.std.specs.Prelude.{◌≡◌, ◌≢◌, ◌<◌, ◌≤◌, ◌+◌, ◌^◌, ◌++◌, ◌∷◌, [], List, IsTrue, IfOk, IfErr, OnOk, All, Contains, Err, length, vec_len, vec_capacity};
+ghost use Rattle.std.specs.Prelude.{◌≡◌, ◌≢◌, ◌<◌, ◌≤◌, ◌+◌, ◌^◌, ◌++◌, ◌∷◌, [], List, IsTrue, IfOk, IfErr, Err, vec_len, vec_capacity};
 ghost use Rattle.sd_io.specs.Tree.{NameList};
 ghost use Rattle.sd_io.specs.Disk.{SameLists};
-ghost use Rattle.sd_io.specs.Crashes.{LeavesSince, IsDurable};
-ghost use Rattle.sd_course.specs.Course.{course, DiskFailed};
-ghost use Rattle.file_rewrite.specs.Paths.{IsNoPath};
-ghost use Rattle.many_files.specs.Files.{ListsFiles, IsFreeBeside, HasRoom};
-ghost use Rattle.many_files.specs.Rewritten.{LeavesEach, IsNewOne, IsChangedOne};
-ghost use Rattle.many_files.specs.Counts.{RewritesFiles, changed_by, replaced_by};
+ghost use Rattle.sd_course.specs.Course.{course};
+ghost use Rattle.many_files.specs.Files.{ListsFiles};
+ghost use Rattle.many_files.specs.Counts.{changed_by, replaced_by};
 ghost use Rattle.many_files.specs.Jobs.{failed_of, end_of};
-ghost use Rattle.many_files.specs.Ends.{FilesFail, IsForMemory};
+ghost use Rattle.many_files.specs.InTurn.{DoesFiles, FilesFail};
+ghost use Rattle.many_files.specs.Clear.{AreFilesClear};
+ghost use Rattle.many_files.specs.Ends.{RewritesListed, IsForMemory};
 
 use crate::{FailedJobs, FilesFault, Report};
 use file_rewrite::{JobFault, Rewrite, replace_file};
@@ -19,42 +18,32 @@ use sd_change::Replaces;
 use sd_io::Disk;
 use std::alloc::Global;
 
-/// Rewrites each of the files that the paths lead to, in their order. One that fails is a job, and the others go on. `Ok`
-/// tells their counts where none failed, else the fault tells the jobs.
-///
-/// The paths lead to regular nonempty files at places strictly in order, where the disk tells its tree.
+/// Rewrites the file that each path leads to, in their order, each as the one before left the disk; two paths may lead to one
+/// file. One that fails is a job, and the others go on. `Ok` tells their counts where none failed, else the fault tells the
+/// jobs, which are exactly the failed ones.
 ///
 /// Refuses for want of memory alone before anything is written, with the disk as it was. After a refusal each file that is
-/// no job is rewritten, and each job's file is as its fault says.
+/// no job is rewritten, and each job's file is as its fault says. Where nothing stands in the way, each job is one for want of
+/// memory, or finds each reserved name taken after such a job in its folder.
 ///
-/// On a disk that tells its tree a crash at any moment leaves each file as one at entry could have left it, or with its mode
-/// and its new bytes; it may leave anything at the reserved names that were free in their folders; and all else as one at
-/// entry could have left it. After `Ok` each crash leaves the new bytes of the files whose bytes change, and all else as one
-/// at entry could have left it.
+/// More is promised of paths that lead to regular nonempty files at places strictly in order, where the disk tells its tree:
+/// a crash at any moment leaves each file as one at entry could have left it, or with its mode and its new bytes; it may leave
+/// anything at the reserved names that were free in their folders; and all else as one at entry could have left it. After `Ok`
+/// each crash leaves the new bytes of the files whose bytes change, and all else as one at entry could have left it.
 pub fn rewrite_each<D: Disk, R: Replaces>(
     alloc: Global,
     disk: &mut D,
     paths: Vec<Text>,
     replacer: &R,
 ) -> Result<Report, FilesFault>
-    requires named { All (λ path. IsNoPath path → ⊥) paths.items }
-    requires files { IsTrue D.tells → (places : List NameList) × ListsFiles (D.state disk.old).tree paths.items places }
-    ensures rewritten { IsTrue D.tells → (places : List NameList) → ListsFiles (D.state disk.old).tree paths.items places
-        → IfOk result (λ report. RewritesFiles (R.change replacer.now) places report (D.state disk.old) (D.state disk.new)) }
+    ensures done { IfOk result (λ report. DoesFiles (R.change replacer.now) paths.items report (course D.tells (D.state disk.old) (D.state disk.new))) }
     ensures fails { IfErr result (FilesFail (R.change replacer.now) paths.items (course D.tells (D.state disk.old) (D.state disk.new))) }
     ensures no_memory { result ≡ Err FilesFault.NoMemory → disk.new ≡ disk.old }
-    ensures however { IsTrue D.tells → (places : List NameList) → ListsFiles (D.state disk.old).tree paths.items places
-        → LeavesEach (Contains places) (R.change replacer.now) (D.state disk.old).tree (D.state disk.new).tree }
-    ensures crash { IsTrue D.tells → (places : List NameList) → ListsFiles (D.state disk.old).tree paths.items places
-        → LeavesSince (IsNewOne (Contains places) (R.change replacer.now) (D.state disk.old).tree) (IsFreeBeside (Contains places) (D.state disk.old).tree)
-        (D.state disk.old) (D.state disk.new) }
-    ensures durable { IsTrue D.tells → (places : List NameList) → ListsFiles (D.state disk.old).tree paths.items places
-        → OnOk result (IsDurable (IsChangedOne (Contains places) (R.change replacer.now) (D.state disk.old).tree) (D.state disk.old) (D.state disk.new)) }
+    ensures listed { IsTrue D.tells → (places : List NameList) → ListsFiles (D.state disk.old).tree paths.items places
+        → RewritesListed (R.change replacer.now) paths.items places result (D.state disk.old) (D.state disk.new) }
     ensures lists { SameLists (D.state disk.old) (D.state disk.new) }
     ensures never_falls { (D.state disk.old).faults ≤ (D.state disk.new).faults }
-    ensures complete { IsTrue D.tells → (places : List NameList) → ListsFiles (D.state disk.old).tree paths.items places
-        → HasRoom (Contains places) (D.state disk.old).tree → (DiskFailed (course D.tells (D.state disk.old) (D.state disk.new)) → ⊥)
-        → IfErr result (IsForMemory (D.state disk.new).tree) }
+    ensures complete { AreFilesClear paths.items (course D.tells (D.state disk.old) (D.state disk.new)) → IfErr result (IsForMemory (D.state disk.new).tree) }
 {
     let chosen = paths.len() as u128;
     let mut done = Done::with_room(alloc, paths.len())?;

@@ -1,5 +1,3 @@
-pub mod OneFile
 pub mod Clear
-pub mod Named
 pub mod Preview
 pub mod Examples

@@ -1,22 +1,20 @@
 //! Worked examples of the definitions.
 
-ghost use Rattle.std.specs.Prelude.{◌≡◌, ◌∷◌, [], codes, true, false, Ok, Err, Some};
+ghost use Rattle.std.specs.Prelude.{◌≡◌, ◌∷◌, [], codes, true, false, Some};
 ghost use Rattle.sd_io.specs.Tree.{Tree};
 ghost use Rattle.sd_io.specs.Files.{file_of};
 ghost use Rattle.sd_io.specs.Disk.{DiskState};
 ghost use Rattle.sd_io.specs.Streams.{SinkState};
 ghost use Rattle.sd_io.specs.declared.fault.DiskFault.TheVariants as disk;
 ghost use Rattle.sd_course.specs.Course.{Course};
-ghost use Rattle.file_rewrite.specs.declared.fault.JobFault.TheVariants as job;
-ghost use Rattle.file_rewrite.specs.declared.rewrite.Rewrite.{Rewrite};
 ghost use Rattle.file_rewrite.specs.Examples.{OneToDigit};
-ghost use Rattle.named_files.specs.Named.{ReplacesInTurn, TellsNoPath};
-ghost use Rattle.named_files.specs.Clear.{LeadsToFile, IsFirstUnshown};
+ghost use Rattle.many_files.specs.Clear.{LeadsToFile};
+ghost use Rattle.named_files.specs.Clear.{IsFirstUnshown};
 ghost use Rattle.named_files.specs.Preview.{header_of, text_with, HasText, are_many, AnswersNoPath};
 ghost use Rattle.named_files.specs.declared.fault.PreviewFault.TheVariants as preview;
 ghost use Rattle.named_files.specs.Examples.{a_path, b_path};
 
-/// What is shown of files, which chains there are, and what is told of a path that names no file.
+/// What is shown of files, and what is told of a path that names no file.
 pub fn named_files_are_shown_as_in_the_examples()
     ensures header { header_of (codes "a") ≡ codes "----- FILE a -----\n" }
     ensures of_many { text_with true a_path (codes "1") 1 ≡ codes "----- FILE /t/a.txt -----\n1\n" }
@@ -26,11 +24,7 @@ pub fn named_files_are_shown_as_in_the_examples()
     ensures two_words { are_many (a_path ∷ b_path ∷ []) ≡ true }
     ensures text { (tree : Tree) → file_of tree a_path ≡ Some (codes "one", 416) → HasText OneToDigit true tree a_path (codes "----- FILE /t/a.txt -----\n1\n") }
     ensures none_of_two { (tree : Tree) → file_of tree a_path ≡ Some (codes "two", 416) → HasText OneToDigit false tree a_path [] }
-    ensures no_files { (d : DiskState) → ReplacesInTurn OneToDigit [] [] d d }
-    ensures one_end_each { (old new : DiskState) → ReplacesInTurn OneToDigit (a_path ∷ []) [] old new → ⊥ }
-    ensures told { TellsNoPath [] (Err job.InvalidPath) }
     ensures first_unshown { (tree : Tree) → LeadsToFile tree a_path → IsFirstUnshown (a_path ∷ [] ∷ b_path ∷ []) tree [] }
     ensures told_in_a_preview { (d : Course DiskState) (out : Course SinkState) → AnswersNoPath d out [] (preview.InvalidPath []) }
     ensures not_told_as_missing { (d : Course DiskState) (out : Course SinkState) → AnswersNoPath d out [] (preview.File disk.Absent) → ⊥ }
-    ensures not_done { (rewrite : Rewrite) → TellsNoPath [] (Ok rewrite) → ⊥ }
 {}

@@ -7,8 +7,8 @@ use Rattle.chosen_files.specs.Chosen.{Chosen}
 use Rattle.many_files.specs.Counts.{Counts}
 use Rattle.many_files.specs.Jobs.{WantMemory}
 use Rattle.many_files.specs.declared.report.Report.{Report}
-use Rattle.sd_core.specs.declared.sweep_fault.SweepFault.{SweepFault}
-use Rattle.sd_core.specs.declared.sweep_fault.SweepFault.TheVariants as sweep
+use Rattle.sd_core.specs.declared.error.Error.{Error}
+use Rattle.sd_core.specs.declared.error.Error.TheVariants as error
 use Rattle.demo_tree.specs.Demo.{IsDemo, demo_place}
 
 -- the report counts the chosen files of the demo's tree
@@ -20,19 +20,14 @@ pub record CountsDemo (change : Change) (n : ℕ) (globs : List (List ℕ)) (rep
   pub counts : Counts change tree places report
 
 -- Want of memory is the one reason why a demo isn't done: before anything is written, or for each of the files that failed.
-abbrev pub DemoWantsMemory : ℕ → SweepFault → Type 0
-DemoWantsMemory n (sweep.Failed jobs) = (jobs ≢ []) × ((tree : Tree) × IsDemo n tree × WantMemory tree jobs)
-DemoWantsMemory n sweep.NoMemory = ⊤
-DemoWantsMemory n (sweep.BadGlob place) = ⊥
-DemoWantsMemory n sweep.RootMissing = ⊥
-DemoWantsMemory n (sweep.Walk failed) = ⊥
-DemoWantsMemory n sweep.TooMany = ⊥
+abbrev pub DemoWantsMemory : ℕ → Error → Type 0
+DemoWantsMemory n (error.FailedProcessing jobs) = (jobs ≢ []) × ((tree : Tree) × IsDemo n tree × WantMemory tree jobs)
+DemoWantsMemory n error.NoMemory = ⊤
+DemoWantsMemory n _ = ⊥
 
 -- Why a demo is refused: for its first invalid glob, or for want of memory.
-abbrev pub DemoFails : ℕ → List (List ℕ) → SweepFault → Type 0
-DemoFails n globs (sweep.BadGlob place) = IsFirstInvalid globs place
-DemoFails n globs (sweep.Failed jobs) = DemoWantsMemory n (sweep.Failed jobs)
-DemoFails n globs sweep.NoMemory = ⊤
-DemoFails n globs sweep.RootMissing = ⊥
-DemoFails n globs (sweep.Walk failed) = ⊥
-DemoFails n globs sweep.TooMany = ⊥
+abbrev pub DemoFails : ℕ → List (List ℕ) → Error → Type 0
+DemoFails n globs (error.BadGlob place) = IsFirstInvalid globs place
+DemoFails n globs (error.FailedProcessing jobs) = DemoWantsMemory n (error.FailedProcessing jobs)
+DemoFails n globs error.NoMemory = ⊤
+DemoFails n globs _ = ⊥

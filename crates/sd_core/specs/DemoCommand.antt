@@ -5,11 +5,9 @@ use Rattle.sd_change.specs.Change.{Change}
 use Rattle.sd_course.specs.Course.{Course, SinkFailed, AppendsPrefix}
 use Rattle.chosen_files.specs.Globs.{IsValid, IsFirstInvalid}
 use Rattle.many_files.specs.declared.report.Report.{Report}
-use Rattle.sd_core.specs.declared.sweep_fault.SweepFault.TheVariants as sweep
 use Rattle.sd_core.specs.Demo.{CountsDemo, DemoFails, DemoWantsMemory}
 use Rattle.sd_core.specs.Report.{line_of}
 use Rattle.sd_core.specs.Run.{IsOrMemory}
-use Rattle.sd_core.specs.declared.error.Error.{Error}
 use Rattle.sd_core.specs.declared.error.Error.TheVariants as error
 use Rattle.sd_core.specs.declared.ended.Why.{Why}
 use Rattle.sd_core.specs.declared.ended.Why.TheVariants as why
@@ -27,48 +25,17 @@ pub record FailsToPrintDemo (change : Change) (n : ℕ) (globs : List (List ℕ)
   pub counted : CountsDemo change n globs report
   pub appended : IsTrue out.tells → AppendsPrefix out.old.held (line_of report) out.new.held
 
--- why a demo is refused: in its tree, files fail for want of memory alone
-abbrev pub DemoIsRefused : ℕ → List (List ℕ) → Error → Type 0
-DemoIsRefused n globs (error.BadGlob place) = DemoFails n globs (sweep.BadGlob place)
-DemoIsRefused n globs (error.FailedProcessing jobs) = DemoFails n globs (sweep.Failed jobs)
-DemoIsRefused n globs error.NoMemory = DemoFails n globs sweep.NoMemory
-DemoIsRefused n globs (error.Regex refused) = ⊥
-DemoIsRefused n globs (error.File fault) = ⊥
-DemoIsRefused n globs (error.InvalidPath path) = ⊥
-DemoIsRefused n globs (error.InvalidReplaceCapture capture) = ⊥
-DemoIsRefused n globs error.RootMissing = ⊥
-DemoIsRefused n globs (error.Walk failed) = ⊥
-DemoIsRefused n globs error.TooMany = ⊥
-DemoIsRefused n globs error.InputTooLong = ⊥
-
 abbrev pub DemoEnds : Change → ℕ → List (List ℕ) → Course SinkState → Why → Type 0
 DemoEnds change n globs out why.Done = PrintsDemo change n globs out
 DemoEnds change n globs out why.Print = FailsToPrintDemo change n globs out
-DemoEnds change n globs out (why.Fault failed) = DemoIsRefused n globs failed
-DemoEnds change n globs out why.Usage = ⊥
-DemoEnds change n globs out why.NotYet = ⊥
-
--- want of memory is the one reason left
-abbrev pub DemoIsForMemory : ℕ → Error → Type 0
-DemoIsForMemory n (error.FailedProcessing jobs) = DemoWantsMemory n (sweep.Failed jobs)
-DemoIsForMemory n error.NoMemory = ⊤
-DemoIsForMemory n (error.BadGlob place) = ⊥
-DemoIsForMemory n (error.Regex refused) = ⊥
-DemoIsForMemory n (error.File fault) = ⊥
-DemoIsForMemory n (error.InvalidPath path) = ⊥
-DemoIsForMemory n (error.InvalidReplaceCapture capture) = ⊥
-DemoIsForMemory n error.RootMissing = ⊥
-DemoIsForMemory n (error.Walk failed) = ⊥
-DemoIsForMemory n error.TooMany = ⊥
-DemoIsForMemory n error.InputTooLong = ⊥
+DemoEnds change n globs out (why.Fault failed) = DemoFails n globs failed
+DemoEnds change n globs out _ = ⊥
 
 -- it is done, or want of memory is the one reason why not
 abbrev pub IsDemoDone : ℕ → Why → Type 0
 IsDemoDone n why.Done = ⊤
-IsDemoDone n (why.Fault failed) = DemoIsForMemory n failed
-IsDemoDone n why.Print = ⊥
-IsDemoDone n why.Usage = ⊥
-IsDemoDone n why.NotYet = ⊥
+IsDemoDone n (why.Fault failed) = DemoWantsMemory n failed
+IsDemoDone n _ = ⊥
 
 -- What a demo promises at each of its ends.
 pub record DemoCommand (change : Change) (n : ℕ) (globs : List (List ℕ)) (out : Course SinkState) (ended : Why) : Type 0 where

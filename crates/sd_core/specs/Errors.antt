@@ -2,10 +2,12 @@
 use Rattle.sd_io.specs.declared.fault.DiskFault.TheVariants as disk
 use Rattle.sd_replace.specs.declared.error.ReplacerFault.{ReplacerFault}
 use Rattle.sd_replace.specs.declared.error.ReplacerFault.TheVariants as replacer
+use Rattle.chosen_files.specs.declared.globs.GlobsError.{GlobsError}
+use Rattle.chosen_files.specs.declared.globs.GlobsError.TheVariants as globs
+use Rattle.chosen_files.specs.declared.fault.ChoiceFault.{ChoiceFault}
+use Rattle.chosen_files.specs.declared.fault.ChoiceFault.TheVariants as choice
 use Rattle.many_files.specs.declared.fault.FilesFault.{FilesFault}
 use Rattle.many_files.specs.declared.fault.FilesFault.TheVariants as files
-use Rattle.sd_core.specs.declared.sweep_fault.SweepFault.{SweepFault}
-use Rattle.sd_core.specs.declared.sweep_fault.SweepFault.TheVariants as sweep
 use Rattle.stream_rewrite.specs.declared.fault.StreamFault.{StreamFault}
 use Rattle.stream_rewrite.specs.declared.fault.StreamFault.TheVariants as stream
 use Rattle.named_files.specs.declared.fault.PreviewFault.{PreviewFault}
@@ -18,13 +20,15 @@ of_replacer (replacer.InvalidReplaceCapture capture) = error.InvalidReplaceCaptu
 of_replacer (replacer.Regex refused) = error.Regex refused
 of_replacer replacer.NoMemory = error.NoMemory
 
-abbrev pub of_sweep : SweepFault → Error
-of_sweep (sweep.BadGlob place) = error.BadGlob place
-of_sweep sweep.RootMissing = error.RootMissing
-of_sweep (sweep.Walk failed) = error.Walk failed
-of_sweep sweep.TooMany = error.TooMany
-of_sweep (sweep.Failed jobs) = error.FailedProcessing jobs
-of_sweep sweep.NoMemory = error.NoMemory
+abbrev pub of_globs : GlobsError → Error
+of_globs (globs.Invalid place) = error.BadGlob place
+of_globs globs.NoMemory = error.NoMemory
+
+abbrev pub of_choice : ChoiceFault → Error
+of_choice choice.RootMissing = error.RootMissing
+of_choice (choice.Walk failed) = error.Walk failed
+of_choice choice.TooMany = error.TooMany
+of_choice choice.NoMemory = error.NoMemory
 
 abbrev pub of_files : FilesFault → Error
 of_files (files.Failed jobs) = error.FailedProcessing jobs

@@ -18,26 +18,14 @@ input_cap = 2 ^ 40
 -- What a refused command on standard input leaves, and why it is refused.
 abbrev pub InputFails : Change → Course SourceState → Course SinkState → Error → Type 0
 InputFails change input out (error.File disk.Failed) = StreamFails change input_cap input out stream.Failed
-InputFails change input out (error.File disk.Absent) = ⊥
-InputFails change input out (error.File disk.Taken) = ⊥
-InputFails change input out (error.File disk.NoMemory) = ⊥
 InputFails change input out error.InputTooLong = StreamFails change input_cap input out stream.InputTooLong
 InputFails change input out error.NoMemory = StreamFails change input_cap input out stream.NoMemory
-InputFails change input out (error.Regex refused) = ⊥
-InputFails change input out (error.InvalidPath path) = ⊥
-InputFails change input out (error.FailedProcessing jobs) = ⊥
-InputFails change input out (error.InvalidReplaceCapture capture) = ⊥
-InputFails change input out (error.BadGlob place) = ⊥
-InputFails change input out error.RootMissing = ⊥
-InputFails change input out (error.Walk failed) = ⊥
-InputFails change input out error.TooMany = ⊥
+InputFails change input out _ = ⊥
 
 abbrev pub InputEnds : Change → Course SourceState → Course SinkState → Why → Type 0
 InputEnds change input out why.Done = DoesStream change input out
 InputEnds change input out (why.Fault failed) = InputFails change input out failed
-InputEnds change input out why.Usage = ⊥
-InputEnds change input out why.Print = ⊥
-InputEnds change input out why.NotYet = ⊥
+InputEnds change input out _ = ⊥
 
 -- it is told so, unless a read failed or there was no memory before that was seen
 abbrev pub IsTooLong : Course SourceState → Why → Type 0

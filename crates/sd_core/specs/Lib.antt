@@ -11,5 +11,4 @@ pub mod NamedCommands
 pub mod Report
 pub mod Run
 pub mod Sweep
-pub mod SweepFaults
 pub mod TreeCommand

@@ -6,9 +6,12 @@ use Rattle.sd_io.specs.declared.fault.DiskFault.TheVariants as disk
 use Rattle.sd_change.specs.Change.{Change}
 use Rattle.sd_course.specs.Course.{Course, DiskFailed, SinkFailed}
 use Rattle.file_rewrite.specs.Paths.{IsNoPath}
+use Rattle.many_files.specs.Clear.{AreFilesClear}
+use Rattle.many_files.specs.InTurn as in_turn
+use Rattle.many_files.specs.InTurn.{DoesFiles}
+use Rattle.many_files.specs.declared.report.Report.{Report}
 use Rattle.many_files.specs.declared.fault.FilesFault.TheVariants as files
-use Rattle.named_files.specs.Clear.{AreFilesClear, IsFirstUnshown, IsPreviewClear}
-use Rattle.named_files.specs.Named.{DoesFiles, NamedFail}
+use Rattle.named_files.specs.Clear.{IsFirstUnshown, IsPreviewClear}
 use Rattle.named_files.specs.Preview.{DoesPreview, PreviewFails}
 use Rattle.named_files.specs.declared.fault.PreviewFault.TheVariants as preview
 use Rattle.sd_core.specs.TreeCommand.{IsDoneOrForMemory}
@@ -21,24 +24,14 @@ use Rattle.sd_core.specs.declared.ended.Why.TheVariants as why
 
 -- What a refused command on named files leaves, and why it is refused.
 abbrev pub FilesFail : Change → List (List ℕ) → Course DiskState → Error → Type 0
-FilesFail change paths d (error.FailedProcessing jobs) = NamedFail change paths d (files.Failed jobs)
-FilesFail change paths d error.NoMemory = NamedFail change paths d files.NoMemory
-FilesFail change paths d (error.Regex refused) = ⊥
-FilesFail change paths d (error.File fault) = ⊥
-FilesFail change paths d (error.InvalidPath path) = ⊥
-FilesFail change paths d (error.InvalidReplaceCapture capture) = ⊥
-FilesFail change paths d (error.BadGlob place) = ⊥
-FilesFail change paths d error.RootMissing = ⊥
-FilesFail change paths d (error.Walk failed) = ⊥
-FilesFail change paths d error.TooMany = ⊥
-FilesFail change paths d error.InputTooLong = ⊥
+FilesFail change paths d (error.FailedProcessing jobs) = in_turn.FilesFail change paths d (files.Failed jobs)
+FilesFail change paths d error.NoMemory = in_turn.FilesFail change paths d files.NoMemory
+FilesFail change paths d _ = ⊥
 
 abbrev pub FilesEnd : Change → List (List ℕ) → Course DiskState → Why → Type 0
-FilesEnd change paths d why.Done = DoesFiles change paths d
+FilesEnd change paths d why.Done = (report : Report) × DoesFiles change paths report d
 FilesEnd change paths d (why.Fault failed) = FilesFail change paths d failed
-FilesEnd change paths d why.Usage = ⊥
-FilesEnd change paths d why.Print = ⊥
-FilesEnd change paths d why.NotYet = ⊥
+FilesEnd change paths d _ = ⊥
 
 -- What a command on named files promises at each of its ends.
 pub record FilesCommand (change : Change) (paths : List (List ℕ)) (d : Course DiskState) (ended : Why) : Type 0 where
@@ -53,21 +46,12 @@ abbrev pub ShowingFails : Change → List (List ℕ) → Course DiskState → Co
 ShowingFails change paths d out (error.File fault) = PreviewFails change paths d out (preview.File fault)
 ShowingFails change paths d out (error.InvalidPath path) = PreviewFails change paths d out (preview.InvalidPath path)
 ShowingFails change paths d out error.NoMemory = (out.new ≡ out.old) ⊎ PreviewFails change paths d out preview.NoMemory
-ShowingFails change paths d out (error.Regex refused) = ⊥
-ShowingFails change paths d out (error.FailedProcessing jobs) = ⊥
-ShowingFails change paths d out (error.InvalidReplaceCapture capture) = ⊥
-ShowingFails change paths d out (error.BadGlob place) = ⊥
-ShowingFails change paths d out error.RootMissing = ⊥
-ShowingFails change paths d out (error.Walk failed) = ⊥
-ShowingFails change paths d out error.TooMany = ⊥
-ShowingFails change paths d out error.InputTooLong = ⊥
+ShowingFails change paths d out _ = ⊥
 
 abbrev pub PreviewEnds : Change → List (List ℕ) → Course DiskState → Course SinkState → Why → Type 0
 PreviewEnds change paths d out why.Done = DoesPreview change paths d out
 PreviewEnds change paths d out (why.Fault failed) = ShowingFails change paths d out failed
-PreviewEnds change paths d out why.Usage = ⊥
-PreviewEnds change paths d out why.Print = ⊥
-PreviewEnds change paths d out why.NotYet = ⊥
+PreviewEnds change paths d out _ = ⊥
 
 -- the word that names no file is told, unless there was no memory, or something failed before
 abbrev pub IsToldNoPath : Course DiskState → Course SinkState → List ℕ → Why → Type 0

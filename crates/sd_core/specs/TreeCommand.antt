@@ -1,5 +1,5 @@
 -- What a command on a tree promises.
-use Rattle.std.specs.Prelude.{◌≡◌, ◌⊎◌, ◌^◌, ℕ, IsTrue, List, ◌++◌, Some, ⊤}
+use Rattle.std.specs.Prelude.{◌≡◌, ◌⊎◌, ℕ, IsTrue, List, ◌++◌, Some, ⊤}
 use Rattle.sd_io.specs.Tree.{NameList, Content, Tree}
 use Rattle.sd_io.specs.Outcomes.{Leaves, content_at}
 use Rattle.sd_io.specs.Disk.{DiskState, outcomes_now, MayLeaveSince}
@@ -11,14 +11,11 @@ use Rattle.chosen_files.specs.Globs.{IsFirstInvalid}
 use Rattle.chosen_files.specs.Below.{HasFewerBelow}
 use Rattle.chosen_files.specs.Choice.{KeepsLists}
 use Rattle.many_files.specs.Files.{IsFreeBeside}
-use Rattle.many_files.specs.Jobs.{WantMemory}
 use Rattle.many_files.specs.Rewritten.{LeavesEach, IsNewOne, IsChangedOne}
-use Rattle.sd_core.specs.Sweep.{IsChosenBelow, RewritesTree, SweepFails, IsClear}
+use Rattle.sd_core.specs.Sweep.{IsChosenBelow, RewritesTree, SweepFails, IsClear, IsForMemory, sweep_cap}
 use Rattle.many_files.specs.declared.report.Report.{Report}
-use Rattle.sd_core.specs.declared.sweep_fault.SweepFault.TheVariants as sweep
 use Rattle.sd_core.specs.Report.{line_of}
 use Rattle.sd_core.specs.Run.{IsOrMemory}
-use Rattle.sd_core.specs.declared.error.Error.{Error}
 use Rattle.sd_core.specs.declared.error.Error.TheVariants as error
 use Rattle.sd_core.specs.declared.ended.Why.{Why}
 use Rattle.sd_core.specs.declared.ended.Why.TheVariants as why
@@ -33,29 +30,11 @@ pub record DoesTreeCommand (change : Change) (root : List ℕ) (globs : List (Li
 
 -- ---- its ends
 
--- fewer entries lie below a root
-abbrev pub sweep_cap : ℕ
-sweep_cap = 2 ^ 32
-
 -- all was done but the printing, which failed after a prefix of the report's line
 pub record DoesButPrint (change : Change) (root : List ℕ) (globs : List (List ℕ)) (old new : DiskState) (out : Course SinkState) : Type 0 where
   pub report : Report
   pub rewrites : RewritesTree change root globs report old new
   pub appended : IsTrue out.tells → AppendsPrefix out.old.held (line_of report) out.new.held
-
--- What a refused tree command leaves, and why it is refused.
-abbrev pub TreeFails : Change → List ℕ → List (List ℕ) → Course DiskState → Error → Type 0
-TreeFails change root globs d (error.BadGlob place) = SweepFails change root globs sweep_cap d (sweep.BadGlob place)
-TreeFails change root globs d error.RootMissing = SweepFails change root globs sweep_cap d sweep.RootMissing
-TreeFails change root globs d (error.Walk failed) = SweepFails change root globs sweep_cap d (sweep.Walk failed)
-TreeFails change root globs d error.TooMany = SweepFails change root globs sweep_cap d sweep.TooMany
-TreeFails change root globs d (error.FailedProcessing jobs) = SweepFails change root globs sweep_cap d (sweep.Failed jobs)
-TreeFails change root globs d error.NoMemory = SweepFails change root globs sweep_cap d sweep.NoMemory
-TreeFails change root globs d (error.Regex refused) = ⊥
-TreeFails change root globs d (error.File fault) = ⊥
-TreeFails change root globs d (error.InvalidPath path) = ⊥
-TreeFails change root globs d (error.InvalidReplaceCapture capture) = ⊥
-TreeFails change root globs d error.InputTooLong = ⊥
 
 -- How a tree command ends; what one that is done does, the headline says.
 abbrev pub TreeEnds : Change → List ℕ → List (List ℕ) → Course DiskState → Course SinkState → Why → Type 0
@@ -63,41 +42,22 @@ TreeEnds change root globs d out why.Done = IsTrue d.tells → HasFewerBelow swe
 TreeEnds change root globs d out why.Print =
     SinkFailed out × (IsTrue d.tells → HasFewerBelow sweep_cap d.old.tree root)
     × (IsTrue d.tells → DoesButPrint change root globs d.old d.new out)
-TreeEnds change root globs d out (why.Fault failed) = TreeFails change root globs d failed
-TreeEnds change root globs d out why.Usage = ⊥
-TreeEnds change root globs d out why.NotYet = ⊥
+TreeEnds change root globs d out (why.Fault failed) = SweepFails change root globs sweep_cap d failed
+TreeEnds change root globs d out _ = ⊥
 
 -- all was done, but perhaps the printing
 abbrev pub IsCarriedOut : Why → Type 0
 IsCarriedOut why.Done = ⊤
 IsCarriedOut why.Print = ⊤
-IsCarriedOut why.Usage = ⊥
-IsCarriedOut (why.Fault failed) = ⊥
-IsCarriedOut why.NotYet = ⊥
+IsCarriedOut _ = ⊥
 
 -- ---- done, or for want of memory
-
--- want of memory is the one reason left
-abbrev pub IsForMemory : Tree → Error → Type 0
-IsForMemory tree (error.FailedProcessing jobs) = WantMemory tree jobs
-IsForMemory tree error.NoMemory = ⊤
-IsForMemory tree (error.Regex refused) = ⊥
-IsForMemory tree (error.File fault) = ⊥
-IsForMemory tree (error.InvalidPath path) = ⊥
-IsForMemory tree (error.InvalidReplaceCapture capture) = ⊥
-IsForMemory tree (error.BadGlob place) = ⊥
-IsForMemory tree error.RootMissing = ⊥
-IsForMemory tree (error.Walk failed) = ⊥
-IsForMemory tree error.TooMany = ⊥
-IsForMemory tree error.InputTooLong = ⊥
 
 -- it is done, or want of memory is the one reason why not
 abbrev pub IsDoneOrForMemory : Tree → Why → Type 0
 IsDoneOrForMemory tree why.Done = ⊤
 IsDoneOrForMemory tree (why.Fault failed) = IsForMemory tree failed
-IsDoneOrForMemory tree why.Usage = ⊥
-IsDoneOrForMemory tree why.Print = ⊥
-IsDoneOrForMemory tree why.NotYet = ⊥
+IsDoneOrForMemory tree _ = ⊥
 
 -- ---- a crash
 

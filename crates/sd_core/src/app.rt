@@ -9,7 +9,8 @@ ghost use Rattle.sd_core.specs.InputCommand.{InputCommand};
 ghost use Rattle.sd_core.specs.NamedCommands.{FilesCommand, PreviewCommand};
 
 use crate::Result;
-use named_files::{preview_named, rewrite_named};
+use many_files::rewrite_each;
+use named_files::preview_named;
 use sd_base::{NoMemory, Text, Words};
 use sd_io::{Disk, Sink, Source};
 use sd_replace::Replacer;
@@ -107,7 +108,7 @@ pub(crate) fn rewrite_files<D: Disk>(
     ensures { FilesCommand (Changes (replacement_of replacer.now)) words.now (course D.tells (D.state disk.old) (D.state disk.new)) (end_of result) }
 {
     let paths = copies(alloc, words)?;
-    rewrite_named(alloc, disk, paths, replacer)?;
+    rewrite_each(alloc, disk, paths, replacer)?;
     Ok(())
 }
 

@@ -15,7 +15,7 @@ ghost use Rattle.sd_core.specs.NamedCommands.{FilesCommand, PreviewCommand};
 
 use crate::app::{preview_files, replace_input, rewrite_files};
 use crate::printing::print_report;
-use crate::{Error, Report, Result, SweepFault, Why, sweep, sweep_demo};
+use crate::{Result, Why, sweep, sweep_demo};
 use sd_base::{Globs, Words};
 use sd_io::{Disk, Sink, Source};
 use sd_replace::Replacer;
@@ -38,7 +38,7 @@ pub fn tree_command<D: Disk, O: Sink>(
     ensures out_kept { IsFault result → out.new ≡ out.old }
 {
     match sweep(alloc, disk, root, globs, replacer) {
-        Err(fault) => Why::Fault(Error::from(fault)),
+        Err(error) => Why::Fault(error),
         Ok(report) => match print_report(out, &report) {
             Ok(()) => Why::Done,
             Err(_) => Why::Print,
@@ -59,7 +59,7 @@ pub fn demo_command<O: Sink>(
     ensures out_kept { IsFault result → out.new ≡ out.old }
 {
     match sweep_demo(alloc, n, globs, replacer) {
-        Err(fault) => Why::Fault(Error::from(fault)),
+        Err(error) => Why::Fault(error),
         Ok(report) => match print_report(out, &report) {
             Ok(()) => Why::Done,
             Err(_) => Why::Print,

@@ -4,7 +4,7 @@ ghost use Rattle.std.specs.Prelude.{◌≡◌, ◌≤◌, ◌⊎◌, ℕ, All, I
 ghost use Rattle.chosen_files.specs.Globs.{IsValid, IsFirstInvalid};
 ghost use Rattle.sd_core.specs.Demo.{CountsDemo, DemoFails, DemoWantsMemory};
 
-use crate::{Report, SweepFault, sweep};
+use crate::{Error, Report, Result, sweep};
 use demo_tree::{FaultlessDisk, demo_disk};
 use sd_change::Replaces;
 use sd_io::Globs;
@@ -14,22 +14,22 @@ use std::alloc::Global;
 /// and replaced. The tree stands in memory and goes with the call.
 ///
 /// Refuses `BadGlob` with the place of the first invalid glob, and for want of memory: before anything is written, or as
-/// `Failed` with the files that it kept from being rewritten.
+/// `FailedProcessing` with the files that it kept from being rewritten.
 pub fn sweep_demo<R: Replaces>(
     alloc: Global,
     n: u64,
     globs: &Globs,
     replacer: &R,
-) -> Result<Report, SweepFault>
+) -> Result<Report>
     requires { n ≤ 100000 }
     ensures counted { IfOk result (CountsDemo (R.change replacer.now) n globs.now) }
     ensures fails { IfErr result (DemoFails n globs.now) }
     ensures bad_glob { (place : ℕ) → IsFirstInvalid globs.now place
-        → (result ≡ Err (SweepFault.BadGlob place)) ⊎ (result ≡ Err SweepFault.NoMemory) }
+        → (result ≡ Err (Error.BadGlob place)) ⊎ (result ≡ Err Error.NoMemory) }
     ensures complete { All IsValid globs.now → IfErr result (DemoWantsMemory n) }
 {
     let Ok(disk) = demo_disk(alloc, n) else {
-        return Err(SweepFault::NoMemory);
+        return Err(Error::NoMemory);
     };
     let mut disk = FaultlessDisk::new(disk);
     sweep(alloc, &mut disk, "/demo", globs, replacer)

@@ -1,10 +1,10 @@
 //! Why a command fails.
 
 ghost use Rattle.std.specs.Prelude.{◌≡◌};
-ghost use Rattle.sd_core.specs.Errors.{of_replacer, of_sweep, of_files, of_stream, of_preview};
+ghost use Rattle.sd_core.specs.Errors.{of_replacer, of_globs, of_choice, of_files, of_stream, of_preview};
 ghost use Rattle.sd_core.specs.declared.error.Error.TheVariants as error;
 
-use crate::SweepFault;
+use chosen_files::{ChoiceFault, GlobsError};
 use many_files::{FailedJobs, FilesFault};
 use named_files::PreviewFault;
 use sd_base::{NoMemory, Text};
@@ -41,7 +41,7 @@ pub enum Error {
     /// The walk of the tree met a failure of the disk, which counted it.
     #[error("{0}")]
     Walk(walkdir::Error),
-    /// 2^32 entries or more lie below the root.
+    /// As many entries lie below the root as the cap, or more: 2^32 in the program.
     #[error("too many entries")]
     TooMany,
     /// More than 2^40 bytes were left in the input.
@@ -82,17 +82,26 @@ impl From<ReplacerFault> for Error {
     }
 }
 
-impl From<SweepFault> for Error {
-    ghost from_gives = { λ fault made. made ≡ of_sweep fault };
+impl From<GlobsError> for Error {
+    ghost from_gives = { λ fault made. made ≡ of_globs fault };
 
-    fn from(fault: SweepFault) -> Error {
+    fn from(fault: GlobsError) -> Error {
         match fault {
-            SweepFault::BadGlob(place) => Error::BadGlob(place),
-            SweepFault::RootMissing => Error::RootMissing,
-            SweepFault::Walk(failed) => Error::Walk(failed),
-            SweepFault::TooMany => Error::TooMany,
-            SweepFault::Failed(jobs) => Error::FailedProcessing(jobs),
-            SweepFault::NoMemory => Error::NoMemory,
+            GlobsError::Invalid(place) => Error::BadGlob(place),
+            GlobsError::NoMemory => Error::NoMemory,
+        }
+    }
+}
+
+impl From<ChoiceFault> for Error {
+    ghost from_gives = { λ fault made. made ≡ of_choice fault };
+
+    fn from(fault: ChoiceFault) -> Error {
+        match fault {
+            ChoiceFault::RootMissing => Error::RootMissing,
+            ChoiceFault::Walk(failed) => Error::Walk(failed),
+            ChoiceFault::TooMany => Error::TooMany,
+            ChoiceFault::NoMemory => Error::NoMemory,
         }
     }
 }

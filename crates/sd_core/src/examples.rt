@@ -9,7 +9,7 @@ ghost use Rattle.walk_rest.specs.Examples.{tree_with};
 ghost use Rattle.file_rewrite.specs.Examples.{OneToDigit, a_place};
 ghost use Rattle.sd_core.specs.Examples.{t_nodes, txt, failed_at};
 ghost use Rattle.sd_core.specs.Sweep.{RewritesTree, SweepFails};
-ghost use Rattle.sd_core.specs.declared.sweep_fault.SweepFault.TheVariants as sweep;
+ghost use Rattle.sd_core.specs.declared.error.Error.TheVariants as error;
 
 /// What a sweep makes of a tree: one file of two in it, and none where there are no globs.
 pub fn trees_are_rewritten_as_in_the_examples()
@@ -24,13 +24,13 @@ pub fn trees_are_rewritten_as_in_the_examples()
 
 /// How refused sweeps end. A file that failed is told by the path of the root as it was given.
 pub fn sweeps_fail_as_in_the_examples()
-    ensures bad_glob { (d : Course DiskState) → d.new ≡ d.old → SweepFails OneToDigit (codes "/t") (codes "*" ∷ codes "{a" ∷ []) 9 d (sweep.BadGlob 1) }
-    ensures valid_glob { (d : Course DiskState) → ¬ SweepFails OneToDigit (codes "/t") (codes "*" ∷ codes "{a" ∷ []) 9 d (sweep.BadGlob 0) }
+    ensures bad_glob { (d : Course DiskState) → d.new ≡ d.old → SweepFails OneToDigit (codes "/t") (codes "*" ∷ codes "{a" ∷ []) 9 d (error.BadGlob 1) }
+    ensures valid_glob { (d : Course DiskState) → ¬ SweepFails OneToDigit (codes "/t") (codes "*" ∷ codes "{a" ∷ []) 9 d (error.BadGlob 0) }
     ensures no_root { (old new : DiskState) → old.tree ≡ tree_with t_nodes → SameTree old new
-        → SweepFails OneToDigit (codes "/n") txt 9 (course true old new) sweep.RootMissing }
+        → SweepFails OneToDigit (codes "/n") txt 9 (course true old new) error.RootMissing }
     ensures one_failed { (old new : DiskState) → old.tree ≡ tree_with t_nodes → new.tree ≡ old.tree → old.faults < new.faults
-        → SweepFails OneToDigit (codes "./t/") txt 9 (course true old new) (sweep.Failed (failed_at (codes "./t/a.txt"))) }
+        → SweepFails OneToDigit (codes "./t/") txt 9 (course true old new) (error.FailedProcessing (failed_at (codes "./t/a.txt"))) }
     ensures other_path { (old new : DiskState) → old.tree ≡ tree_with t_nodes
-        → ¬ SweepFails OneToDigit (codes "./t/") txt 9 (course true old new) (sweep.Failed (failed_at (codes "/t/a.txt"))) }
-    ensures none_failed { (d : Course DiskState) → ¬ SweepFails OneToDigit (codes "/t") txt 9 d (sweep.Failed []) }
+        → ¬ SweepFails OneToDigit (codes "./t/") txt 9 (course true old new) (error.FailedProcessing (failed_at (codes "/t/a.txt"))) }
+    ensures none_failed { (d : Course DiskState) → ¬ SweepFails OneToDigit (codes "/t") txt 9 d (error.FailedProcessing []) }
 {}

@@ -15,7 +15,6 @@ mod error;
 mod examples;
 mod laws;
 mod printing;
-mod sweep_fault;
 mod sweeping;
 mod top;
 
@@ -29,6 +28,5 @@ pub use laws::{a_crash_leaves_chosen_files_old_or_new, a_crash_leaves_rewritten_
 pub use many_files::{FailedJobs, Report};
 pub use sd_words::{Options, OptionsFault};
 pub use stream_rewrite::{StreamFault, replace_stream};
-pub use sweep_fault::SweepFault;
 pub use sweeping::{sweep, sweep_capped};
 pub use top::run;

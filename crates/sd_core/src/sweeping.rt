@@ -1,19 +1,13 @@
 //! A tree command on a disk.
 
-ghost use Rattle.std.specs.Prelude.{◌≡◌, ◌<◌, ◌≤◌, ◌^◌, ◌⊎◌, ℕ, List, IsTrue, IfOk, IfErr, OnOk, All, Err};
-ghost use Rattle.sd_io.specs.Crashes.{LeavesSince, IsDurable};
+ghost use Rattle.std.specs.Prelude.{◌≡◌, ◌<◌, ◌⊎◌, ℕ, List, All, Err};
 ghost use Rattle.sd_course.specs.Course.{course};
 ghost use Rattle.file_rewrite.specs.Paths.{IsNoPath};
 ghost use Rattle.chosen_files.specs.Globs.{IsFirstInvalid};
 ghost use Rattle.chosen_files.specs.Chosen.{IsPathBelow};
-ghost use Rattle.chosen_files.specs.Below.{HasFewerBelow};
-ghost use Rattle.chosen_files.specs.Choice.{KeepsLists};
-ghost use Rattle.many_files.specs.Files.{IsFreeBeside};
-ghost use Rattle.sd_core.specs.Sweep.{may_name_file};
-ghost use Rattle.many_files.specs.Rewritten.{LeavesEach, IsNewOne, IsChangedOne};
-ghost use Rattle.sd_core.specs.Sweep.{IsChosenBelow, RewritesTree, SweepFails, IsClear, IsSweepForMemory};
+ghost use Rattle.sd_core.specs.Sweep.{Sweeps, sweep_cap, may_name_file};
 
-use crate::{Report, SweepFault};
+use crate::{Error, Report, Result};
 use chosen_files::{choose_capped, read_globs};
 use file_rewrite::is_no_path;
 use many_files::rewrite_each;
@@ -22,6 +16,9 @@ use sd_change::Replaces;
 use sd_io::{Disk, Globs};
 use std::alloc::Global;
 
+/// As many entries below a root as this, or more, are too many for [`sweep`].
+const SWEEP_CAP: u64 = 1 << 32;
+
 /// Rewrites each chosen file below a root, where fewer than `cap` entries lie there: each regular nonempty file whose path from
 /// the root fits a glob, in the order of names. The tree is listed whole before the first write. A file that fails is a job,
 /// and the others go on. The path of a job is the root as it was given, `/` unless it ends with it, and the file's names from
@@ -29,7 +26,7 @@ use std::alloc::Global;
 ///
 /// Refuses, with the tree as it was, `BadGlob` with the place of the first invalid glob, before the disk is called;
 /// `RootMissing` where the root leads to no node; `Walk` with a counted fault; `TooMany` where the cap or more entries lie
-/// below the root; and for want of memory. Refuses `Failed` with the jobs where files failed: all others are rewritten.
+/// below the root; and for want of memory. Refuses `FailedProcessing` with the jobs where files failed: all others are rewritten.
 ///
 /// On a disk that tells its tree a crash at any moment leaves each chosen file as one at entry could have left it, or with its
 /// mode and its new bytes; it may leave anything at the reserved names that were free in their folders; and all else as one at
@@ -42,26 +39,11 @@ pub fn sweep_capped<D: Disk, R: Replaces>(
     globs: &Globs,
     replacer: &R,
     cap: u64,
-) -> Result<Report, SweepFault>
+) -> Result<Report>
     requires { 0 < cap }
-    ensures rewritten { IsTrue D.tells
-        → IfOk result (λ report. RewritesTree (R.change replacer.now) root.now globs.now report (D.state disk.old) (D.state disk.new)) }
-    ensures few { IsTrue D.tells → OnOk result (HasFewerBelow cap (D.state disk.old).tree root.now) }
-    ensures fails { IfErr result (SweepFails (R.change replacer.now) root.now globs.now cap (course D.tells (D.state disk.old) (D.state disk.new))) }
+    ensures sweeps { Sweeps (R.change replacer.now) root.now globs.now cap result (course D.tells (D.state disk.old) (D.state disk.new)) }
     ensures bad_glob { (place : ℕ) → IsFirstInvalid globs.now place
-        → (disk.new ≡ disk.old) × ((result ≡ Err (SweepFault.BadGlob place)) ⊎ (result ≡ Err SweepFault.NoMemory)) }
-    ensures however { IsTrue D.tells
-        → LeavesEach (IsChosenBelow (D.state disk.old).tree root.now globs.now) (R.change replacer.now) (D.state disk.old).tree (D.state disk.new).tree }
-    ensures crash { IsTrue D.tells
-        → LeavesSince (IsNewOne (IsChosenBelow (D.state disk.old).tree root.now globs.now) (R.change replacer.now) (D.state disk.old).tree)
-        (IsFreeBeside (IsChosenBelow (D.state disk.old).tree root.now globs.now) (D.state disk.old).tree) (D.state disk.old) (D.state disk.new) }
-    ensures durable { IsTrue D.tells
-        → OnOk result (IsDurable (IsChangedOne (IsChosenBelow (D.state disk.old).tree root.now globs.now) (R.change replacer.now) (D.state disk.old).tree)
-        (D.state disk.old) (D.state disk.new)) }
-    ensures lists { KeepsLists 10 (D.state disk.old) (D.state disk.new) }
-    ensures never_falls { (D.state disk.old).faults ≤ (D.state disk.new).faults }
-    ensures complete { IsClear root.now globs.now cap (course D.tells (D.state disk.old) (D.state disk.new))
-        → IfErr result (IsSweepForMemory (D.state disk.new).tree) }
+        → (disk.new ≡ disk.old) × ((result ≡ Err (Error.BadGlob place)) ⊎ (result ≡ Err Error.NoMemory)) }
 {
     let globs = read_globs(alloc, globs)?;
     let choice = choose_capped(alloc, disk, root, &globs, cap)?;
@@ -77,27 +59,12 @@ pub fn sweep<D: Disk, R: Replaces>(
     root: &str,
     globs: &Globs,
     replacer: &R,
-) -> Result<Report, SweepFault>
-    ensures rewritten { IsTrue D.tells
-        → IfOk result (λ report. RewritesTree (R.change replacer.now) root.now globs.now report (D.state disk.old) (D.state disk.new)) }
-    ensures few { IsTrue D.tells → OnOk result (HasFewerBelow (2 ^ 32) (D.state disk.old).tree root.now) }
-    ensures fails { IfErr result (SweepFails (R.change replacer.now) root.now globs.now (2 ^ 32) (course D.tells (D.state disk.old) (D.state disk.new))) }
+) -> Result<Report>
+    ensures sweeps { Sweeps (R.change replacer.now) root.now globs.now sweep_cap result (course D.tells (D.state disk.old) (D.state disk.new)) }
     ensures bad_glob { (place : ℕ) → IsFirstInvalid globs.now place
-        → (disk.new ≡ disk.old) × ((result ≡ Err (SweepFault.BadGlob place)) ⊎ (result ≡ Err SweepFault.NoMemory)) }
-    ensures however { IsTrue D.tells
-        → LeavesEach (IsChosenBelow (D.state disk.old).tree root.now globs.now) (R.change replacer.now) (D.state disk.old).tree (D.state disk.new).tree }
-    ensures crash { IsTrue D.tells
-        → LeavesSince (IsNewOne (IsChosenBelow (D.state disk.old).tree root.now globs.now) (R.change replacer.now) (D.state disk.old).tree)
-        (IsFreeBeside (IsChosenBelow (D.state disk.old).tree root.now globs.now) (D.state disk.old).tree) (D.state disk.old) (D.state disk.new) }
-    ensures durable { IsTrue D.tells
-        → OnOk result (IsDurable (IsChangedOne (IsChosenBelow (D.state disk.old).tree root.now globs.now) (R.change replacer.now) (D.state disk.old).tree)
-        (D.state disk.old) (D.state disk.new)) }
-    ensures lists { KeepsLists 10 (D.state disk.old) (D.state disk.new) }
-    ensures never_falls { (D.state disk.old).faults ≤ (D.state disk.new).faults }
-    ensures complete { IsClear root.now globs.now (2 ^ 32) (course D.tells (D.state disk.old) (D.state disk.new))
-        → IfErr result (IsSweepForMemory (D.state disk.new).tree) }
+        → (disk.new ≡ disk.old) × ((result ≡ Err (Error.BadGlob place)) ⊎ (result ≡ Err Error.NoMemory)) }
 {
-    sweep_capped(alloc, disk, root, globs, replacer, 4294967296)
+    sweep_capped(alloc, disk, root, globs, replacer, SWEEP_CAP)
 }
 
 /// The paths that name a file. On a disk that tells its tree all paths of chosen files do.

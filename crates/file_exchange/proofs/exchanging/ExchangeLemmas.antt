@@ -26,7 +26,7 @@ use Rattle.file_exchange.proofs.exchanging.CauseLemmas.{risen_twice}
 -- ---- one place of a folder that is put on the medium
 
 -- where a file stands
-alone_file : (o : Option Node) (f : List ℕ × ℕ) (list : List Outcome) → file_node o ≡ Some f → alone o list ≡ own_of list
+pub alone_file : (o : Option Node) (f : List ℕ × ℕ) (list : List Outcome) → file_node o ≡ Some f → alone o list ≡ own_of list
 alone_file None f list e = cc
 alone_file (Some node) f list e = by node.content node.dev node.ino e
   where

@@ -79,7 +79,7 @@ file_is node bytes mode e = by node.content e
     by (file b m) e = let both = same_Some (b, m) (bytes, mode) e in λ i. file (both i).0 (both i).1
     by other e = cc
 
-content_there : (o : Option Node) (bytes : List ℕ) (mode : ℕ) → file_node o ≡ Some (bytes, mode) → content_of o ≡ Some (file bytes mode)
+pub content_there : (o : Option Node) (bytes : List ℕ) (mode : ℕ) → file_node o ≡ Some (bytes, mode) → content_of o ≡ Some (file bytes mode)
 content_there None bytes mode e = cc
 content_there (Some node) bytes mode e = ap (λ (c : Content). Some c) (file_is node bytes mode e)
 

@@ -44,10 +44,10 @@ pub told_other : (change : Change) (bytes new : List ℕ) (answer : Rewritten) (
 told_other change bytes new answer changed is made tells =
     subst (λ (n : List ℕ). change bytes n changed.count × (n ≢ bytes)) (sym made) (subst (TellsRewritten change bytes) is tells)
 
-same_then : {r s t : DiskState} → SameTree r s → SameTree s t → SameTree r t
+pub same_then : {r s t : DiskState} → SameTree r s → SameTree s t → SameTree r t
 same_then a b = record { tree = b.tree ∙ a.tree; clock = b.clock ∙ a.clock; outcomes = b.outcomes ∙ a.outcomes }
 
-cleared_since : (s0 s1 s2 : DiskState) (place : NameList) → SameTree s0 s1 → s0.faults ≤ s1.faults → IsCleared s1 place s2 → SameBut place s0.tree s2.tree ⊎ HasRisenBy 2 s0.faults s2.faults
+pub cleared_since : (s0 s1 s2 : DiskState) (place : NameList) → SameTree s0 s1 → s0.faults ≤ s1.faults → IsCleared s1 place s2 → SameBut place s0.tree s2.tree ⊎ HasRisenBy 2 s0.faults s2.faults
 cleared_since s0 s1 s2 place same low (inl others) = inl (subst (λ (t : Tree). SameBut place t s2.tree) same.tree others)
 cleared_since s0 s1 s2 place same low (inr (inl twice)) = inr (inl (omega arith))
 cleared_since s0 s1 s2 place same low (inr (inr last)) = inr (inr last)

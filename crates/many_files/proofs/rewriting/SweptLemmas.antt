@@ -133,9 +133,6 @@ module _ (change : Change) (s0 s1 : DiskState) (paths : List (List ℕ)) (places
     leads_now : reached s1.tree path true ≡ Some next.place
     leads_now = still_leads (keeps_ways change s0 s1 so.turns so.are files) path true next.place next.leads (file_stands s1.tree next.place (a_file s1.tree next.place file_now))
 
-    pub stands_now : file_of s1.tree path ≡ None → ⊥
-    stands_now none = leads_to_file change path next.place s1 s1 leads_now file_now none
-
     module _ (s2 : DiskState) where
       counts_file : (rewrite : Rewrite) → RewritesFile change path rewrite s1 s2 → CountsFile change s0.tree next.place (cond rewrite.changed 1 0) rewrite.replaced
       counts_file rewrite r =

@@ -35,7 +35,6 @@ pub record DoesTurn (change : Change) (place : NameList) (fault : Option JobFaul
   pub counted : HasRisenBy (faults_of_end left fault) s1.faults s2.faults
   pub low : s1.faults ≤ s2.faults
   pub crash : LeavesSince (IsNewOne (λ q. q ≡ place) change s1.tree) (IsFreeBeside (λ q. q ≡ place) s1.tree) s1 s2
-  pub full : fault ≡ Some job.TempName → (q : NameList) → Free s1.tree (parent_of place) q → ⊥
 
 -- what a nonempty file becomes
 nonempty_change : (change : Change) (bytes new : List ℕ) (n byte : ℕ) (rest : List ℕ) → bytes ≡ byte ∷ rest → FileChange change bytes new n → change bytes new n
@@ -142,7 +141,6 @@ module _ (change : Change) (path : List ℕ) (place : NameList) (s1 s2 : DiskSta
         counted = inl (omega arith);
         low = low;
         crash = crash_here crash;
-        full = λ e. cc;
       }
 
   -- ---- refused
@@ -185,13 +183,6 @@ module _ (change : Change) (path : List ℕ) (place : NameList) (s1 s2 : DiskSta
     counted_left (Some q) fault low cause (inr (inl none)) = cc
     counted_left (Some q) fault low cause (inr (inr twice)) = counted_twice q fault low (inr twice)
 
-    full_folder : (fault : JobFault) → HasFileCause (course tells s1 s2) path fault → Some fault ≡ Some job.TempName → (q : NameList) → Free s1.tree (parent_of place) q → ⊥
-    full_folder fault cause e q free =
-        let crowded = (subst (HasFileCause (course tells s1 s2) path) (same_Some fault job.TempName e) cause).0 told in
-        let here = file_there crowded.place crowded.leads in
-        let (k, lt, is) = crowded.few.all q (subst (λ (p : NameList). Free s1.tree (parent_of p) q) (sym here) free) in
-        omega (arith, crowded.few.few)
-
     pub refused_turn : (fault : JobFault) → s1.faults ≤ s2.faults → LeavesFile change path fault s1 s2 → HasFileCause (course tells s1 s2) path fault
         → LeavesSince (IsNewAt change s1.tree path) (IsFreeBy s1.tree path) s1 s2 → (left : Option NameList) × DoesTurn change place (Some fault) left s1 s2
     refused_turn fault low (inl same) cause crash = (
@@ -204,7 +195,6 @@ module _ (change : Change) (path : List ℕ) (place : NameList) (s1 s2 : DiskSta
         counted = counted_alone fault low cause;
         low = low;
         crash = crash_here crash;
-        full = full_folder fault cause;
       },
     )
     refused_turn fault low (inr l) cause crash =
@@ -218,6 +208,5 @@ module _ (change : Change) (path : List ℕ) (place : NameList) (s1 s2 : DiskSta
             counted = counted_left l.temporary fault low cause l.two_refusals;
             low = low;
             crash = crash_here crash;
-            full = full_folder fault cause;
           },
         )

@@ -31,13 +31,7 @@ pub record AreTurns (change : Change) (s0 s : DiskState) (turns : List Turn) : T
   pub others : (q : NameList) → (Contains (map place_of turns) q → ⊥) → (Contains (map left_of turns) (Some q) → ⊥) → node_at s.tree q ≡ node_at s0.tree q
   pub counted : HasRisenBy (sum_by faults_of_turn turns) s0.faults s.faults
   pub low : s0.faults ≤ s.faults
-  pub crowding : (before after : List Turn) (turn : Turn) → turns ≡ before ++ turn ∷ after → turn.fault ≡ Some job.TempName
-      → (q : NameList) → Free s0.tree (parent_of turn.place) q → Contains (map left_of before) (Some q)
   pub crash : LeavesSince (IsNewOne (Contains (map place_of turns)) change s0.tree) (IsFreeBeside (Contains (map place_of turns)) s0.tree) s0 s
-
-no_cut : (before after : List Turn) (turn : Turn) → [] ≡ before ++ turn ∷ after → ⊥
-no_cut [] after turn e = cc
-no_cut (first ∷ before) after turn e = cc
 
 pub no_turns : (change : Change) (s : DiskState) → AreTurns change s s []
 no_turns change s = record {
@@ -45,7 +39,6 @@ no_turns change s = record {
   others = λ q n m. refl;
   counted = inl (omega arith);
   low = omega arith;
-  crowding = λ before after turn e. absurd (no_cut before after turn e);
   crash = since_same _ _ s s (record { tree = refl; clock = refl; outcomes = refl });
 }
 
@@ -208,25 +201,6 @@ module _ (change : Change) (s0 s1 : DiskState) (turns : List Turn) (so : AreTurn
           subst (λ (list : List (Option NameList)). Contains list (Some q)) (sym (map_push left_of turns now))
           (subst (λ (o : Option NameList). Contains (map left_of turns ++ left ∷ []) o) e (Contains-push (map left_of turns) left))
 
-      -- where the folder seems to be full, each name that was free was left by an earlier turn
-      full_now : fault ≡ Some job.TempName → (q : NameList) → Free s0.tree (parent_of place) q → Contains (map left_of turns) (Some q)
-      full_now is q free = elim (has_option_or_not (map left_of turns) q) [
-        | inl c ↦ c
-        | inr m ↦ absurd (turn.full is q (record {
-          reserved = free.reserved;
-          free = so.others q (λ c. free_no_file s0.tree q free.free (a_file s0.tree q (files q c))) m ∙ free.free;
-        }))
-      ]
-
-      crowding_now : (before after : List Turn) (t : Turn) → turns ++ now ∷ [] ≡ before ++ t ∷ after → t.fault ≡ Some job.TempName
-          → (q : NameList) → Free s0.tree (parent_of t.place) q → Contains (map left_of before) (Some q)
-      crowding_now before after t cut is q free = elim (cut_of_more turns now before after t cut) [
-        | inl (all, last) ↦
-            subst (λ (list : List Turn). Contains (map left_of list) (Some q)) (sym all)
-            (full_now (sym (ap fault_of last) ∙ is) q (subst (λ (x : Turn). Free s0.tree (parent_of x.place) q) last free))
-        | inr (rest, earlier) ↦ so.crowding before rest t earlier is q free
-      ]
-
       new_before : (q : NameList) (content : Content) → q ≡ place → IsNewFile change s1.tree q content → IsNewFile change s0.tree q content
       new_before q content e n = record {
         bytes = n.bytes;
@@ -246,7 +220,6 @@ module _ (change : Change) (s0 s1 : DiskState) (turns : List Turn) (so : AreTurn
             subst (λ (k : ℕ). HasRisenBy k s0.faults s2.faults) (sym (sum_by_push faults_of_turn turns now))
             (rises_by (sum_by faults_of_turn turns) (faults_of_turn now) s0.faults s1.faults s2.faults turn.low so.counted turn.counted);
         low = omega (arith, so.low, turn.low);
-        crowding = crowding_now;
         crash =
             since_then _ _ s0 s1 s2
             (since_more _ (IsNewOne (Contains (map place_of (turns ++ now ∷ []))) change s0.tree) _ (IsFreeBeside (Contains (map place_of (turns ++ now ∷ []))) s0.tree) s0 s1

@@ -10,12 +10,13 @@ use Rattle.sd_io.specs.declared.fault.DiskFault.TheVariants as disk
 use Rattle.sd_change.specs.Change.{Change}
 use Rattle.sd_course.specs.Course.{Course}
 use Rattle.file_rewrite.specs.Paths.{IsNoPath}
-use Rattle.named_files.specs.Clear.{LeadsToFile, IsFirstUnshown, IsPreviewClear}
+use Rattle.many_files.specs.Clear.{LeadsToFile}
+use Rattle.named_files.specs.Clear.{IsFirstUnshown, IsPreviewClear}
 use Rattle.named_files.specs.Preview.{DoesPreview, StopsAt, PreviewFaults, PreviewFails, AnswersNoPath}
 use Rattle.named_files.specs.declared.fault.PreviewFault.{PreviewFault}
 use Rattle.named_files.specs.declared.fault.PreviewFault.TheVariants as preview
-use Rattle.named_files.proofs.CutLemmas.{two_cuts, at_cut}
-use Rattle.named_files.proofs.rewriting.KeepLemmas.{not_none}
+use Rattle.many_files.proofs.CutLemmas.{two_cuts, at_cut}
+use Rattle.many_files.proofs.KeepLemmas.{not_none}
 
 module _ (change : Change) (paths : List (List ℕ)) (d : Course DiskState) (out : Course SinkState) where
   -- ---- the first word that can't be shown names no file

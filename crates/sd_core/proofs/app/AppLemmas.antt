@@ -13,14 +13,14 @@ use Rattle.stream_rewrite.specs.declared.fault.StreamFault.TheVariants as stream
 use Rattle.many_files.specs.Ends.{IsForMemory as FilesIsForMemory}
 use Rattle.many_files.specs.declared.fault.FilesFault.{FilesFault}
 use Rattle.many_files.specs.declared.fault.FilesFault.TheVariants as files
-use Rattle.named_files.specs.Named.{NamedFail}
+use Rattle.many_files.specs.InTurn.{FilesFail as InTurnFail}
 use Rattle.named_files.specs.Preview.{PreviewFails, AnswersNoPath}
 use Rattle.named_files.specs.declared.fault.PreviewFault.{PreviewFault}
 use Rattle.named_files.specs.declared.fault.PreviewFault.TheVariants as preview
 use Rattle.sd_core.specs.Errors.{of_stream, of_files, of_preview}
 use Rattle.sd_core.specs.InputCommand.{InputFails, IsTooLong}
 use Rattle.sd_core.specs.NamedCommands.{FilesFail, ShowingFails, IsToldNoPath}
-use Rattle.sd_core.specs.TreeCommand.{IsForMemory}
+use Rattle.sd_core.specs.Sweep.{IsForMemory}
 use Rattle.sd_core.specs.declared.error.Error.TheVariants as error
 use Rattle.sd_core.specs.declared.ended.Why.TheVariants as why
 
@@ -39,7 +39,7 @@ pub for_memory : (fault : StreamFault) → fault ≡ stream.NoMemory → why.Fau
 for_memory fault e = ap (λ f. why.Fault (of_stream f)) e
 
 pub files_fail : (change : Change) (paths : List (List ℕ)) (d : Course DiskState) (fault : FilesFault)
-    → NamedFail change paths d fault → FilesFail change paths d (of_files fault)
+    → InTurnFail change paths d fault → FilesFail change paths d (of_files fault)
 files_fail change paths d (files.Failed jobs) h = h
 files_fail change paths d files.NoMemory h = h
 

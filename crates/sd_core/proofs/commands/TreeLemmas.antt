@@ -1,25 +1,21 @@
 -- How a sweep's answer becomes that of a command on a tree.
-use Rattle.std.proofs.Common.{◌≡◌, ℕ, ap, subst, sym, ◌⊎◌, inl, inr, ◌^◌, List}
-use Rattle.std.specs.Prelude.{IsTrue, Result, Ok, Err}
-use Rattle.sd_io.specs.Tree.{Tree}
+use Rattle.std.proofs.Common.{◌≡◌, ℕ, ap, subst, ◌⊎◌, inl, inr, ◌^◌, List}
+use Rattle.std.specs.Prelude.{Result, Ok, Err}
 use Rattle.sd_io.specs.Outcomes.{content_at}
 use Rattle.sd_io.specs.Disk.{DiskState}
 use Rattle.sd_io.specs.Streams.{SinkState}
 use Rattle.sd_io.specs.Crashes.{LeavesSince}
 use Rattle.sd_change.specs.Change.{Change}
-use Rattle.sd_course.specs.Course.{Course}
+use Rattle.sd_course.specs.Course.{Course, SinkFailed}
 use Rattle.chosen_files.specs.Globs.{IsFirstInvalid}
-use Rattle.chosen_files.specs.Choice.{KeepsLists}
 use Rattle.many_files.specs.Files.{IsFreeBeside}
-use Rattle.many_files.specs.Rewritten.{LeavesEach, IsNewOne}
-use Rattle.sd_core.specs.Sweep.{IsChosenBelow, SweepFails, IsClear, IsSweepForMemory}
+use Rattle.many_files.specs.Rewritten.{IsNewOne}
+use Rattle.sd_core.specs.Sweep.{IsChosenBelow, Sweeps}
 use Rattle.many_files.specs.declared.report.Report.{Report}
-use Rattle.sd_core.specs.declared.sweep_fault.SweepFault.{SweepFault}
-use Rattle.sd_core.specs.declared.sweep_fault.SweepFault.TheVariants as sweep
-use Rattle.sd_core.specs.Errors.{of_sweep}
 use Rattle.sd_core.specs.Run.{IsOrMemory}
-use Rattle.sd_core.specs.TreeCommand.{TreeCommand, TreeFails, IsForMemory, CrashesLeave}
+use Rattle.sd_core.specs.TreeCommand.{TreeCommand, TreeEnds, IsDoneOrForMemory, CrashesLeave}
 use Rattle.sd_core.specs.declared.error.Error.{Error}
+use Rattle.sd_core.specs.declared.error.Error.TheVariants as error
 use Rattle.sd_core.specs.declared.ended.Why.{Why}
 use Rattle.sd_core.specs.declared.ended.Why.TheVariants as why
 
@@ -29,67 +25,58 @@ pub of_images : (change : Change) (root : List ℕ) (globs : List (List ℕ)) (o
     → CrashesLeave change root globs old new
 of_images change root globs old new since image (k, low, high, all) q = since.each k low high q (content_at image q) (all q)
 
--- the causes are the same
-pub tree_fails : (change : Change) (root : List ℕ) (globs : List (List ℕ)) (d : Course DiskState) (fault : SweepFault)
-    → SweepFails change root globs (2 ^ 32) d fault → TreeFails change root globs d (of_sweep fault)
-tree_fails change root globs d (sweep.BadGlob place) h = h
-tree_fails change root globs d sweep.RootMissing h = h
-tree_fails change root globs d (sweep.Walk failed) h = h
-tree_fails change root globs d sweep.TooMany h = h
-tree_fails change root globs d (sweep.Failed jobs) h = h
-tree_fails change root globs d sweep.NoMemory h = h
+-- ---- an answer's error
 
-pub for_memory : (tree : Tree) (fault : SweepFault) → IsSweepForMemory tree fault → IsForMemory tree (of_sweep fault)
-for_memory tree (sweep.BadGlob place) h = h
-for_memory tree sweep.RootMissing h = h
-for_memory tree (sweep.Walk failed) h = h
-for_memory tree sweep.TooMany h = h
-for_memory tree (sweep.Failed jobs) h = h
-for_memory tree sweep.NoMemory h = h
+abbrev pub failing : Error → Result Report Error
+failing failed = Err failed
 
--- ---- an answer's fault
-
-abbrev pub failing : SweepFault → Result Report SweepFault
-failing fault = Err fault
-
-abbrev pub doing : Report → Result Report SweepFault
+abbrev pub doing : Report → Result Report Error
 doing report = Ok report
 
-why_of : Result Report SweepFault → Why
+why_of : Result Report Error → Why
 why_of (Ok report) = why.Done
-why_of (Err fault) = why.Fault (of_sweep fault)
+why_of (Err failed) = why.Fault failed
 
-pub or_memory : (fault expected : SweepFault) → (failing fault ≡ failing expected) ⊎ (failing fault ≡ failing sweep.NoMemory)
-    → IsOrMemory (why.Fault (of_sweep expected)) (why.Fault (of_sweep fault))
+pub or_memory : (failed expected : Error) → (failing failed ≡ failing expected) ⊎ (failing failed ≡ failing error.NoMemory) → IsOrMemory (why.Fault expected) (why.Fault failed)
 unfolding why_of
-or_memory fault expected (inl same) = inl (ap why_of same)
-or_memory fault expected (inr same) = inr (ap why_of same)
+or_memory failed expected (inl same) = inl (ap why_of same)
+or_memory failed expected (inr same) = inr (ap why_of same)
 
-IsDone : Result Report SweepFault → Type 0
+IsDone : Result Report Error → Type 0
 IsDone (Ok report) = Unit {0}
-IsDone (Err fault) = ⊥
+IsDone (Err failed) = ⊥
 
-pub not_done : (report : Report) (one other : SweepFault) → (doing report ≡ failing one) ⊎ (doing report ≡ failing other) → ⊥
+pub not_done : (report : Report) (one other : Error) → (doing report ≡ failing one) ⊎ (doing report ≡ failing other) → ⊥
 unfolding IsDone
 not_done report one other (inl same) = subst IsDone same tt
 not_done report one other (inr same) = subst IsDone same tt
 
--- ---- a refused sweep
+-- ---- how a sweep ends a command
 
-pub refused : (change : Change) (root : List ℕ) (globs : List (List ℕ)) (d : Course DiskState) (out : Course SinkState) (failed : Error) (fault : SweepFault)
-    → failed ≡ of_sweep fault → SweepFails change root globs (2 ^ 32) d fault
-    → ((place : ℕ) → IsFirstInvalid globs place → (failing fault ≡ failing (sweep.BadGlob place)) ⊎ (failing fault ≡ failing sweep.NoMemory))
-    → (IsTrue d.tells → LeavesEach (IsChosenBelow d.old.tree root globs) change d.old.tree d.new.tree)
-    → (IsTrue d.tells → LeavesSince (IsNewOne (IsChosenBelow d.old.tree root globs) change d.old.tree) (IsFreeBeside (IsChosenBelow d.old.tree root globs) d.old.tree) d.old d.new)
-    → KeepsLists 10 d.old d.new → (IsClear root globs (2 ^ 32) d → IsSweepForMemory d.new.tree fault)
+-- it was refused
+pub refused : (change : Change) (root : List ℕ) (globs : List (List ℕ)) (d : Course DiskState) (out : Course SinkState) (failed : Error) → Sweeps change root globs (2 ^ 32) (failing failed) d
+    → ((place : ℕ) → IsFirstInvalid globs place → (failing failed ≡ failing (error.BadGlob place)) ⊎ (failing failed ≡ failing error.NoMemory))
     → TreeCommand change root globs d out (why.Fault failed)
-refused change root globs d out failed fault is fails bad however crash lists complete =
-    subst (λ f. TreeCommand change root globs d out (why.Fault f)) (sym is) (record {
-      ends = tree_fails change root globs d fault fails;
-      bad_glob = λ place invalid. or_memory fault (sweep.BadGlob place) (bad place invalid);
-      however = however;
-      crash = λ told. of_images change root globs d.old d.new (crash told);
-      durable = λ told carried. absurd carried;
-      lists = lists;
-      complete = λ clear no. for_memory d.new.tree fault (complete clear);
-    })
+refused change root globs d out failed s bad = record {
+  ends = s.fails;
+  bad_glob = λ place invalid. or_memory failed (error.BadGlob place) (bad place invalid);
+  however = s.however;
+  crash = λ told. of_images change root globs d.old d.new (s.crash told);
+  durable = λ told carried. absurd carried;
+  lists = s.lists;
+  complete = λ clear no. s.complete clear;
+}
+
+-- it is done
+pub done : (change : Change) (root : List ℕ) (globs : List (List ℕ)) (d : Course DiskState) (out : Course SinkState) (report : Report) (ended : Why) → Sweeps change root globs (2 ^ 32) (doing report) d
+    → ((place : ℕ) → IsFirstInvalid globs place → (doing report ≡ failing (error.BadGlob place)) ⊎ (doing report ≡ failing error.NoMemory))
+    → TreeEnds change root globs d out ended → ((SinkFailed out → ⊥) → IsDoneOrForMemory d.new.tree ended) → TreeCommand change root globs d out ended
+done change root globs d out report ended s bad ends complete = record {
+  ends = ends;
+  bad_glob = λ place invalid. absurd (not_done report _ _ (bad place invalid));
+  however = s.however;
+  crash = λ told. of_images change root globs d.old d.new (s.crash told);
+  durable = λ told carried. s.durable told;
+  lists = s.lists;
+  complete = λ clear. complete;
+}

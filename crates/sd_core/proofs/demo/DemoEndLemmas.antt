@@ -23,10 +23,10 @@ use Rattle.chosen_files.proofs.PlaceLemmas.{In, in_from_contains, in_left, in_ri
 use Rattle.many_files.specs.Rewritten.{LeavesEach}
 use Rattle.many_files.specs.Jobs.{Job, failed_of, is_in_folder, WantMemory}
 use Rattle.many_files.specs.Turns.{path_of, fault_of}
-use Rattle.sd_core.specs.Sweep.{IsChosenBelow, RewritesTree, FailsTree, SweepFails, IsClear, IsSweepForMemory}
+use Rattle.sd_core.specs.Sweep.{IsChosenBelow, RewritesTree, FailsTree, SweepFails, IsClear, IsForMemory}
 use Rattle.many_files.specs.declared.report.Report.{Report}
-use Rattle.sd_core.specs.declared.sweep_fault.SweepFault.{SweepFault}
-use Rattle.sd_core.specs.declared.sweep_fault.SweepFault.TheVariants as sweep
+use Rattle.sd_core.specs.declared.error.Error.{Error}
+use Rattle.sd_core.specs.declared.error.Error.TheVariants as error
 use Rattle.many_files.proofs.WayLemmas.{KeepsWays, still_leads}
 use Rattle.demo_tree.specs.Demo.{demo_place, IsDemo}
 use Rattle.sd_core.specs.Demo.{CountsDemo, DemoWantsMemory, DemoFails}
@@ -74,7 +74,7 @@ module _ (change : Change) (n : ℕ) (globs : List (List ℕ)) (old new : DiskSt
     counts = r.files.counts;
   }
 
-  pub reports_demo : (result : Result Report SweepFault) → IfOk result (λ report. RewritesTree change (path_text demo_place) globs report old new) → IfOk result (CountsDemo change n globs)
+  pub reports_demo : (result : Result Report Error) → IfOk result (λ report. RewritesTree change (path_text demo_place) globs report old new) → IfOk result (CountsDemo change n globs)
   reports_demo (Ok report) r = counts_demo report r
   reports_demo (Err fault) r = tt
 
@@ -164,36 +164,46 @@ module _ (change : Change) (n : ℕ) (globs : List (List ℕ)) (old new : DiskSt
 
     -- ---- why a demo is refused
 
-    pub for_memory : (fault : SweepFault) → SweepFails change (path_text demo_place) globs (2 ^ 32) (course true old new) fault → IsSweepForMemory new.tree fault → DemoWantsMemory n fault
-    for_memory (sweep.Failed jobs) f want = (f.some, (old.tree, demo, wanted_memory jobs (f.files refl) want))
-    for_memory sweep.NoMemory f want = tt
-    for_memory (sweep.BadGlob place) f want = want
-    for_memory sweep.RootMissing f want = want
-    for_memory (sweep.Walk failed) f want = want
-    for_memory sweep.TooMany f want = want
+    pub for_memory : (fault : Error) → SweepFails change (path_text demo_place) globs (2 ^ 32) (course true old new) fault → IsForMemory new.tree fault → DemoWantsMemory n fault
+    for_memory (error.FailedProcessing jobs) f want = (f.some, (old.tree, demo, wanted_memory jobs (f.files refl) want))
+    for_memory error.NoMemory f want = tt
+    for_memory (error.Regex refused) f want = want
+    for_memory (error.File fault) f want = want
+    for_memory (error.InvalidPath path) f want = want
+    for_memory (error.InvalidReplaceCapture capture) f want = want
+    for_memory (error.BadGlob place) f want = want
+    for_memory error.RootMissing f want = want
+    for_memory (error.Walk failed) f want = want
+    for_memory error.TooMany f want = want
+    for_memory error.InputTooLong f want = want
 
-    pub refused_for_memory : (result : Result Report SweepFault) → IfErr result (SweepFails change (path_text demo_place) globs (2 ^ 32) (course true old new)) → IfErr result (IsSweepForMemory new.tree)
+    pub refused_for_memory : (result : Result Report Error) → IfErr result (SweepFails change (path_text demo_place) globs (2 ^ 32) (course true old new)) → IfErr result (IsForMemory new.tree)
         → IfErr result (DemoWantsMemory n)
     refused_for_memory (Ok report) f want = tt
     refused_for_memory (Err fault) f want = for_memory fault f want
 
-as_refusal : (n : ℕ) (globs : List (List ℕ)) (fault : SweepFault) → DemoWantsMemory n fault → DemoFails n globs fault
-as_refusal n globs (sweep.Failed jobs) m = m
-as_refusal n globs sweep.NoMemory m = tt
-as_refusal n globs (sweep.BadGlob place) m = absurd m
-as_refusal n globs sweep.RootMissing m = m
-as_refusal n globs (sweep.Walk failed) m = m
-as_refusal n globs sweep.TooMany m = m
+as_refusal : (n : ℕ) (globs : List (List ℕ)) (fault : Error) → DemoWantsMemory n fault → DemoFails n globs fault
+as_refusal n globs (error.FailedProcessing jobs) m = m
+as_refusal n globs error.NoMemory m = tt
+as_refusal n globs (error.Regex refused) m = m
+as_refusal n globs (error.File fault) m = m
+as_refusal n globs (error.InvalidPath path) m = m
+as_refusal n globs (error.InvalidReplaceCapture capture) m = m
+as_refusal n globs (error.BadGlob place) m = absurd m
+as_refusal n globs error.RootMissing m = m
+as_refusal n globs (error.Walk failed) m = m
+as_refusal n globs error.TooMany m = m
+as_refusal n globs error.InputTooLong m = m
 
 -- by its first invalid glob
-told_so : (n : ℕ) (globs : List (List ℕ)) (place : ℕ) (fault : SweepFault) (result : Result Report SweepFault) → IsFirstInvalid globs place → result ≡ Err fault
-    → (result ≡ Err (sweep.BadGlob place)) ⊎ (result ≡ Err sweep.NoMemory) → DemoFails n globs fault
-told_so n globs place fault result at is (inl e) = let one : fault ≡ sweep.BadGlob place = cc in subst (DemoFails n globs) (sym one) at
-told_so n globs place fault result at is (inr e) = let one : fault ≡ sweep.NoMemory = cc in subst (DemoFails n globs) (sym one) tt
+told_so : (n : ℕ) (globs : List (List ℕ)) (place : ℕ) (fault : Error) (result : Result Report Error) → IsFirstInvalid globs place → result ≡ Err fault
+    → (result ≡ Err (error.BadGlob place)) ⊎ (result ≡ Err error.NoMemory) → DemoFails n globs fault
+told_so n globs place fault result at is (inl e) = let one : fault ≡ error.BadGlob place = cc in subst (DemoFails n globs) (sym one) at
+told_so n globs place fault result at is (inr e) = let one : fault ≡ error.NoMemory = cc in subst (DemoFails n globs) (sym one) tt
 
 -- or for want of memory, where all are valid
-pub refused_so : (n : ℕ) (globs : List (List ℕ)) (result : Result Report SweepFault)
-    → ((place : ℕ) → IsFirstInvalid globs place → (result ≡ Err (sweep.BadGlob place)) ⊎ (result ≡ Err sweep.NoMemory))
+pub refused_so : (n : ℕ) (globs : List (List ℕ)) (result : Result Report Error)
+    → ((place : ℕ) → IsFirstInvalid globs place → (result ≡ Err (error.BadGlob place)) ⊎ (result ≡ Err error.NoMemory))
     → (All IsValid globs → IfErr result (DemoWantsMemory n)) → IfErr result (DemoFails n globs)
 refused_so n globs (Ok report) bad_glob complete = tt
 refused_so n globs (Err fault) bad_glob complete = elim (all_or_first globs) [

@@ -1,17 +1,17 @@
 -- A sweep, of its choice and the rewriting of what was chosen.
 use Rattle.std.proofs.Common.{◌≡◌, ◌⊎◌, ℕ, zero, suc, ◌≤◌, Bool, List, [], ◌∷◌, refl, sym, ◌∙◌, ap, subst, inl, inr, arith}
-use Rattle.std.specs.Prelude.{Option, Some, None, IsTrue, Contains, All, Result, Ok, Err, IsErrAnd, IfErr, sum_by}
+use Rattle.std.specs.Prelude.{Option, Some, None, IsSome, IsTrue, Contains, All, Result, Ok, Err, IsErrAnd, IfErr, sum_by}
 use Rattle.std.proofs.lemmas.Option.{same_Some}
 use Rattle.std.proofs.lemmas.List.Elements.{All-weaker, All-contains, All-head, All-tail}
 use Rattle.sd_io.specs.Tree.{NameList, Content, Tree, node_at, file_at}
-use Rattle.sd_io.specs.Paths.{parent_of}
+use Rattle.sd_io.specs.Paths.{reached, parent_of}
 use Rattle.sd_io.specs.Files.{file_of}
 use Rattle.sd_io.specs.Disk.{DiskState, SameTree}
 use Rattle.sd_io.specs.Crashes.{LeavesSince, IsDurable}
 use Rattle.sd_io.specs.declared.fault.DiskFault.TheVariants as disk
 use Rattle.sd_io.proofs.CrashLemmas.{since_same, since_then, since_more}
 use Rattle.sd_change.specs.Change.{Change}
-use Rattle.sd_course.specs.Course.{course, HasRisenBy}
+use Rattle.sd_course.specs.Course.{course, HasRisenBy, DiskFailed}
 use Rattle.file_exchange.specs.Reserved.{Free}
 use Rattle.file_exchange.proofs.CauseLemmas.{risen_since}
 use Rattle.file_rewrite.specs.Rewritten.{IsNew, IsOld, IsLeft, IsNewFile, IsChangedFile}
@@ -20,6 +20,9 @@ use Rattle.file_rewrite.specs.declared.fault.JobFault.TheVariants as job
 use Rattle.chosen_files.specs.Chosen.{IsChosen, IsPathBelow, ListsChosen}
 use Rattle.chosen_files.specs.Globs.{IsValid, IsFirstInvalid}
 use Rattle.chosen_files.specs.Below.{HasFewerBelow}
+use Rattle.chosen_files.specs.Choice.{KeepsLists, ChoiceFails}
+use Rattle.chosen_files.specs.declared.fault.ChoiceFault.{ChoiceFault}
+use Rattle.chosen_files.specs.declared.fault.ChoiceFault.TheVariants as choice_fault
 use Rattle.chosen_files.specs.declared.globs.GlobsError.{GlobsError}
 use Rattle.chosen_files.specs.declared.globs.GlobsError.TheVariants as globs_error
 use Rattle.many_files.specs.Files.{ListsFiles, IsFreeBeside, HasRoom}
@@ -27,16 +30,20 @@ use Rattle.many_files.specs.Rewritten.{KeepsNode, IsRewritten, LeavesEach, IsNew
 use Rattle.many_files.specs.Counts.{Counts, RewritesFiles}
 use Rattle.many_files.specs.Jobs.{Job, faults_needed, HasJobCause, IsCrowdedOut, HaveCauses}
 use Rattle.many_files.specs.Turns.{Turn, faults_of_turn, EndsSo, IsTurn, FailsFiles}
-use Rattle.many_files.specs.Ends.{FailsJobs, FilesFail, IsForMemory}
-use Rattle.sd_core.specs.Sweep.{IsChosenBelow, RewritesTree, FailsSomeBelow, SweepFails, IsSweepForMemory}
-use Rattle.sd_core.specs.SweepFaults.{sweep_of_globs, sweep_of_files}
+use Rattle.many_files.specs.InTurn.{FailsSome, FilesFail}
+use Rattle.many_files.specs.Clear.{AreFilesClear}
+use Rattle.many_files.specs.Ends.{FailsListed, RewritesListed, IsForMemory as FilesForMemory}
+use Rattle.sd_core.specs.Sweep.{IsChosenBelow, RewritesTree, FailsSomeBelow, SweepFails, IsClear, IsForMemory, Sweeps}
+use Rattle.sd_core.specs.Errors.{of_globs, of_choice, of_files}
 use Rattle.many_files.specs.declared.report.Report.{Report}
 use Rattle.many_files.specs.declared.fault.FilesFault.{FilesFault}
 use Rattle.many_files.specs.declared.fault.FilesFault.TheVariants as files_fault
-use Rattle.sd_core.specs.declared.sweep_fault.SweepFault.TheVariants as sweep
+use Rattle.sd_core.specs.declared.error.Error.{Error}
+use Rattle.sd_core.specs.declared.error.Error.TheVariants as error
 use Rattle.file_rewrite.specs.Paths.{IsNoPath}
 use Rattle.sd_io.specs.Tree.{IsTree}
 use Rattle.many_files.proofs.TurnLemmas.{left_before}
+use Rattle.many_files.proofs.ListedLemmas.{listed_clear, by_paths, jobs_name_files}
 use Rattle.sd_core.proofs.sweeping.NamedLemmas.{lists_files, all_named}
 
 -- ---- faults of steps
@@ -64,17 +71,17 @@ none_first (glob ∷ globs) zero all at = at (All-head IsValid glob globs all)
 none_first (glob ∷ globs) (suc p) all at = none_first globs p (All-tail IsValid glob globs all) at.1
 
 module _ (globs : List (List ℕ)) (why : GlobsError) (first : (place : ℕ) → why ≡ globs_error.Invalid place → IsFirstInvalid globs place) where
-  pub globs_told : (place : ℕ) → IsFirstInvalid globs place → (sweep_of_globs why ≡ sweep.BadGlob place) ⊎ (sweep_of_globs why ≡ sweep.NoMemory)
+  pub globs_told : (place : ℕ) → IsFirstInvalid globs place → (of_globs why ≡ error.BadGlob place) ⊎ (of_globs why ≡ error.NoMemory)
   globs_told place at = by why refl
     where
-      by : (e : GlobsError) → why ≡ e → (sweep_of_globs e ≡ sweep.BadGlob place) ⊎ (sweep_of_globs e ≡ sweep.NoMemory)
-      by (globs_error.Invalid p) e = inl (ap sweep.BadGlob (one_first globs p place (first p e) at))
+      by : (e : GlobsError) → why ≡ e → (of_globs e ≡ error.BadGlob place) ⊎ (of_globs e ≡ error.NoMemory)
+      by (globs_error.Invalid p) e = inl (ap error.BadGlob (one_first globs p place (first p e) at))
       by globs_error.NoMemory e = inr refl
 
-  pub globs_for_memory : (tree : Tree) → All IsValid globs → IsSweepForMemory tree (sweep_of_globs why)
+  pub globs_for_memory : (tree : Tree) → All IsValid globs → IsForMemory tree (of_globs why)
   globs_for_memory tree valid = by why refl
     where
-      by : (e : GlobsError) → why ≡ e → IsSweepForMemory tree (sweep_of_globs e)
+      by : (e : GlobsError) → why ≡ e → IsForMemory tree (of_globs e)
       by (globs_error.Invalid p) e = absurd (none_first globs p valid (first p e))
       by globs_error.NoMemory e = tt
 
@@ -213,35 +220,6 @@ module _ (change : Change) (s0 s1 s2 : DiskState) (same : SameTree s0 s1) where
     pub room_for : HasRoom (IsChosenBelow s0.tree root globs) s0.tree → HasRoom (Contains chosen.places) s1.tree
     room_for room place c = let (q, free) = room place (chosen_by place c) in (q, subst (λ (t : Tree). Free t (parent_of place) q) (sym same.tree) free)
 
--- ---- files that failed
-
-module _ (change : Change) (s0 s1 s2 : DiskState) (same : SameTree s0 s1) (root : List ℕ) (globs paths : List (List ℕ)) (cap : ℕ) (tells : Bool) (low : s0.faults ≤ s1.faults)
-    (chosen : IsTrue tells → ListsChosen s0.tree root globs paths) (few : IsTrue tells → HasFewerBelow cap s0.tree root)
-    (listed : (told : IsTrue tells) → ListsFiles s1.tree paths (chosen told).places) (below : All (IsPathBelow root) paths) where
-  failed_below : (jobs : List Job) → FailsJobs change paths (course tells s1 s2) jobs → FailsSomeBelow change root globs cap (course tells s0 s2) jobs
-  failed_below jobs f = record {
-    some = f.some;
-    few = few;
-    files = λ told. record {
-      paths = paths;
-      chosen = chosen told;
-      files = fails_from change s0 s1 s2 same paths (chosen told).places jobs low (f.files told (chosen told).places (listed told));
-    };
-    causes = causes_from change s0 s1 s2 same tells low jobs f.causes;
-    name_files = f.name_files;
-    below_root =
-        All-weaker (λ (failed : Job). Contains paths failed.0) (λ (failed : Job). IsPathBelow root failed.0)
-        (λ failed there. All-contains (IsPathBelow root) paths failed.0 below there) jobs f.by_paths;
-  }
-
-  pub files_fail : (why : FilesFault) → FilesFail change paths (course tells s1 s2) why → SweepFails change root globs cap (course tells s0 s2) (sweep_of_files why)
-  files_fail (files_fault.Failed jobs) f = failed_below jobs f
-  files_fail files_fault.NoMemory f = subst (SameTree s0) (sym f) same
-
-pub files_for_memory : (tree : Tree) (why : FilesFault) → IsForMemory tree why → IsSweepForMemory tree (sweep_of_files why)
-files_for_memory tree (files_fault.Failed jobs) f = f
-files_for_memory tree files_fault.NoMemory f = tt
-
 -- ---- the paths that are handed on
 
 pub chosen_kept : (tree : Tree) (is : IsTree tree) (root : List ℕ) (globs read paths kept : List (List ℕ)) → read ≡ globs → ListsChosen tree root read paths
@@ -252,3 +230,120 @@ chosen_kept tree is root globs read paths kept same listed keeps =
 
 pub listed_at : (s0 s1 : DiskState) → SameTree s0 s1 → IsTree s0.tree → (root : List ℕ) (globs paths : List (List ℕ)) (chosen : ListsChosen s0.tree root globs paths) → ListsFiles s1.tree paths chosen.places
 listed_at s0 s1 same is root globs paths chosen = subst (λ (t : Tree). ListsFiles t paths chosen.places) (sym same.tree) (lists_files s0.tree is root globs paths chosen)
+
+-- ---- refused before anything is written
+
+pub refused_early : (change : Change) (s0 s1 : DiskState) (root : List ℕ) (globs : List (List ℕ)) (cap : ℕ) (tells : Bool) (failed : Error) → SameTree s0 s1 → KeepsLists 10 s0 s1 → s0.faults ≤ s1.faults
+    → SweepFails change root globs cap (course tells s0 s1) failed → (IsClear root globs cap (course tells s0 s1) → IsForMemory s1.tree failed) → Sweeps change root globs cap (Err failed) (course tells s0 s1)
+refused_early change s0 s1 root globs cap tells failed same lists low fails complete = record {
+  rewritten = λ told. tt;
+  few = λ told. tt;
+  fails = fails;
+  however = λ told q. inl (ap (λ (t : Tree). node_at t q) same.tree);
+  crash = λ told. since_same (IsNewOne (IsChosenBelow s0.tree root globs) change s0.tree) (IsFreeBeside (IsChosenBelow s0.tree root globs) s0.tree) s0 s1 same;
+  durable = λ told. tt;
+  lists = lists;
+  never_falls = low;
+  complete = complete;
+}
+
+-- nothing changed
+stays : (s : DiskState) → SameTree s s
+stays s = record { tree = refl; clock = refl; outcomes = refl }
+
+-- by the globs
+pub globs_refused : (change : Change) (s : DiskState) (root : List ℕ) (globs : List (List ℕ)) (cap : ℕ) (tells : Bool) (why : GlobsError)
+    → ((place : ℕ) → why ≡ globs_error.Invalid place → IsFirstInvalid globs place) → KeepsLists 10 s s → Sweeps change root globs cap (Err (of_globs why)) (course tells s s)
+globs_refused change s root globs cap tells why first lists =
+    refused_early change s s root globs cap tells (of_globs why) (stays s) lists (omega arith) (by why refl) (λ clear. globs_for_memory globs why first s.tree clear.valid)
+  where
+    by : (e : GlobsError) → why ≡ e → SweepFails change root globs cap (course tells s s) (of_globs e)
+    by (globs_error.Invalid p) e = (first p e, refl)
+    by globs_error.NoMemory e = stays s
+
+-- by the choice
+pub choice_refused : (change : Change) (s0 s1 : DiskState) (root : List ℕ) (globs : List (List ℕ)) (cap : ℕ) (tells : Bool) (why : ChoiceFault) → SameTree s0 s1 → KeepsLists 10 s0 s1 → s0.faults ≤ s1.faults
+    → ChoiceFails root cap (course tells s0 s1) why
+    → (IsTrue tells → IsSome (reached s0.tree root true) → HasFewerBelow cap s0.tree root → (DiskFailed (course tells s0 s1) → ⊥) → why ≡ choice_fault.NoMemory)
+    → Sweeps change root globs cap (Err (of_choice why)) (course tells s0 s1)
+choice_refused change s0 s1 root globs cap tells why same lists low fails complete =
+    refused_early change s0 s1 root globs cap tells (of_choice why) same lists low (by why fails)
+    (λ clear. subst (λ (w : ChoiceFault). IsForMemory s1.tree (of_choice w)) (sym (complete clear.told clear.leads clear.few clear.no_fault)) tt)
+  where
+    by : (w : ChoiceFault) → ChoiceFails root cap (course tells s0 s1) w → SweepFails change root globs cap (course tells s0 s1) (of_choice w)
+    by choice_fault.RootMissing f = (same, f)
+    by (choice_fault.Walk failed) f = (same, f)
+    by choice_fault.TooMany f = (same, f)
+    by choice_fault.NoMemory f = same
+
+-- ---- the chosen files were rewritten, or some failed
+
+-- how a sweep answers what the rewriting answers
+abbrev pub answered : Result Report FilesFault → Result Report Error
+answered (Ok report) = Ok report
+answered (Err fault) = Err (of_files fault)
+
+module _ (change : Change) (s0 s1 s2 : DiskState) (same : SameTree s0 s1) (root : List ℕ) (globs paths : List (List ℕ)) (cap : ℕ) (tells : Bool) (low : s0.faults ≤ s1.faults)
+    (is_tree : IsTrue tells → IsTree s0.tree) (chosen : IsTrue tells → ListsChosen s0.tree root globs paths) (few : IsTrue tells → HasFewerBelow cap s0.tree root)
+    (below : All (IsPathBelow root) paths) (named : All (λ path. IsNoPath path → ⊥) paths) where
+  at_now : (told : IsTrue tells) → ListsFiles s1.tree paths (chosen told).places
+  at_now told = listed_at s0 s1 same (is_tree told) root globs paths (chosen told)
+
+  failed_below : (jobs : List Job) → FailsSome change paths (course tells s1 s2) jobs → ((told : IsTrue tells) → FailsFiles change paths (chosen told).places jobs s1 s2)
+      → FailsSomeBelow change root globs cap (course tells s0 s2) jobs
+  failed_below jobs f files =
+      let of = by_paths change paths (course tells s1 s2) jobs f in
+      record {
+        some = f.some;
+        few = few;
+        files = λ told. record {
+          paths = paths;
+          chosen = chosen told;
+          files = fails_from change s0 s1 s2 same paths (chosen told).places jobs low (files told);
+        };
+        causes = causes_from change s0 s1 s2 same tells low jobs f.causes;
+        name_files = jobs_name_files paths named (course tells s1 s2) jobs f.causes.causes of;
+        below_root =
+            All-weaker (λ (failed : Job). Contains paths failed.0) (λ (failed : Job). IsPathBelow root failed.0)
+            (λ failed there. All-contains (IsPathBelow root) paths failed.0 below there) jobs of;
+      }
+
+  files_fail : (why : FilesFault) → FilesFail change paths (course tells s1 s2) why → ((told : IsTrue tells) → FailsListed change paths (chosen told).places s1 s2 why)
+      → SweepFails change root globs cap (course tells s0 s2) (of_files why)
+  files_fail (files_fault.Failed jobs) f files = failed_below jobs f files
+  files_fail files_fault.NoMemory f files = subst (SameTree s0) (sym f) same
+
+  for_memory : (why : FilesFault) → FilesForMemory s2.tree why → IsForMemory s2.tree (of_files why)
+  for_memory (files_fault.Failed jobs) f = f
+  for_memory files_fault.NoMemory f = tt
+
+  are_clear : s1.faults ≤ s2.faults → IsClear root globs cap (course tells s0 s2) → AreFilesClear paths (course tells s1 s2)
+  are_clear lower clear =
+      listed_clear tells s1 s2 paths (chosen clear.told).places (subst IsTree (sym same.tree) (is_tree clear.told)) (at_now clear.told)
+      (room_for change s0 s1 s2 same root globs paths (chosen clear.told) clear.room) (λ rose. clear.no_fault (risen_since s0.faults s1.faults s2.faults low rose))
+
+  pub sweeps_end : (r : Result Report FilesFault) → KeepsLists 10 s0 s2 → s1.faults ≤ s2.faults → IfErr r (FilesFail change paths (course tells s1 s2))
+      → (IsTrue tells → (places : List NameList) → ListsFiles s1.tree paths places → RewritesListed change paths places r s1 s2)
+      → (AreFilesClear paths (course tells s1 s2) → IfErr r (FilesForMemory s2.tree)) → Sweeps change root globs cap (answered r) (course tells s0 s2)
+  sweeps_end (Ok report) lists lower fails listed complete = record {
+    rewritten = λ told. rewrites_tree change s0 s1 s2 same root globs paths (chosen told) report (listed told (chosen told).places (at_now told)).rewritten;
+    few = few;
+    fails = tt;
+    however = λ told. left_from change s0 s1 s2 same root globs paths (chosen told) (listed told (chosen told).places (at_now told)).however;
+    crash = λ told. crash_from change s0 s1 s2 same root globs paths (chosen told) (listed told (chosen told).places (at_now told)).crash;
+    durable = λ told. durable_from change s0 s1 s2 same root globs paths (chosen told) (listed told (chosen told).places (at_now told)).durable;
+    lists = lists;
+    never_falls = omega (arith, low, lower);
+    complete = λ clear. tt;
+  }
+  sweeps_end (Err fault) lists lower fails listed complete = record {
+    rewritten = λ told. tt;
+    few = λ told. tt;
+    fails = files_fail fault fails (λ told. (listed told (chosen told).places (at_now told)).failed);
+    however = λ told. left_from change s0 s1 s2 same root globs paths (chosen told) (listed told (chosen told).places (at_now told)).however;
+    crash = λ told. crash_from change s0 s1 s2 same root globs paths (chosen told) (listed told (chosen told).places (at_now told)).crash;
+    durable = λ told. tt;
+    lists = lists;
+    never_falls = omega (arith, low, lower);
+    complete = λ clear. for_memory fault (complete (are_clear lower clear));
+  }

@@ -1,7 +1,7 @@
 use Rattle.std.proofs.Common.{◌∷◌, [], refl, inl, inr}
 use Rattle.std.proofs.lemmas.List.Elements.{All-nil, All-cons}
 use Rattle.file_rewrite.specs.Paths.{IsNoPath}
-use Rattle.named_files.specs.Clear.{LeadsToFile}
+use Rattle.many_files.specs.Clear.{LeadsToFile}
 use Rattle.named_files.specs.Examples.{a_path, b_path}
 use Rattle.named_files.proofs.examples.named_files_are_shown_as_in_the_examples.Goals as goal
 

@@ -4,4 +4,4 @@ use Rattle.sd_core.proofs.commands.demo_command.Goals as goal
 pub returns-in-Err-clause-demo : goal.returns-in-Err-clause-demo
 returns-in-Err-clause-demo g c =
     let e = c.in-Err.ensures in
-    refused_demo _ _ _ _ _ c.in-Err.fault c.from.ensures e.fails e.bad_glob e.complete
+    refused_demo _ _ _ _ c.in-Err.error e.fails e.bad_glob e.complete

@@ -10,7 +10,7 @@ returns-clause-counted g c =
     let old = faultless_state c.new-disk.result in
     let demo : IsDemo c.args.n old.tree = subst (λ (s : DiskState). IsDemo c.args.n s.tree) (sym c.new-disk.ensures) c.in-Ok.ensures.demo in
     reports_demo (g.R.Replaces.change c.args.replacer.now) c.args.n c.args.globs.now old (faultless_state c.sweep.new.disk) demo c.requires
-    c.sweep.result (c.sweep.ensures.rewritten refl)
+    c.sweep.result (c.sweep.ensures.sweeps.rewritten refl)
 
 pub returns-clause-complete : goal.returns-clause-complete
 returns-clause-complete g c = λ valid.
@@ -18,8 +18,8 @@ returns-clause-complete g c = λ valid.
     let new = faultless_state c.sweep.new.disk in
     let demo : IsDemo c.args.n old.tree = subst (λ (s : DiskState). IsDemo c.args.n s.tree) (sym c.new-disk.ensures) c.in-Ok.ensures.demo in
     refused_for_memory (g.R.Replaces.change c.args.replacer.now) c.args.n c.args.globs.now old new demo c.requires
-    (c.sweep.ensures.however refl) c.sweep.result c.sweep.ensures.fails
-    (c.sweep.ensures.complete (is_clear (g.R.Replaces.change c.args.replacer.now) c.args.n c.args.globs.now old new demo c.requires
+    (c.sweep.ensures.sweeps.however refl) c.sweep.result c.sweep.ensures.sweeps.fails
+    (c.sweep.ensures.sweeps.complete (is_clear (g.R.Replaces.change c.args.replacer.now) c.args.n c.args.globs.now old new demo c.requires
     c.new-disk.result.no_faults c.sweep.new.disk.no_faults valid))
 
 pub returns-clause-fails : goal.returns-clause-fails

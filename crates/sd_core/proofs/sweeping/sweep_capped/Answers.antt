@@ -1,7 +1,7 @@
-use Rattle.std.proofs.Common.{◌∙◌, ap, refl, inl, inr}
-use Rattle.std.specs.Prelude.{Err}
-use Rattle.file_exchange.proofs.CauseLemmas.{risen_since}
-use Rattle.sd_core.proofs.sweeping.SweepLemmas.{told_on, is_told, none_first, globs_told, globs_for_memory, rewrites_tree, left_from, crash_from, durable_from, room_for, files_fail, files_for_memory, chosen_kept, listed_at}
+use Rattle.std.proofs.Common.{◌∙◌, ap, refl, inl, inr, sym, subst, rules, arith}
+use Rattle.std.specs.Prelude.{Ok, Err}
+use Rattle.sd_core.specs.Sweep.{Sweeps}
+use Rattle.sd_core.proofs.sweeping.SweepLemmas.{is_told, none_first, globs_told, globs_for_memory, globs_refused, choice_refused, sweeps_end, chosen_kept}
 use Rattle.sd_core.proofs.sweeping.sweep_capped.Goals as goal
 
 -- ---- the globs
@@ -15,11 +15,6 @@ returns-in_err-globs-clause-bad_glob g c = λ place at. (
   ],
 )
 
-pub returns-in_err-globs-clause-complete : goal.returns-in_err-globs-clause-complete
-returns-in_err-globs-clause-complete g c = λ clear.
-    told_on _ c.from_residual.result _ c.from_residual.ensures.1
-    (globs_for_memory c.args.globs.now c.in_err-globs.field-0.0 (λ p e. c.in_err-globs.ensures.invalid p (ap Err e)) (g.D.Disk.state c.args.disk.now).tree clear.valid)
-
 pub returns-in_err-choice-clause-bad_glob : goal.returns-in_err-choice-clause-bad_glob
 returns-in_err-choice-clause-bad_glob g c = λ place at. absurd (none_first c.args.globs.now place c.in_ok-globs.ensures.valid at)
 
@@ -29,68 +24,44 @@ returns-in_err-report-clause-bad_glob g c = λ place at. absurd (none_first c.ar
 pub returns-clause-bad_glob : goal.returns-clause-bad_glob
 returns-clause-bad_glob g c = λ place at. absurd (none_first c.args.globs.now place c.in_ok-globs.ensures.valid at)
 
+pub returns-in_err-globs-clause-sweeps : goal.returns-in_err-globs-clause-sweeps
+returns-in_err-globs-clause-sweeps g c =
+    subst (λ r. Sweeps _ c.args.root.now c.args.globs.now c.args.cap r _) (sym (is_told c.from_residual.result _ c.from_residual.ensures.1))
+    (globs_refused (g.R.Replaces.change c.args.replacer.now) (g.D.Disk.state c.args.disk.now) c.args.root.now c.args.globs.now c.args.cap g.D.Disk.tells c.in_err-globs.field-0.0
+    (λ p e. c.in_err-globs.ensures.invalid p (ap Err e)) (search rules))
+
+-- ---- the choice
+
+pub returns-in_err-choice-clause-sweeps : goal.returns-in_err-choice-clause-sweeps
+returns-in_err-choice-clause-sweeps g c =
+    let e = c.in_err-choice.ensures in
+    subst (λ r. Sweeps _ c.args.root.now c.args.globs.now c.args.cap r _) (sym (is_told c.from_residual-in_err-choice.result _ c.from_residual-in_err-choice.ensures.1))
+    (choice_refused (g.R.Replaces.change c.args.replacer.now) (g.D.Disk.state c.args.disk.now) (g.D.Disk.state c.choose_capped.new.disk) c.args.root.now c.args.globs.now c.args.cap g.D.Disk.tells c.in_err-choice.field-0.0
+    e.tree e.lists e.faults e.refused e.complete)
+
 -- ---- the rewriting
 
-pub rewrite_each-requires-clause-files : goal.rewrite_each-requires-clause-files
-rewrite_each-requires-clause-files g c = λ told.
-    let chosen = chosen_kept (g.D.Disk.state c.args.disk.now).tree (g.met.D.Disk.is_tree c.args.disk.now told) c.args.root.now c.args.globs.now c.deref.result.now c.in_ok-choice.choice.paths.items c.keep_named-paths.result.items (c.deref.ensures.value ∙ c.in_ok-globs.ensures.read) (c.in_ok-choice.ensures.chosen told) c.keep_named-paths.ensures.all in
-    let listed = listed_at (g.D.Disk.state c.args.disk.now) (g.D.Disk.state c.choose_capped.new.disk) c.in_ok-choice.ensures.tree (g.met.D.Disk.is_tree c.args.disk.now told) c.args.root.now c.args.globs.now c.keep_named-paths.result.items chosen in
-    (chosen.places, listed)
+pub returns-in_err-report-clause-sweeps : goal.returns-in_err-report-clause-sweeps
+returns-in_err-report-clause-sweeps g c =
+    let s0 = g.D.Disk.state c.args.disk.now in
+    let is = λ told. g.met.D.Disk.is_tree c.args.disk.now told in
+    let root = c.args.root.now in
+    let globs = c.args.globs.now in
+    let paths = c.keep_named-paths.result.items in
+    let chosen = λ told. chosen_kept s0.tree (is told) root globs c.deref.result.now c.in_ok-choice.choice.paths.items paths (c.deref.ensures.value ∙ c.in_ok-globs.ensures.read) (c.in_ok-choice.ensures.chosen told) c.keep_named-paths.ensures.all in
+    subst (λ r. Sweeps _ root globs c.args.cap r _) (sym (is_told c.from_residual-in_err-report.result _ c.from_residual-in_err-report.ensures.1))
+    (sweeps_end (g.R.Replaces.change c.args.replacer.now) s0 (g.D.Disk.state c.choose_capped.new.disk) (g.D.Disk.state c.rewrite_each.new.disk) c.in_ok-choice.ensures.tree root globs paths c.args.cap g.D.Disk.tells
+    c.in_ok-choice.ensures.faults is chosen c.in_ok-choice.ensures.few (c.keep_named-paths.ensures.below root c.in_ok-choice.ensures.below_root) c.keep_named-paths.ensures.named
+    (Err c.in_err-report.field-0.0) (search rules) c.in_err-report.ensures.never_falls c.in_err-report.ensures.fails c.in_err-report.ensures.listed c.in_err-report.ensures.complete)
 
-pub returns-in_err-report-clause-fails : goal.returns-in_err-report-clause-fails
-returns-in_err-report-clause-fails g c =
-    told_on _ c.from_residual-in_err-report.result _ c.from_residual-in_err-report.ensures.1
-    (files_fail (g.R.Replaces.change c.args.replacer.now) (g.D.Disk.state c.args.disk.now) (g.D.Disk.state c.choose_capped.new.disk) (g.D.Disk.state c.rewrite_each.new.disk) c.in_ok-choice.ensures.tree c.args.root.now c.args.globs.now
-    c.keep_named-paths.result.items c.args.cap g.D.Disk.tells c.in_ok-choice.ensures.faults
-    (λ told. chosen_kept (g.D.Disk.state c.args.disk.now).tree (g.met.D.Disk.is_tree c.args.disk.now told) c.args.root.now c.args.globs.now c.deref.result.now c.in_ok-choice.choice.paths.items c.keep_named-paths.result.items (c.deref.ensures.value ∙ c.in_ok-globs.ensures.read) (c.in_ok-choice.ensures.chosen told) c.keep_named-paths.ensures.all)
-    c.in_ok-choice.ensures.few
-    (λ told. listed_at (g.D.Disk.state c.args.disk.now) (g.D.Disk.state c.choose_capped.new.disk) c.in_ok-choice.ensures.tree (g.met.D.Disk.is_tree c.args.disk.now told) c.args.root.now c.args.globs.now c.keep_named-paths.result.items
-    (chosen_kept (g.D.Disk.state c.args.disk.now).tree (g.met.D.Disk.is_tree c.args.disk.now told) c.args.root.now c.args.globs.now c.deref.result.now c.in_ok-choice.choice.paths.items c.keep_named-paths.result.items (c.deref.ensures.value ∙ c.in_ok-globs.ensures.read) (c.in_ok-choice.ensures.chosen told) c.keep_named-paths.ensures.all))
-    (c.keep_named-paths.ensures.below c.args.root.now c.in_ok-choice.ensures.below_root)
-    c.in_err-report.field-0.0 c.in_err-report.ensures.fails)
-
-pub returns-in_err-report-clause-however : goal.returns-in_err-report-clause-however
-returns-in_err-report-clause-however g c = λ told.
-    let chosen = chosen_kept (g.D.Disk.state c.args.disk.now).tree (g.met.D.Disk.is_tree c.args.disk.now told) c.args.root.now c.args.globs.now c.deref.result.now c.in_ok-choice.choice.paths.items c.keep_named-paths.result.items (c.deref.ensures.value ∙ c.in_ok-globs.ensures.read) (c.in_ok-choice.ensures.chosen told) c.keep_named-paths.ensures.all in
-    let listed = listed_at (g.D.Disk.state c.args.disk.now) (g.D.Disk.state c.choose_capped.new.disk) c.in_ok-choice.ensures.tree (g.met.D.Disk.is_tree c.args.disk.now told) c.args.root.now c.args.globs.now c.keep_named-paths.result.items chosen in
-    left_from (g.R.Replaces.change c.args.replacer.now) (g.D.Disk.state c.args.disk.now) (g.D.Disk.state c.choose_capped.new.disk) (g.D.Disk.state c.rewrite_each.new.disk) c.in_ok-choice.ensures.tree c.args.root.now c.args.globs.now c.keep_named-paths.result.items chosen (c.in_err-report.ensures.however told chosen.places listed)
-
-pub returns-in_err-report-clause-crash : goal.returns-in_err-report-clause-crash
-returns-in_err-report-clause-crash g c = λ told.
-    let chosen = chosen_kept (g.D.Disk.state c.args.disk.now).tree (g.met.D.Disk.is_tree c.args.disk.now told) c.args.root.now c.args.globs.now c.deref.result.now c.in_ok-choice.choice.paths.items c.keep_named-paths.result.items (c.deref.ensures.value ∙ c.in_ok-globs.ensures.read) (c.in_ok-choice.ensures.chosen told) c.keep_named-paths.ensures.all in
-    let listed = listed_at (g.D.Disk.state c.args.disk.now) (g.D.Disk.state c.choose_capped.new.disk) c.in_ok-choice.ensures.tree (g.met.D.Disk.is_tree c.args.disk.now told) c.args.root.now c.args.globs.now c.keep_named-paths.result.items chosen in
-    crash_from (g.R.Replaces.change c.args.replacer.now) (g.D.Disk.state c.args.disk.now) (g.D.Disk.state c.choose_capped.new.disk) (g.D.Disk.state c.rewrite_each.new.disk) c.in_ok-choice.ensures.tree c.args.root.now c.args.globs.now c.keep_named-paths.result.items chosen (c.in_err-report.ensures.crash told chosen.places listed)
-
-pub returns-clause-however : goal.returns-clause-however
-returns-clause-however g c = λ told.
-    let chosen = chosen_kept (g.D.Disk.state c.args.disk.now).tree (g.met.D.Disk.is_tree c.args.disk.now told) c.args.root.now c.args.globs.now c.deref.result.now c.in_ok-choice.choice.paths.items c.keep_named-paths.result.items (c.deref.ensures.value ∙ c.in_ok-globs.ensures.read) (c.in_ok-choice.ensures.chosen told) c.keep_named-paths.ensures.all in
-    let listed = listed_at (g.D.Disk.state c.args.disk.now) (g.D.Disk.state c.choose_capped.new.disk) c.in_ok-choice.ensures.tree (g.met.D.Disk.is_tree c.args.disk.now told) c.args.root.now c.args.globs.now c.keep_named-paths.result.items chosen in
-    left_from (g.R.Replaces.change c.args.replacer.now) (g.D.Disk.state c.args.disk.now) (g.D.Disk.state c.choose_capped.new.disk) (g.D.Disk.state c.rewrite_each.new.disk) c.in_ok-choice.ensures.tree c.args.root.now c.args.globs.now c.keep_named-paths.result.items chosen (c.in_ok-report.ensures.however told chosen.places listed)
-
-pub returns-clause-crash : goal.returns-clause-crash
-returns-clause-crash g c = λ told.
-    let chosen = chosen_kept (g.D.Disk.state c.args.disk.now).tree (g.met.D.Disk.is_tree c.args.disk.now told) c.args.root.now c.args.globs.now c.deref.result.now c.in_ok-choice.choice.paths.items c.keep_named-paths.result.items (c.deref.ensures.value ∙ c.in_ok-globs.ensures.read) (c.in_ok-choice.ensures.chosen told) c.keep_named-paths.ensures.all in
-    let listed = listed_at (g.D.Disk.state c.args.disk.now) (g.D.Disk.state c.choose_capped.new.disk) c.in_ok-choice.ensures.tree (g.met.D.Disk.is_tree c.args.disk.now told) c.args.root.now c.args.globs.now c.keep_named-paths.result.items chosen in
-    crash_from (g.R.Replaces.change c.args.replacer.now) (g.D.Disk.state c.args.disk.now) (g.D.Disk.state c.choose_capped.new.disk) (g.D.Disk.state c.rewrite_each.new.disk) c.in_ok-choice.ensures.tree c.args.root.now c.args.globs.now c.keep_named-paths.result.items chosen (c.in_ok-report.ensures.crash told chosen.places listed)
-
-pub returns-clause-durable : goal.returns-clause-durable
-returns-clause-durable g c = λ told.
-    let chosen = chosen_kept (g.D.Disk.state c.args.disk.now).tree (g.met.D.Disk.is_tree c.args.disk.now told) c.args.root.now c.args.globs.now c.deref.result.now c.in_ok-choice.choice.paths.items c.keep_named-paths.result.items (c.deref.ensures.value ∙ c.in_ok-globs.ensures.read) (c.in_ok-choice.ensures.chosen told) c.keep_named-paths.ensures.all in
-    let listed = listed_at (g.D.Disk.state c.args.disk.now) (g.D.Disk.state c.choose_capped.new.disk) c.in_ok-choice.ensures.tree (g.met.D.Disk.is_tree c.args.disk.now told) c.args.root.now c.args.globs.now c.keep_named-paths.result.items chosen in
-    durable_from (g.R.Replaces.change c.args.replacer.now) (g.D.Disk.state c.args.disk.now) (g.D.Disk.state c.choose_capped.new.disk) (g.D.Disk.state c.rewrite_each.new.disk) c.in_ok-choice.ensures.tree c.args.root.now c.args.globs.now c.keep_named-paths.result.items chosen (c.in_ok-report.ensures.durable told chosen.places listed)
-
-pub returns-clause-rewritten : goal.returns-clause-rewritten
-returns-clause-rewritten g c = λ told.
-    let chosen = chosen_kept (g.D.Disk.state c.args.disk.now).tree (g.met.D.Disk.is_tree c.args.disk.now told) c.args.root.now c.args.globs.now c.deref.result.now c.in_ok-choice.choice.paths.items c.keep_named-paths.result.items (c.deref.ensures.value ∙ c.in_ok-globs.ensures.read) (c.in_ok-choice.ensures.chosen told) c.keep_named-paths.ensures.all in
-    let listed = listed_at (g.D.Disk.state c.args.disk.now) (g.D.Disk.state c.choose_capped.new.disk) c.in_ok-choice.ensures.tree (g.met.D.Disk.is_tree c.args.disk.now told) c.args.root.now c.args.globs.now c.keep_named-paths.result.items chosen in
-    rewrites_tree (g.R.Replaces.change c.args.replacer.now) (g.D.Disk.state c.args.disk.now) (g.D.Disk.state c.choose_capped.new.disk) (g.D.Disk.state c.rewrite_each.new.disk) c.in_ok-choice.ensures.tree c.args.root.now c.args.globs.now c.keep_named-paths.result.items chosen c.in_ok-report.report (c.in_ok-report.ensures.rewritten told chosen.places listed)
-
-pub returns-in_err-report-clause-complete : goal.returns-in_err-report-clause-complete
-returns-in_err-report-clause-complete g c = λ clear.
-    let told = clear.told in
-    let chosen = chosen_kept (g.D.Disk.state c.args.disk.now).tree (g.met.D.Disk.is_tree c.args.disk.now told) c.args.root.now c.args.globs.now c.deref.result.now c.in_ok-choice.choice.paths.items c.keep_named-paths.result.items (c.deref.ensures.value ∙ c.in_ok-globs.ensures.read) (c.in_ok-choice.ensures.chosen told) c.keep_named-paths.ensures.all in
-    let listed = listed_at (g.D.Disk.state c.args.disk.now) (g.D.Disk.state c.choose_capped.new.disk) c.in_ok-choice.ensures.tree (g.met.D.Disk.is_tree c.args.disk.now told) c.args.root.now c.args.globs.now c.keep_named-paths.result.items chosen in
-    told_on _ c.from_residual-in_err-report.result _ c.from_residual-in_err-report.ensures.1
-    (files_for_memory (g.D.Disk.state c.rewrite_each.new.disk).tree c.in_err-report.field-0.0
-    (c.in_err-report.ensures.complete told chosen.places listed (room_for (g.R.Replaces.change c.args.replacer.now) (g.D.Disk.state c.args.disk.now) (g.D.Disk.state c.choose_capped.new.disk) (g.D.Disk.state c.rewrite_each.new.disk) c.in_ok-choice.ensures.tree c.args.root.now c.args.globs.now c.keep_named-paths.result.items chosen clear.room)
-    (λ rose. clear.no_fault (risen_since _ _ _ c.in_ok-choice.ensures.faults rose))))
+pub returns-clause-sweeps : goal.returns-clause-sweeps
+returns-clause-sweeps g c =
+    let s0 = g.D.Disk.state c.args.disk.now in
+    let is = λ told. g.met.D.Disk.is_tree c.args.disk.now told in
+    let root = c.args.root.now in
+    let globs = c.args.globs.now in
+    let paths = c.keep_named-paths.result.items in
+    let chosen = λ told. chosen_kept s0.tree (is told) root globs c.deref.result.now c.in_ok-choice.choice.paths.items paths (c.deref.ensures.value ∙ c.in_ok-globs.ensures.read) (c.in_ok-choice.ensures.chosen told) c.keep_named-paths.ensures.all in
+    sweeps_end (g.R.Replaces.change c.args.replacer.now) s0 (g.D.Disk.state c.choose_capped.new.disk) (g.D.Disk.state c.rewrite_each.new.disk) c.in_ok-choice.ensures.tree root globs paths c.args.cap g.D.Disk.tells
+    c.in_ok-choice.ensures.faults is chosen c.in_ok-choice.ensures.few (c.keep_named-paths.ensures.below root c.in_ok-choice.ensures.below_root) c.keep_named-paths.ensures.named
+    (Ok c.in_ok-report.report) (search rules) c.in_ok-report.ensures.never_falls tt c.in_ok-report.ensures.listed (λ clear. tt)

@@ -18,7 +18,7 @@ use Rattle.file_rewrite.specs.declared.rewrite.Rewrite.{Rewrite}
 use Rattle.file_rewrite.specs.declared.fault.JobFault.{JobFault}
 use Rattle.file_rewrite.specs.declared.fault.JobFault.TheVariants as job
 use Rattle.many_files.specs.Jobs.{Job, failed_of, end_of, faults_needed, HasJobCause}
-use Rattle.named_files.proofs.rewriting.KeepLemmas.{KeepsAll, keeps_itself, keeps_then, one_keeps, still_none}
+use Rattle.many_files.proofs.rewriting.KeepLemmas.{KeepsAll, keeps_itself, keeps_then, one_keeps, still_none}
 
 -- ---- why jobs failed
 

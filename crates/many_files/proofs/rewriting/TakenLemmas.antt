@@ -22,9 +22,9 @@ use Rattle.file_rewrite.specs.declared.rewrite.Rewrite.{Rewrite}
 use Rattle.file_rewrite.specs.declared.fault.JobFault.{JobFault}
 use Rattle.file_rewrite.specs.declared.fault.JobFault.TheVariants as job
 use Rattle.many_files.specs.Jobs.{Job, is_in_folder, jobs_in}
-use Rattle.many_files.proofs.WayLemmas.{still_leads}
-use Rattle.named_files.proofs.rewriting.KeepLemmas.{KeepsAll, keeps_then, some_or_not, file_there}
-use Rattle.named_files.proofs.rewriting.CauseLemmas.{risen_then}
+use Rattle.many_files.proofs.rewriting.WayLemmas.{still_leads}
+use Rattle.many_files.proofs.rewriting.KeepLemmas.{KeepsAll, keeps_then, some_or_not, file_there}
+use Rattle.many_files.proofs.rewriting.CauseLemmas.{risen_then}
 
 -- ---- what one call takes
 

@@ -14,7 +14,7 @@ use Rattle.file_rewrite.specs.OneFile.{RewritesFile, LeavesFile}
 use Rattle.file_rewrite.specs.declared.rewrite.Rewrite.{Rewrite}
 use Rattle.file_rewrite.specs.declared.fault.JobFault.{JobFault}
 use Rattle.file_rewrite.specs.declared.fault.JobFault.TheVariants as job
-use Rattle.many_files.proofs.WayLemmas.{KeepsWays, still_leads}
+use Rattle.many_files.proofs.rewriting.WayLemmas.{KeepsWays, still_leads}
 
 -- what stood goes on in the same way, and files are files
 pub record KeepsAll (old new : Tree) : Type 0 where

@@ -1,8 +1,9 @@
 -- Files that are rewritten in turn: one more at the end, and what is answered.
-use Rattle.std.proofs.Common.{◌≡◌, ◌≢◌, ℕ, ◌≤◌, Bool, true, List, [], ◌∷◌, ◌++◌, map, refl, sym, ◌∙◌, ap, subst}
-use Rattle.std.specs.Prelude.{IsTrue, All, Option, Some, None, Result, Ok, Err, IsOk, IfOk, IfErr, OnOk}
+use Rattle.std.proofs.Common.{◌≡◌, ◌≢◌, ℕ, ◌≤◌, Bool, true, List, [], ◌∷◌, ◌++◌, ◌+◌, length, map, refl, sym, ◌∙◌, ap, subst}
+use Rattle.std.specs.Prelude.{IsTrue, All, Option, Some, None, Result, Ok, Err, IsOk, IfOk, IfErr, OnOk, sum_by}
 use Rattle.std.specs.List.{AllZip}
 use Rattle.std.proofs.lemmas.List.Elements.{All-nil, All-cons}
+use Rattle.std.proofs.lemmas.List.Sums.{sum_by_push}
 use Rattle.sd_io.specs.Disk.{DiskState}
 use Rattle.sd_io.specs.Crashes.{LeavesSince, IsDurable}
 use Rattle.sd_change.specs.Change.{Change}
@@ -12,13 +13,15 @@ use Rattle.file_rewrite.specs.OneFile.{RewritesFile, LeavesFile, HasFileCause, I
 use Rattle.file_rewrite.specs.declared.fault.JobFault.{JobFault}
 use Rattle.file_rewrite.specs.declared.fault.JobFault.TheVariants as job
 use Rattle.many_files.specs.Jobs.{Job, failed_of, end_of, HaveCauses}
+use Rattle.many_files.specs.Counts.{changed_by, replaced_by}
+use Rattle.many_files.specs.declared.report.Report.{Report}
 use Rattle.many_files.specs.declared.jobs.FailedJobs.{FailedJobs}
 use Rattle.many_files.specs.declared.fault.FilesFault.{FilesFault}
 use Rattle.many_files.specs.declared.fault.FilesFault.TheVariants as fault
-use Rattle.named_files.specs.OneFile.{OneEnd, ReplacesOne}
-use Rattle.named_files.proofs.rewriting.CauseLemmas.{HaveCausesSoFar}
-use Rattle.named_files.proofs.rewriting.CrowdLemmas.{AreCrowded, crowded_out}
-use Rattle.named_files.specs.Named.{ReplacesInTurn, TellsNoPath, DoesFiles, FailsNamed, NamedFail}
+use Rattle.many_files.specs.OneFile.{OneEnd, ReplacesOne}
+use Rattle.many_files.proofs.rewriting.CauseLemmas.{HaveCausesSoFar}
+use Rattle.many_files.proofs.rewriting.CrowdLemmas.{AreCrowded, crowded_out}
+use Rattle.many_files.specs.InTurn.{ReplacesInTurn, TellsNoPath, CountsEnds, DoesFiles, FailsSome, FilesFail}
 
 -- ---- one more
 
@@ -73,14 +76,16 @@ all_done (path ∷ paths) (end ∷ results) (first, all) none =
 -- ---- so far
 
 -- The files so far were rewritten in turn, and these are the jobs.
-pub record IsNamedSoFar (change : Change) (tells : Bool) (s0 s : DiskState) (done : List (List ℕ)) (jobs : List Job) : Type 0 where
+pub record IsNamedSoFar (change : Change) (tells : Bool) (s0 s : DiskState) (done : List (List ℕ)) (jobs : List Job) (changed replaced : ℕ) : Type 0 where
   pub results : List OneEnd
   pub in_turn : IsTrue tells → ReplacesInTurn change done results s0 s
   pub told : AllZip TellsNoPath done results
   pub jobs_are : jobs ≡ failed_of done (map end_of results)
+  pub changed_are : changed ≡ sum_by changed_by results
+  pub replaced_are : replaced ≡ sum_by replaced_by results
 
-pub none_named : (change : Change) (tells : Bool) (s : DiskState) (jobs : List Job) → jobs ≡ [] → IsNamedSoFar change tells s s [] jobs
-none_named change tells s jobs none = record { results = []; in_turn = λ told. refl; told = tt; jobs_are = none }
+pub none_named : (change : Change) (tells : Bool) (s : DiskState) (jobs : List Job) (changed replaced : ℕ) → jobs ≡ [] → changed ≡ 0 → replaced ≡ 0 → IsNamedSoFar change tells s s [] jobs changed replaced
+none_named change tells s jobs changed replaced none c r = record { results = []; in_turn = λ told. refl; told = tt; jobs_are = none; changed_are = c; replaced_are = r }
 
 -- one more job, by the path that the call was given
 pub added_as : (more jobs : List Job) (path named : List ℕ) (result : OneEnd) → path ≡ named → more ≡ jobs ++ failed_of (named ∷ []) (end_of result ∷ [])
@@ -91,16 +96,20 @@ added_as more jobs path named result same added = subst (λ (p : List ℕ). more
 told_cause : (tells : Bool) (path : List ℕ) (old new : DiskState) (result : OneEnd) → tells ≡ true → IfErr result (HasFileCause (course tells old new) path) → IfErr result (HasFileCause (course true old new) path)
 told_cause tells path old new result told cause = subst (λ (b : Bool). IfErr result (HasFileCause (course b old new) path)) told cause
 
-pub more_named : (change : Change) (tells : Bool) (s0 s1 s2 : DiskState) (done : List (List ℕ)) (jobs more : List Job) → IsNamedSoFar change tells s0 s1 done jobs
+pub more_named : (change : Change) (tells : Bool) (s0 s1 s2 : DiskState) (done : List (List ℕ)) (jobs more : List Job) (changed replaced now_changed now_replaced : ℕ)
+    → IsNamedSoFar change tells s0 s1 done jobs changed replaced
     → (path : List ℕ) (result : OneEnd) → (IsNoPath path → result ≡ Err job.InvalidPath) → more ≡ jobs ++ failed_of (path ∷ []) (end_of result ∷ [])
-    → (IsTrue tells → ReplacesOne change path result s1 s2) → IsNamedSoFar change tells s0 s2 (done ++ path ∷ []) more
-more_named change tells s0 s1 s2 done jobs more so path result no_path added one = record {
+    → now_changed ≡ changed + changed_by result → now_replaced ≡ replaced + replaced_by result
+    → (IsTrue tells → ReplacesOne change path result s1 s2) → IsNamedSoFar change tells s0 s2 (done ++ path ∷ []) more now_changed now_replaced
+more_named change tells s0 s1 s2 done jobs more changed replaced now_changed now_replaced so path result no_path added c r one = record {
   results = so.results ++ result ∷ [];
   in_turn = λ told. one_more change done so.results path result s0 s1 s2 (so.in_turn told) (one told);
   told = told_more done so.results path result so.told no_path;
   jobs_are =
       added ∙ ap (λ (list : List Job). list ++ failed_of (path ∷ []) (end_of result ∷ [])) so.jobs_are
       ∙ sym (failed_more done so.results path result so.told);
+  changed_are = c ∙ ap (λ (n : ℕ). n + changed_by result) so.changed_are ∙ sym (sum_by_push changed_by so.results result);
+  replaced_are = r ∙ ap (λ (n : ℕ). n + replaced_by result) so.replaced_are ∙ sym (sum_by_push replaced_by so.results result);
 }
 
 -- what the clauses of one file's rewriting say together
@@ -119,18 +128,38 @@ as_one change tells path result old new told rewritten left cause crash durable 
 
 -- ---- at the end
 
+-- the report of what was done, where no job failed
+abbrev pub IsReportOf : List Job → ℕ → ℕ → ℕ → Report → Type 0
+IsReportOf jobs chosen changed replaced report = (jobs ≡ []) × (report ≡ record { chosen = chosen; changed = changed; replaced = replaced })
+
 -- the fault that tells the jobs
 abbrev pub TellsJobs : List Job → FilesFault → Type 0
 TellsJobs jobs failed = (told : FailedJobs) × (failed ≡ fault.Failed told) × (told ≡ jobs) × (told ≢ [])
 
-module _ (change : Change) (tells : Bool) (s0 s : DiskState) (done paths : List (List ℕ)) (jobs : List Job) (so : IsNamedSoFar change tells s0 s done jobs) (whole : done ≡ paths) where
-  pub done_all : (result : Result (Unit {0}) FilesFault) → OnOk result (jobs ≡ []) → OnOk result (DoesFiles change paths (course tells s0 s))
-  done_all (Ok u) none =
-      subst (λ (list : List (List ℕ)). DoesFiles change list (course tells s0 s)) whole
-      (record { results = so.results; in_turn = so.in_turn; told = so.told; all = all_done done so.results so.told (sym so.jobs_are ∙ none) })
-  done_all (Err failed) none = tt
+module _ (change : Change) (tells : Bool) (s0 s : DiskState) (done paths : List (List ℕ)) (jobs : List Job) (changed replaced : ℕ) (so : IsNamedSoFar change tells s0 s done jobs changed replaced)
+    (whole : done ≡ paths) where
+  -- the report of what was done
+  done_so : (report : Report) → jobs ≡ [] → report ≡ record { chosen = length paths; changed = changed; replaced = replaced } → DoesFiles change paths report (course tells s0 s)
+  done_so report none is =
+      subst (λ (list : List (List ℕ)). DoesFiles change list report (course tells s0 s)) whole
+      (record {
+        results = so.results;
+        in_turn = so.in_turn;
+        told = so.told;
+        all = all_done done so.results so.told (sym so.jobs_are ∙ none);
+        counts = record {
+          chosen = ap (λ (x : Report). x.chosen) is ∙ ap length (sym whole);
+          changed = ap (λ (x : Report). x.changed) is ∙ so.changed_are;
+          replaced = ap (λ (x : Report). x.replaced) is ∙ so.replaced_are;
+        };
+      })
 
-  fails_so : HaveCausesSoFar tells s0 s jobs → (IsTrue tells → AreCrowded s0 s jobs) → (told : List Job) → told ≡ jobs → told ≢ [] → FailsNamed change done (course tells s0 s) told
+  pub done_all : (result : Result Report FilesFault) (chosen : ℕ) → chosen ≡ length paths → IfOk result (IsReportOf jobs chosen changed replaced)
+      → IfOk result (λ report. DoesFiles change paths report (course tells s0 s))
+  done_all (Ok report) chosen all is = done_so report is.0 (subst (λ (n : ℕ). report ≡ record { chosen = n; changed = changed; replaced = replaced }) all is.1)
+  done_all (Err failed) chosen all is = tt
+
+  fails_so : HaveCausesSoFar tells s0 s jobs → (IsTrue tells → AreCrowded s0 s jobs) → (told : List Job) → told ≡ jobs → told ≢ [] → FailsSome change done (course tells s0 s) told
   fails_so have crowded told same some = record {
     results = so.results;
     in_turn = so.in_turn;
@@ -140,7 +169,7 @@ module _ (change : Change) (tells : Bool) (s0 s : DiskState) (done paths : List 
     causes = subst (HaveCauses (course tells s0 s)) (sym same) (record { counted = have.counted; causes = have.causes; crowded = λ is_told. crowded_out tells s0 s jobs (crowded is_told) });
   }
 
-  pub fails_all : HaveCausesSoFar tells s0 s jobs → (IsTrue tells → AreCrowded s0 s jobs) → (result : Result (Unit {0}) FilesFault) → IfErr result (TellsJobs jobs) → IfErr result (NamedFail change paths (course tells s0 s))
-  fails_all have crowded (Ok u) is = tt
+  pub fails_all : HaveCausesSoFar tells s0 s jobs → (IsTrue tells → AreCrowded s0 s jobs) → (result : Result Report FilesFault) → IfErr result (TellsJobs jobs) → IfErr result (FilesFail change paths (course tells s0 s))
+  fails_all have crowded (Ok report) is = tt
   fails_all have crowded (Err failed) (told, e, same, some) =
-      subst (NamedFail change paths (course tells s0 s)) (sym e) (subst (λ (list : List (List ℕ)). FailsNamed change list (course tells s0 s) told) whole (fails_so have crowded told same some))
+      subst (FilesFail change paths (course tells s0 s)) (sym e) (subst (λ (list : List (List ℕ)). FailsSome change list (course tells s0 s) told) whole (fails_so have crowded told same some))

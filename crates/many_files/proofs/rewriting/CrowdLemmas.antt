@@ -13,12 +13,12 @@ use Rattle.file_rewrite.specs.OneFile.{RewritesFile, LeavesFile, HasFileCause, F
 use Rattle.file_rewrite.specs.declared.fault.JobFault.{JobFault}
 use Rattle.file_rewrite.specs.declared.fault.JobFault.TheVariants as job
 use Rattle.many_files.specs.Jobs.{Job, failed_of, end_of, jobs_in, IsCrowdedOut}
-use Rattle.many_files.proofs.WayLemmas.{still_leads}
-use Rattle.named_files.specs.OneFile.{OneEnd}
-use Rattle.named_files.proofs.CutLemmas.{last_or_before}
-use Rattle.named_files.proofs.rewriting.KeepLemmas.{KeepsAll, keeps_itself, keeps_then, file_there}
-use Rattle.named_files.proofs.rewriting.CauseLemmas.{risen_then}
-use Rattle.named_files.proofs.rewriting.TakenLemmas.{HasMemoryJob, later_memory, AreTaken, none_taken, taken_if_done, taken_if_refused}
+use Rattle.many_files.proofs.rewriting.WayLemmas.{still_leads}
+use Rattle.many_files.specs.OneFile.{OneEnd}
+use Rattle.many_files.proofs.rewriting.CutLemmas.{last_or_before}
+use Rattle.many_files.proofs.rewriting.KeepLemmas.{KeepsAll, keeps_itself, keeps_then, file_there}
+use Rattle.many_files.proofs.rewriting.CauseLemmas.{risen_then}
+use Rattle.many_files.proofs.rewriting.TakenLemmas.{HasMemoryJob, later_memory, AreTaken, none_taken, taken_if_done, taken_if_refused}
 
 -- ---- one folder that was full
 

@@ -19,14 +19,15 @@ use Rattle.file_rewrite.specs.declared.fault.JobFault.{JobFault}
 use Rattle.file_rewrite.specs.declared.fault.JobFault.TheVariants as job
 use Rattle.many_files.specs.Jobs.{Job, failed_of, end_of, faults_needed, is_in_folder, HasJobCause, WantMemory}
 use Rattle.many_files.specs.Ends.{IsForMemory}
+use Rattle.many_files.specs.declared.report.Report.{Report}
 use Rattle.many_files.specs.declared.fault.FilesFault.{FilesFault}
-use Rattle.many_files.proofs.WayLemmas.{still_leads}
-use Rattle.named_files.specs.Clear.{LeadsToFile, HasRoomBy, AreFilesClear}
-use Rattle.named_files.proofs.CutLemmas.{at_cut}
-use Rattle.named_files.proofs.rewriting.KeepLemmas.{keeps_itself, file_there, not_none}
-use Rattle.named_files.proofs.rewriting.CauseLemmas.{HaveCausesSoFar}
-use Rattle.named_files.proofs.rewriting.CrowdLemmas.{AreCrowded}
-use Rattle.named_files.proofs.rewriting.ChainLemmas.{TellsJobs, IsNamedSoFar}
+use Rattle.many_files.proofs.rewriting.WayLemmas.{still_leads}
+use Rattle.many_files.specs.Clear.{LeadsToFile, HasRoomBy, AreFilesClear}
+use Rattle.many_files.proofs.rewriting.CutLemmas.{at_cut}
+use Rattle.many_files.proofs.rewriting.KeepLemmas.{keeps_itself, file_there, not_none}
+use Rattle.many_files.proofs.rewriting.CauseLemmas.{HaveCausesSoFar}
+use Rattle.many_files.proofs.rewriting.CrowdLemmas.{AreCrowded}
+use Rattle.many_files.proofs.rewriting.ChainLemmas.{TellsJobs, IsNamedSoFar}
 
 -- the job is one of the files
 abbrev pub IsOf : List (List ℕ) → Job → Type 0
@@ -37,7 +38,7 @@ rest_of : (path : List ℕ) (paths : List (List ℕ)) (jobs : List Job) → All 
 rest_of path paths jobs all = All-weaker (IsOf paths) (IsOf (path ∷ paths)) (λ failed c. Contains-append_right (path ∷ []) paths failed.0 c) jobs all
 
 -- the jobs are some of the files
-failed_paths : (paths : List (List ℕ)) (ends : List (Option JobFault)) → All (IsOf paths) (failed_of paths ends)
+pub failed_paths : (paths : List (List ℕ)) (ends : List (Option JobFault)) → All (IsOf paths) (failed_of paths ends)
 failed_paths [] ends = All-nil (IsOf [])
 failed_paths (path ∷ paths) [] = All-nil (IsOf (path ∷ paths))
 failed_paths (path ∷ paths) (None ∷ ends) = rest_of path paths (failed_of paths ends) (failed_paths paths ends)
@@ -45,10 +46,10 @@ failed_paths (path ∷ paths) (Some fault ∷ ends) =
     All-cons (IsOf (path ∷ paths)) (path, fault) (failed_of paths ends) (0, omega arith, refl)
     (rest_of path paths (failed_of paths ends) (failed_paths paths ends))
 
-pub named_jobs : (change : Change) (tells : Bool) (s0 s : DiskState) (done paths : List (List ℕ)) (jobs : List Job)
-    → IsNamedSoFar change tells s0 s done jobs → done ≡ paths
+pub named_jobs : (change : Change) (tells : Bool) (s0 s : DiskState) (done paths : List (List ℕ)) (jobs : List Job) (changed replaced : ℕ)
+    → IsNamedSoFar change tells s0 s done jobs changed replaced → done ≡ paths
     → All (IsOf paths) jobs
-named_jobs change tells s0 s done paths jobs so whole =
+named_jobs change tells s0 s done paths jobs changed replaced so whole =
     subst (All (IsOf paths)) (sym so.jobs_are)
     (subst (λ (list : List (List ℕ)). All (IsOf list) (failed_of done (map end_of so.results))) whole (failed_paths done (map end_of so.results)))
 
@@ -131,6 +132,6 @@ module _ (tells : Bool) (s0 s : DiskState) (paths : List (List ℕ)) (jobs : Lis
         | inr full ↦ inr (full, has_earlier earlier later path (cut ∙ ap (λ (f : JobFault). earlier ++ (path, f) ∷ later) full))
       ]
 
-  pub for_memory : (result : Result (Unit {0}) FilesFault) → IfErr result (TellsJobs jobs) → IfErr result (IsForMemory s.tree)
-  for_memory (Ok done) is = tt
+  pub for_memory : (result : Result Report FilesFault) → IfErr result (TellsJobs jobs) → IfErr result (IsForMemory s.tree)
+  for_memory (Ok report) is = tt
   for_memory (Err failed) (told, e, same, some) = subst (IsForMemory s.tree) (sym e) (subst (WantMemory s.tree) (sym same) want_memory)

@@ -1,2 +1,0 @@
--- What the preview and the rewriting use.
-pub mod CutLemmas
