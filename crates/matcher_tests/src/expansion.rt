@@ -5,7 +5,6 @@ ghost use Rattle.grep_matcher.specs.References.{LieIn, expand, group_text};
 
 use grep_matcher::{Captures, Match};
 use sd_base::NoMemory;
-use std::alloc::Global;
 use std::test::Fail;
 
 /// Three groups.
@@ -22,23 +21,6 @@ impl Captures for Three {
     fn get(&self, i: usize) -> Option<Match> {
         self.0.get(i).copied().unwrap_or(None)
     }
-}
-
-/// Appends a replacement text, where `foo` names the group 2.
-fn append_expansion(replacement: &str, dst: &mut Vec<u8>) -> Result<(), NoMemory> {
-    let groups = Three([Some(Match::new(0, 6)), None, Some(Match::new(3, 6))]);
-    groups.interpolate(
-        |name| if name == "foo" { Some(2) } else { None },
-        b"abcxxx",
-        replacement.as_bytes(),
-        dst,
-    )
-}
-
-/// Whether a replacement text becomes the wanted one.
-fn becomes(alloc: Global, replacement: &str, wanted: &str) -> bool {
-    let mut dst = Vec::new(alloc);
-    append_expansion(replacement, &mut dst).is_ok() && dst.as_slice() == wanted.as_bytes()
 }
 
 /// Only numbers name groups.
@@ -66,27 +48,4 @@ fn names_without_numbers(rt: HostRuntime) -> Result<(), Fail> {
     assert!(rt; append_without_names(&mut dst).is_ok());
     assert!(rt; dst.as_slice() == b">bab.".as_slice());
     Ok(())
-}
-
-/// A replacement text, and what it becomes.
-const EXPANSIONS: &[(&str, &str)] = &[
-    ("test${2}test", "testxxxtest"),
-    ("test${foo}test", "testxxxtest"),
-    ("test $$foo test", "test $foo test"),
-    ("<$0|$1|$2|$3>", "<abcxxx||xxx|>"),
-];
-
-/// The first of these replacement texts that becomes something else.
-fn first_wrong(alloc: Global) -> Option<&'static str> {
-    for (replacement, wanted) in EXPANSIONS {
-        if !becomes(alloc, replacement, wanted) {
-            return Some(replacement);
-        }
-    }
-    None
-}
-
-#[test]
-fn groups_stand_in_their_places(rt: HostRuntime) {
-    assert_eq!(rt; first_wrong(rt.alloc()), None);
 }

@@ -1,4 +1,4 @@
-//! Tests of matchers and of globs by their public calls.
+//! Tests of matchers and of globs by their public calls, as far as they are no tables: those are `glob_cases`.
 //!
 //! They stand above both, so that neither is proved a second time for its tests.
 #![tactic(auto)]
@@ -12,10 +12,6 @@ mod finding;
 #[cfg(test)]
 mod gathered;
 #[cfg(test)]
-mod glob_captures;
-#[cfg(test)]
-mod globs;
-#[cfg(test)]
 mod line_ends;
 #[cfg(test)]
 mod one_byte;
@@ -23,8 +19,6 @@ mod one_byte;
 mod pairs;
 #[cfg(test)]
 mod plain;
-#[cfg(test)]
-mod references;
 #[cfg(test)]
 mod replacing;
 #[cfg(test)]

@@ -1,8 +1,7 @@
 //! All small patterns on all short texts: the searches in one pass find what the search by a stack of alternatives finds.
 
-use crate::patterns::pattern;
-use crate::searches::{Way, search, searcher_of};
-use hir_core::{Searcher, Slots, group_count};
+use crate::searches::{Way, search_from, searcher_for, slots_for};
+use hir_core::{Searcher, Slots};
 use sd_base::NoMemory;
 use std::alloc::Global;
 use std::process::Abort;
@@ -59,44 +58,28 @@ fn are_same(one: &Slots, other: &Slots) -> bool {
     one.len() == other.len() && (0..one.len()).all(|group| one.get(group) == other.get(group))
 }
 
-/// A searcher, with slots for the search by the stack and for another.
-#[derive(Drop)]
-struct Comparison {
-    searcher: Searcher,
-    wanted: Slots,
-    slots: Slots,
+/// What is compared: the searches by a searcher in these ways with that by the stack, from each place of these texts up to a last one.
+#[derive(Clone, Copy)]
+struct Comparison<'a> {
+    searcher: &'a Searcher,
+    ways: &'a [Way],
+    texts: &'a [Vec<u8>],
+    last: usize,
 }
 
-/// What searches for a pattern are compared with.
-fn comparison_for(alloc: Global, signs: &[u8]) -> Result<Comparison, NoMemory> {
-    let searcher = searcher_of(alloc, pattern(alloc, signs)?)?;
-    let groups = group_count(searcher.hir());
-    let wanted = Slots::new(alloc, groups)?;
-    let slots = Slots::new(alloc, groups)?;
-    Ok(Comparison {
-        searcher,
-        wanted,
-        slots,
-    })
-}
-
-/// Compares the searches in these ways from a place of a text. Gives whether there is a match.
+/// Compares the searches from a place of a text. Gives whether there is a match.
 fn compare_at(
     rt: &impl Abort,
-    comparison: &mut Comparison,
-    ways: &[Way],
+    comparison: &Comparison<'_>,
+    wanted: &mut Slots,
+    slots: &mut Slots,
     text: &[u8],
     at: usize,
 ) -> Result<bool, NoMemory> {
-    let searcher = &comparison.searcher;
-    let wanted = &mut comparison.wanted;
-    let slots = &mut comparison.slots;
-    let count = group_count(searcher.hir()) as usize + 1;
-    assert!(rt; at <= text.len() && wanted.len() == count && slots.len() == count);
-    let is_found = search(searcher, Way::ByStack, text, at, wanted)?;
-    for way in ways {
-        assert!(rt; wanted.len() == count && slots.len() == count);
-        let is_same = search(searcher, *way, text, at, slots)? == is_found;
+    let searcher = comparison.searcher;
+    let is_found = search_from(rt, searcher, Way::ByStack, text, at, wanted)?;
+    for way in comparison.ways {
+        let is_same = search_from(rt, searcher, *way, text, at, slots)? == is_found;
         assert!(rt; is_same && are_same(slots, wanted));
     }
     Ok(is_found)
@@ -109,29 +92,61 @@ struct Counts {
     others: usize,
 }
 
-/// Compares the searches in these ways from each place of these texts up to a last one.
+impl Counts {
+    /// Counts a comparison.
+    fn count(&mut self, is_found: bool) {
+        if is_found {
+            self.matching = self.matching.saturating_add(1);
+        } else {
+            self.others = self.others.saturating_add(1);
+        }
+    }
+}
+
+/// Compares the searches from each place of each text, with slots for the search by the stack and for another.
 fn compare_texts(
     rt: &impl Abort,
-    comparison: &mut Comparison,
-    ways: &[Way],
-    texts: &[Vec<u8>],
-    last: usize,
+    comparison: &Comparison<'_>,
+    wanted: &mut Slots,
+    slots: &mut Slots,
     counts: &mut Counts,
 ) -> Result<(), NoMemory> {
-    for text in texts {
-        for at in 0..text.len().min(last).saturating_add(1) {
-            if compare_at(rt, comparison, ways, text, at)? {
-                counts.matching = counts.matching.saturating_add(1);
-            } else {
-                counts.others = counts.others.saturating_add(1);
-            }
+    for text in comparison.texts {
+        for at in 0..text.len().min(comparison.last).saturating_add(1) {
+            counts.count(compare_at(rt, comparison, wanted, slots, text, at)?);
         }
     }
     Ok(())
 }
 
+/// Compares the searches with slots for the search by the stack. Those for another are let go here.
+fn compare_with(
+    rt: &(impl Abort + AllocGlobal),
+    comparison: &Comparison<'_>,
+    wanted: &mut Slots,
+    counts: &mut Counts,
+) -> Result<(), NoMemory> {
+    let mut slots = slots_for(rt.alloc(), comparison.searcher)?;
+    let done = compare_texts(rt, comparison, wanted, &mut slots, counts);
+    drop(slots);
+    done
+}
+
+/// Compares the searches. The slots for the search by the stack are let go here.
+fn compare_searches(
+    rt: &(impl Abort + AllocGlobal),
+    comparison: &Comparison<'_>,
+    counts: &mut Counts,
+) -> Result<(), NoMemory> {
+    let mut wanted = slots_for(rt.alloc(), comparison.searcher)?;
+    let done = compare_with(rt, comparison, &mut wanted, counts);
+    drop(wanted);
+    done
+}
+
 /// Compares the searches for a pattern in these ways from each place of these texts, or, for a pattern of five nodes, from the first.
-/// What is searched with is let go here, so that tests are quickly proved.
+/// The searcher is let go here, and its slots one and two calls below, so that no function holds one over more than one way out: these
+/// are quickly proved.
 fn compare(
     rt: &(impl Abort + AllocGlobal),
     signs: &[u8],
@@ -139,10 +154,16 @@ fn compare(
     texts: &[Vec<u8>],
     counts: &mut Counts,
 ) -> Result<(), NoMemory> {
-    let mut comparison = comparison_for(rt.alloc(), signs)?;
+    let searcher = searcher_for(rt.alloc(), signs)?;
     let last = if signs.len() < 5 { usize::MAX } else { 0 };
-    let done = compare_texts(rt, &mut comparison, ways, texts, last, counts);
-    drop(comparison);
+    let comparison = Comparison {
+        searcher: &searcher,
+        ways,
+        texts,
+        last,
+    };
+    let done = compare_searches(rt, &comparison, counts);
+    drop(searcher);
     done
 }
 

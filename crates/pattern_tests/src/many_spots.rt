@@ -1,8 +1,8 @@
 //! Patterns that are written out to many spots.
 
 use crate::patterns::one_byte;
-use crate::searches::{Way, search, searcher_of};
-use hir_core::{Hir, Repeat, Searcher, Slots, group_count};
+use crate::searches::{Way, search, searcher_of, slots_for};
+use hir_core::{Hir, Repeat, Searcher};
 use sd_base::NoMemory;
 use std::alloc::Global;
 use std::test::Fail;
@@ -32,7 +32,7 @@ fn found(
     searcher: &Searcher,
     text: &[u8],
 ) -> Result<Option<(usize, usize)>, NoMemory> {
-    let mut slots = Slots::new(alloc, group_count(searcher.hir()))?;
+    let mut slots = slots_for(alloc, searcher)?;
     let is_found = search(searcher, Way::InOnePass, text, 0, &mut slots);
     let span = slots.get(0);
     drop(slots);
@@ -50,7 +50,8 @@ fn found_by_nested(
     greedy: bool,
     text: &[u8],
 ) -> Result<Option<(usize, usize)>, NoMemory> {
-    let searcher = searcher_of(alloc, nested(alloc, counts, greedy)?)?;
+    let hir = nested(alloc, counts, greedy)?;
+    let searcher = searcher_of(alloc, hir)?;
     let found = found(alloc, &searcher, text);
     drop(searcher);
     found

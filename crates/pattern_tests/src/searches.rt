@@ -1,9 +1,10 @@
 //! Searches of small texts.
 
-ghost use Rattle.std.specs.Prelude.{◌≡◌, ◌+◌, ◌≤◌, length};
+ghost use Rattle.std.specs.Prelude.{◌≡◌, ◌+◌, ◌≤◌, length, IfOk};
 ghost use Rattle.hir_tree.specs.Spots.{groups_of};
 
 use crate::patterns::pattern;
+use grep_matcher::Match;
 use hir_core::{Hir, Searcher, Slots, group_count};
 use sd_base::{NoMemory, Silent, Steps, Tally};
 use std::alloc::Global;
@@ -93,6 +94,20 @@ pub fn search(
     }
 }
 
+/// A search in one of the ways, with slots and a place that are right, which is asserted. Callers are told nothing.
+pub fn search_from(
+    rt: &impl Abort,
+    searcher: &Searcher,
+    way: Way,
+    text: &[u8],
+    at: usize,
+    slots: &mut Slots,
+) -> Result<bool, NoMemory> {
+    let count = group_count(searcher.hir()) as usize;
+    assert!(rt; at <= text.len() && slots.len() == count + 1);
+    search(searcher, way, text, at, slots)
+}
+
 /// The searcher of a tree, which is let go.
 pub fn searcher_of(alloc: Global, hir: Hir) -> Result<Searcher, NoMemory> {
     let searcher = Searcher::new(alloc, &hir);
@@ -100,37 +115,42 @@ pub fn searcher_of(alloc: Global, hir: Hir) -> Result<Searcher, NoMemory> {
     searcher
 }
 
-/// The ends of each group, as `1-3`, or `-` where it is unset.
+/// The searcher of a pattern.
+pub fn searcher_for(alloc: Global, signs: &[u8]) -> Result<Searcher, NoMemory> {
+    let hir = pattern(alloc, signs)?;
+    searcher_of(alloc, hir)
+}
+
+/// Unset slots for the groups of a pattern.
+pub fn slots_for(alloc: Global, searcher: &Searcher) -> Result<Slots, NoMemory>
+    ensures { IfOk result (λ slots. length slots ≡ groups_of searcher.now + 1) }
+{
+    Slots::new(alloc, group_count(searcher.hir()))
+}
+
+/// Adds the ends of a group, as `1-3`, or `-` where it is unset.
+fn push_ends(out: &mut String, span: Option<Match>) -> Result<(), Fail> {
+    match span {
+        Some(span) => write!(out, "{}-{}", span.start(), span.end())?,
+        None => out.push('-')?,
+    }
+    Ok(())
+}
+
+/// The ends of each group.
 fn shown(alloc: Global, slots: &Slots) -> Result<String, Fail> {
     let mut out = String::new(alloc);
     for group in 0..slots.len() {
         if group > 0 {
             out.push('/')?;
         }
-        match slots.get(group) {
-            Some(span) => write!(out, "{}-{}", span.start(), span.end())?,
-            None => out.push('-')?,
-        }
+        push_ends(&mut out, slots.get(group))?;
     }
     Ok(out)
 }
 
-/// A searcher, with slots for its groups.
-#[derive(Drop)]
-struct Equipped {
-    searcher: Searcher,
-    slots: Slots,
-}
-
-/// The searcher of a pattern, with its slots.
-fn equipped_for(alloc: Global, signs: &[u8]) -> Result<Equipped, NoMemory> {
-    let searcher = searcher_of(alloc, pattern(alloc, signs)?)?;
-    let slots = Slots::new(alloc, group_count(searcher.hir()))?;
-    Ok(Equipped { searcher, slots })
-}
-
-/// Each search for a pattern from a place of a text finds these groups. What is searched with is let go here, and used below, so that
-/// tests are quickly proved.
+/// Each search for a pattern from a place of a text finds these groups. The searcher is let go here, and its slots one call below, so
+/// that no function holds one over more than one way out: these are quickly proved.
 fn check(
     rt: &(impl Abort + AllocGlobal),
     signs: &str,
@@ -138,30 +158,53 @@ fn check(
     at: usize,
     groups: &str,
 ) -> Result<(), Fail> {
-    let mut with_slots = equipped_for(rt.alloc(), signs.as_bytes())?;
-    let checked = check_ways(rt, &mut with_slots, text, at, groups);
-    drop(with_slots);
+    let searcher = searcher_for(rt.alloc(), signs.as_bytes())?;
+    let checked = check_searcher(rt, &searcher, text, at, groups);
+    drop(searcher);
     checked
 }
 
-/// Each search from a place of a text finds these groups.
-fn check_ways(
+/// Each search by a searcher finds these groups.
+fn check_searcher(
     rt: &(impl Abort + AllocGlobal),
-    with_slots: &mut Equipped,
+    searcher: &Searcher,
     text: &[u8],
     at: usize,
     groups: &str,
 ) -> Result<(), Fail> {
-    let searcher = &with_slots.searcher;
-    let slots = &mut with_slots.slots;
-    let count = group_count(searcher.hir()) as usize;
+    let mut slots = slots_for(rt.alloc(), searcher)?;
+    let checked = check_ways(rt, searcher, &mut slots, text, at, groups);
+    drop(slots);
+    checked
+}
+
+/// Each search with these slots finds these groups.
+fn check_ways(
+    rt: &(impl Abort + AllocGlobal),
+    searcher: &Searcher,
+    slots: &mut Slots,
+    text: &[u8],
+    at: usize,
+    groups: &str,
+) -> Result<(), Fail> {
     for way in [Way::InOnePass, Way::WithCountedSteps, Way::ByStack] {
-        assert!(rt; at <= text.len() && slots.len() == count + 1);
-        let is_found = search(searcher, way, text, at, slots)?;
-        assert!(rt; is_found == slots.get(0).is_some(), "{groups} from {at}");
-        let found = shown(rt.alloc(), slots)?;
-        assert_eq!(rt; found.as_str(), groups, "{groups} from {at}");
+        let is_found = search_from(rt, searcher, way, text, at, slots)?;
+        check_slots(rt, slots, is_found, at, groups)?;
     }
+    Ok(())
+}
+
+/// Slots hold these groups, and a match was found if they hold one.
+fn check_slots(
+    rt: &(impl Abort + AllocGlobal),
+    slots: &Slots,
+    is_found: bool,
+    at: usize,
+    groups: &str,
+) -> Result<(), Fail> {
+    assert!(rt; is_found == slots.get(0).is_some(), "{groups} from {at}");
+    let found = shown(rt.alloc(), slots)?;
+    assert_eq!(rt; found.as_str(), groups, "{groups} from {at}");
     Ok(())
 }
 
@@ -231,19 +274,15 @@ fn looks_at_lines_and_words(rt: HostRuntime) -> Result<(), Fail> {
 /// Searches again with slots that another search used.
 fn check_again(
     rt: &(impl Abort + AllocGlobal),
-    signs: &[u8],
+    signs: &str,
     at: usize,
     slots: &mut Slots,
     groups: &str,
 ) -> Result<(), Fail> {
-    let alloc = rt.alloc();
-    let searcher = searcher_of(alloc, pattern(alloc, signs)?)?;
-    let is_searched = search_again(rt, &searcher, at, slots);
+    let searcher = searcher_for(rt.alloc(), signs.as_bytes())?;
+    let is_found = search_again(rt, &searcher, at, slots);
     drop(searcher);
-    is_searched?;
-    let found = shown(alloc, slots)?;
-    assert_eq!(rt; found.as_str(), groups, "from {at}");
-    Ok(())
+    check_slots(rt, slots, is_found?, at, groups)
 }
 
 fn search_again(
@@ -253,8 +292,7 @@ fn search_again(
     slots: &mut Slots,
 ) -> Result<bool, NoMemory> {
     let text = b"user_i, user_id, a_id".as_slice();
-    assert!(rt; at <= text.len() && slots.len() == group_count(searcher.hir()) as usize + 1);
-    search(searcher, Way::InOnePass, text, at, slots)
+    search_from(rt, searcher, Way::InOnePass, text, at, slots)
 }
 
 /// A pattern, a place, and the groups that are found from there.
@@ -266,27 +304,34 @@ const AGAIN: &[(&str, usize, &str)] = &[
     ("[+_.i.d.", 18, "-"),
 ];
 
-// The lists of one search are those of the next, also of another pattern.
-#[test]
-fn slots_are_used_again(rt: HostRuntime) -> Result<(), Fail> {
-    let mut slots = Slots::new(rt.alloc(), 0)?;
+/// Searches with the same slots one after the other.
+fn check_all_again(rt: &(impl Abort + AllocGlobal), slots: &mut Slots) -> Result<(), Fail> {
     assert!(rt; slots.len() == 1 && slots.get(0).is_none() && slots.get(1).is_none());
     for (signs, at, groups) in AGAIN {
-        check_again(&rt, signs.as_bytes(), *at, &mut slots, groups)?;
+        check_again(rt, signs, *at, slots, groups)?;
     }
     Ok(())
 }
 
+// The lists of one search are those of the next, also of another pattern.
+#[test]
+fn slots_are_used_again(rt: HostRuntime) -> Result<(), Fail> {
+    let mut slots = Slots::new(rt.alloc(), 0)?;
+    let checked = check_all_again(&rt, &mut slots);
+    drop(slots);
+    checked
+}
+
 /// Whether a search for a pattern finds a match, and how many steps it notes.
 fn steps_of(alloc: Global, signs: &[u8], text: &[u8]) -> Result<(bool, u64), NoMemory> {
-    let searcher = searcher_of(alloc, pattern(alloc, signs)?)?;
+    let searcher = searcher_for(alloc, signs)?;
     let noted = noted_steps(alloc, &searcher, text);
     drop(searcher);
     noted
 }
 
 fn noted_steps(alloc: Global, searcher: &Searcher, text: &[u8]) -> Result<(bool, u64), NoMemory> {
-    let mut slots = Slots::new(alloc, group_count(searcher.hir()))?;
+    let mut slots = slots_for(alloc, searcher)?;
     let mut steps = Steps::new(Tally::default());
     let is_found = searcher.search_at_steps(text, 0, &mut slots, &mut steps);
     drop(slots);
