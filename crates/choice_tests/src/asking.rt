@@ -2,7 +2,6 @@
 //!
 //! A line is a path, or `!` and the text of a fault.
 
-use crate::disks::{Nodes, fill_all};
 use chosen_files::{Choice, ChoiceFault, GlobsError, choose_capped, read_globs};
 use glob_match::Glob;
 use mem_io::MemDisk;
@@ -12,7 +11,7 @@ use std::alloc::Global;
 use std::test::Fail;
 
 /// These texts as globs.
-pub(crate) fn globs_of(alloc: Global, texts: &[&str]) -> Result<Globs, Fail> {
+fn globs_of(alloc: Global, texts: &[&str]) -> Result<Globs, Fail> {
     let mut globs = Globs::new(alloc);
     for text in texts {
         globs.push(text)?;
@@ -21,7 +20,7 @@ pub(crate) fn globs_of(alloc: Global, texts: &[&str]) -> Result<Globs, Fail> {
 }
 
 /// These globs as they are read.
-pub(crate) fn read(alloc: Global, globs: &Globs) -> Result<Vec<Glob>, GlobsError> {
+fn read(alloc: Global, globs: &Globs) -> Result<Vec<Glob>, GlobsError> {
     read_globs(alloc, globs)
 }
 
@@ -93,75 +92,4 @@ pub(crate) fn chooses(
 ) -> Result<bool, Fail> {
     let given = chosen(alloc, disk, root, globs, cap)?;
     Ok(given.as_str() == wanted)
-}
-
-/// Adds lines to a text.
-fn push_lines(text: &mut String, lines: &[&str]) -> Result<(), Fail> {
-    for line in lines {
-        text.push_str(line)?;
-        text.push('\n')?;
-    }
-    Ok(())
-}
-
-/// These lines as one text.
-fn joined(alloc: Global, lines: &[&str]) -> Result<String, Fail> {
-    let mut text = String::new(alloc);
-    push_lines(&mut text, lines)?;
-    Ok(text)
-}
-
-/// Whether these globs choose these lines below a root, with ten lists open at most.
-pub(crate) fn gives(
-    alloc: Global,
-    disk: &mut MemDisk,
-    root: &str,
-    globs: &[&str],
-    lines: &[&str],
-) -> Result<bool, Fail> {
-    let wanted = joined(alloc, lines)?;
-    let is_given = chooses(alloc, disk, root, globs, 1000, wanted.as_str())?;
-    Ok(is_given && disk.lists_most() <= 10)
-}
-
-/// A root, globs, and the lines that they give.
-pub(crate) type Case = (
-    &'static str,
-    &'static [&'static str],
-    &'static [&'static str],
-);
-
-/// The place of the first of these cases that isn't so.
-pub(crate) fn first_wrong_on(
-    alloc: Global,
-    disk: &mut MemDisk,
-    cases: &[Case],
-) -> Result<Option<usize>, Fail> {
-    for (place, (root, globs, lines)) in cases.iter().enumerate() {
-        if !gives(alloc, disk, root, globs, lines)? {
-            return Ok(Some(place));
-        }
-    }
-    Ok(None)
-}
-
-/// Adds the nodes of several lists to a disk, and then does as `first_wrong_on`.
-fn first_wrong_filled(
-    alloc: Global,
-    disk: &mut MemDisk,
-    lists: &[Nodes],
-    cases: &[Case],
-) -> Result<Option<usize>, Fail> {
-    fill_all(disk, lists)?;
-    first_wrong_on(alloc, disk, cases)
-}
-
-/// The same on a new disk.
-pub(crate) fn first_wrong(
-    alloc: Global,
-    lists: &[Nodes],
-    cases: &[Case],
-) -> Result<Option<usize>, Fail> {
-    let mut disk = MemDisk::new(alloc);
-    first_wrong_filled(alloc, &mut disk, lists, cases)
 }

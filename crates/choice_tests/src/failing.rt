@@ -1,4 +1,4 @@
-//! Caps, and disks that fail.
+//! Disks that fail.
 
 use crate::asking::{chooses, chosen};
 use crate::disks::{Node, Nodes, fill};
@@ -18,39 +18,6 @@ const FOUR_ENTRIES: Nodes = &[
 const CHOSEN: &str = "/t/a.txt\n/t/s/b.txt\n";
 
 const TOO_MANY: &str = "! too many entries\n";
-
-/// Whether this is chosen on an empty disk that is given the entries, with a cap, and nothing below a file.
-fn caps_on(alloc: Global, disk: &mut MemDisk, cap: u64, wanted: &str) -> Result<bool, Fail> {
-    fill(disk, FOUR_ENTRIES)?;
-    Ok(
-        chooses(alloc, disk, "/t", &["**/*.txt"], cap, wanted)?
-            && chooses(alloc, disk, "/t/a.txt", &["**"], 1, "")?,
-    )
-}
-
-/// The same on a new disk.
-fn caps(alloc: Global, cap: u64, wanted: &str) -> Result<bool, Fail> {
-    let mut disk = MemDisk::new(alloc);
-    caps_on(alloc, &mut disk, cap, wanted)
-}
-
-/// Caps, and what is told of a choice with each.
-const CAPS: &[(u64, &str)] = &[
-    (1, TOO_MANY),
-    (3, TOO_MANY),
-    (4, TOO_MANY),
-    (5, CHOSEN),
-    (u64::MAX, CHOSEN),
-];
-
-#[test]
-fn as_many_entries_as_the_cap_are_too_many(rt: HostRuntime) -> Result<(), Fail> {
-    for (cap, wanted) in CAPS {
-        let is_right = caps(rt.alloc(), *cap, wanted)?;
-        assert!(rt; is_right, "{cap} at most");
-    }
-    Ok(())
-}
 
 /// Whether this is the text of a failure of the disk at a place where one can be told: below a folder without a path, else with
 /// that of the root, of a folder, or of a file that fits.

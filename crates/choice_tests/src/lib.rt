@@ -1,4 +1,4 @@
-//! Tests of which files a command on a tree works on, by public calls alone: what is chosen, in which order, and what is refused.
+//! Tests of the choice of the files that a command on a tree works on, by public calls alone: on disks that fail, and what refuses globs.
 #![tactic(auto)]
 
 #[cfg(test)]
@@ -8,8 +8,4 @@ mod disks;
 #[cfg(test)]
 mod failing;
 #[cfg(test)]
-mod listing;
-#[cfg(test)]
-mod patterns;
-#[cfg(test)]
-mod roots;
+mod globs;

@@ -1,7 +1,5 @@
-//! Tests of the demo, by public calls alone.
+//! Tests of the tree of a demo, by public calls alone.
 #![tactic(auto)]
 
 #[cfg(test)]
 mod built;
-#[cfg(test)]
-mod swept;

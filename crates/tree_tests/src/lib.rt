@@ -1,4 +1,4 @@
-//! Tests of a command on a tree, by public calls alone: what it counts, what it leaves, and why it is refused.
+//! Tests of a command on a tree on disks that fail, by public calls alone: what it tells, and what it leaves.
 #![tactic(auto)]
 
 #[cfg(test)]
@@ -8,10 +8,4 @@ mod disks;
 #[cfg(test)]
 mod failing;
 #[cfg(test)]
-mod many_names;
-#[cfg(test)]
-mod refusals;
-#[cfg(test)]
 mod swapping;
-#[cfg(test)]
-mod trees;

@@ -1,0 +1,173 @@
+//! Commands of which each call fails in turn.
+
+use crate::asked::{bytes_of, field_of, number_of};
+use crate::left::{holds, is_left, others_otherwise};
+use crate::running::{Ran, calls_of, run_words, wanted_of};
+use crate::tree::disk_of;
+use anyhow::Error;
+use case_reader::{Case, CaseFault, Line};
+use mem_io::MemDisk;
+use std::alloc::Global;
+
+/// What is not as a case has it, where each of its calls fails in turn; or nothing.
+pub fn difference(alloc: Global, case: &Case<'_>) -> Result<Option<Vec<u8>>, Error> {
+    let calls = calls_of(alloc, case)?;
+    if calls < number_of(case, "least")?.unwrap_or(1) {
+        return Ok(Some(format!(in alloc; "{calls} calls")?.into_bytes()));
+    }
+    for call in 1..=calls {
+        if let Some(what) = otherwise_at(alloc, case, call)? {
+            return Ok(Some(format!(in alloc; "call {call}: {what}")?.into_bytes()));
+        }
+    }
+    Ok(None)
+}
+
+/// What is not as a case has it where a call fails.
+fn otherwise_at(alloc: Global, case: &Case<'_>, call: u64) -> Result<Option<&'static str>, Error> {
+    let mut disk = disk_of(alloc, case)?;
+    disk.fail_at(call)?;
+    otherwise_on(alloc, case, &mut disk)
+}
+
+/// The same on a disk.
+fn otherwise_on(
+    alloc: Global,
+    case: &Case<'_>,
+    disk: &mut MemDisk,
+) -> Result<Option<&'static str>, Error> {
+    let ran = run_words(alloc, case, disk)?;
+    if disk.faults() != 1 {
+        return Ok(Some("faults"));
+    }
+    match told_otherwise(alloc, case, &ran)? {
+        None => left_otherwise(alloc, case, disk),
+        what => Ok(what),
+    }
+}
+
+/// What a run tells otherwise than a case has it.
+fn told_otherwise(
+    alloc: Global,
+    case: &Case<'_>,
+    ran: &Ran,
+) -> Result<Option<&'static str>, Error> {
+    let shown = wanted_of(alloc, case, "out")?;
+    if !shown.starts_with(&ran.out) {
+        return Ok(Some("out"));
+    }
+    match bytes_of(alloc, case, "err")? {
+        Some(wanted) if wanted != ran.err => Ok(Some("err")),
+        _ => Ok(ended_otherwise(case, ran)?),
+    }
+}
+
+/// How a run ended otherwise than a case has it.
+fn ended_otherwise(case: &Case<'_>, ran: &Ran) -> Result<Option<&'static str>, CaseFault> {
+    if ran.ending.status != 1 {
+        return Ok(Some("status"));
+    }
+    if (ran.ending.cause == "FailedProcessing") != (ran.ending.jobs == 1) {
+        return Ok(Some("jobs"));
+    }
+    match is_cause(field_of(case, "causes")?, ran.ending.cause) {
+        true => Ok(None),
+        false => Ok(Some("cause")),
+    }
+}
+
+/// Whether a cause is one of those in a field, which are parted by spaces.
+fn is_cause(causes: Option<&str>, cause: &str) -> bool {
+    match causes {
+        None => false,
+        Some(causes) => causes.split(' ').any(|name| name == cause),
+    }
+}
+
+/// What is left otherwise than a case has it.
+fn left_otherwise(
+    alloc: Global,
+    case: &Case<'_>,
+    disk: &MemDisk,
+) -> Result<Option<&'static str>, Error> {
+    if others_otherwise(alloc, case, disk)?.is_some() {
+        return Ok(Some("another file"));
+    }
+    match rewritten(alloc, case, disk)? {
+        None => Ok(Some("a file")),
+        Some(count) if count < number_of(case, "rewritten")?.unwrap_or(0) => Ok(Some("rewritten")),
+        Some(_) => Ok(None),
+    }
+}
+
+/// How many of the files that a case names are new, where each other one is old; or nothing, where one is neither or has another mode.
+fn rewritten(alloc: Global, case: &Case<'_>, disk: &MemDisk) -> Result<Option<u64>, Error> {
+    let mut count = 0_u64;
+    for number in 0..usize::MAX {
+        let Some(line) = case.part(number) else {
+            break;
+        };
+        match state_of(alloc, case, disk, line)? {
+            State::New => count = count.saturating_add(1),
+            State::Old => {}
+            State::Otherwise => return Ok(None),
+        }
+    }
+    Ok(Some(count))
+}
+
+/// How a file is left that a case names.
+#[derive(Clone, Copy)]
+enum State {
+    New,
+    Old,
+    Otherwise,
+}
+
+/// How the file of a line is left. Where a line names none, it is as if that were old.
+fn state_of(
+    alloc: Global,
+    case: &Case<'_>,
+    disk: &MemDisk,
+    line: Line<'_>,
+) -> Result<State, Error> {
+    if line.written(0)? == "new" {
+        return state_of_new(alloc, case, disk, line);
+    }
+    match is_left(alloc, disk, line)? {
+        true => Ok(State::Old),
+        false => Ok(State::Otherwise),
+    }
+}
+
+/// How a file is left that may be new.
+fn state_of_new(
+    alloc: Global,
+    case: &Case<'_>,
+    disk: &MemDisk,
+    line: Line<'_>,
+) -> Result<State, Error> {
+    let Some(old) = node_of(case, line.written(1)?) else {
+        return Err(CaseFault::Missing)?;
+    };
+    if is_left(alloc, disk, old)? {
+        return Ok(State::Old);
+    }
+    let path = line.text(alloc, 1)?;
+    let has_mode = disk.mode_at(&path) == Some(crate::tree::mode_of(old, 2)?);
+    match has_mode && holds(alloc, disk, &path, &line.bytes(alloc, 2)?)? {
+        true => Ok(State::New),
+        false => Ok(State::Otherwise),
+    }
+}
+
+/// The line of a section that has a path.
+fn node_of<'t>(case: &Case<'t>, path: &str) -> Option<Line<'t>> {
+    for number in 0..usize::MAX {
+        let line = case.section_part(number)?;
+        if line.written(1) == Ok(path) {
+            return Some(line);
+        }
+    }
+    None
+}
