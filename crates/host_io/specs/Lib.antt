@@ -3,3 +3,4 @@ pub mod HostDisk
 pub mod HostDiskState
 pub mod Told
 pub mod KnownFolders
+pub mod KnownFile

@@ -1,12 +1,16 @@
 //! The host's disk.
 
-ghost use Rattle.std.specs.Prelude.{◌≡◌, ◌↔◌, ℕ, [], None, IsTrue, IsSomeAnd};
+ghost use Rattle.std.specs.Prelude.{◌≡◌, ◌≢◌, ◌↔◌, ◌⊎◌, ℕ, [], None, Err, IsTrue, IsSomeAnd, IfOk, IfSome, IfNone, OnErr, IsErrOf};
+ghost use Rattle.sd_io.specs.Disk.{SameTree, SameLists};
+ghost use Rattle.sd_io.specs.Lists.{IsOpen, IsUnfinished, SameOtherLists, SameOpen, Opens, Ends, Gives, PassesOver, IsFull};
+ghost use Rattle.host_io.specs.HostDisk.{IsCounted};
 ghost use Rattle.host_io.specs.HostDiskState.{host_state};
 ghost use Rattle.open_lists.specs.OpenLists.{told_list, KeepsTold};
 
 use crate::faults::FaultCounter;
-use crate::folders::{Folders, Place, ident_of, same_node};
-use crate::list::{HostList, meta_of};
+use crate::folders::{Folders, Place, ident_of, same_node, status_of};
+use crate::known_file::FileStatus;
+use crate::list::{HostList, ListFault, meta_of};
 use crate::new_file::{NewFile, create};
 use open_lists::{OpenList, OpenLists};
 use sd_io::{Disk, DiskFault, Ident, ListId, Meta, RawEntry, Text};
@@ -14,7 +18,6 @@ use std::alloc::Global;
 use std::fs::{Metadata, OpenFile, OpenOptions};
 use std::io::{ErrorKind, Read, Write};
 use std::os::fd::AsRawFd;
-use std::os::unix::fs::MetadataExt;
 use std::rt::Files;
 use std::{fs, io};
 
@@ -62,30 +65,54 @@ fn metadata<R: Files>(rt: &R, path: &str, follow: bool) -> io::Result<Metadata> 
     }
 }
 
-/// The bytes of the file of which the host told this. There is room for them at once, and for the read that finds its end.
-fn read<R: Files>(rt: &R, alloc: Global, place: &Place, told: &Metadata) -> io::Result<Vec<u8>> {
+/// What the host tells of a path, a link in the place of its last name not followed.
+fn unfollowed<R: Files>(rt: &R, path: &str) -> io::Result<FileStatus> {
+    Ok(status_of(&fs::symlink_metadata(rt, path)?))
+}
+
+/// Whether something else than a regular file stands at a path, a link in the place of its last name not followed.
+fn is_no_file<R: Files>(rt: &R, path: &str) -> bool {
+    match fs::symlink_metadata(rt, path) {
+        Ok(metadata) => !metadata.is_file(),
+        Err(_) => false,
+    }
+}
+
+/// The bytes of the file at a path, of which this was told. There is room for them at once, and for the read that finds its end.
+fn read<R: Files + AllocGlobal + Drop>(
+    rt: &R,
+    alloc: Global,
+    folders: &mut Folders<R>,
+    path: &str,
+    told: FileStatus,
+) -> io::Result<Vec<u8>>
+where
+    R::File: AsRawFd,
+{
+    let place = folders.place(rt, path)?;
     let mut file = fs::open(rt, place.path.as_str())?;
-    same_node(&file, told)?;
-    let room = (told.len() as usize).saturating_add(1);
+    let metadata = same_node(&file, told.ident)?;
+    folders.tell_file(rt.alloc(), path, &place, &metadata)?;
+    let room = (metadata.len() as usize).saturating_add(1);
     let mut bytes = Vec::with_capacity(alloc, room)?;
     file.read_to_end(&mut bytes)?;
     Ok(bytes)
 }
 
-/// Writes the file of which the host told this anew.
-fn write<R: Files>(rt: &R, place: &Place, told: &Metadata, bytes: &[u8]) -> io::Result<()> {
+/// Writes the file at a place, of which this was told, anew.
+fn write<R: Files>(rt: &R, place: &Place, told: FileStatus, bytes: &[u8]) -> io::Result<()> {
     let mut file = OpenOptions::new()
         .write(true)
         .open(rt, place.path.as_str())?;
-    same_node(&file, told)?;
+    let _metadata = same_node(&file, told.ident)?;
     file.set_len(0)?;
     file.write_all(bytes)
 }
 
-/// Puts the bytes of the file of which the host told this on the medium.
-fn sync<R: Files>(rt: &R, place: &Place, told: &Metadata) -> io::Result<()> {
+/// Puts the bytes of the file at a place, of which this was told, on the medium.
+fn sync<R: Files>(rt: &R, place: &Place, told: FileStatus) -> io::Result<()> {
     let file = fs::open(rt, place.path.as_str())?;
-    same_node(&file, told)?;
+    let _metadata = same_node(&file, told.ident)?;
     file.sync_all()
 }
 
@@ -95,14 +122,14 @@ fn next_of<R: Files + AllocGlobal + Drop>(
     alloc: Global,
     list: &mut OpenList<Box<HostList<R>>>,
     folders: &mut Folders<R>,
-) -> Option<io::Result<RawEntry>>
+) -> Result<Option<RawEntry>, ListFault>
 where
     R::File: AsRawFd,
     ensures { told_list (λ _. []) list.new ≡ told_list (λ _. []) list.old }
 {
     match list {
         OpenList::Unfinished(entries) => entries.next(rt, alloc, folders),
-        OpenList::AtEnd => None,
+        OpenList::AtEnd => Ok(None),
     }
 }
 
@@ -113,12 +140,15 @@ fn next_in<R: Files + AllocGlobal + Drop>(
     lists: &mut OpenLists<Box<HostList<R>>>,
     number: u64,
     folders: &mut Folders<R>,
-) -> Option<io::Result<RawEntry>>
+) -> Result<Option<RawEntry>, ListFault>
 where
     R::File: AsRawFd,
     ensures { KeepsTold (λ _. []) lists.old lists.new }
 {
-    next_of(rt, alloc, lists.open.get_mut(&number)?, folders)
+    match lists.open.get_mut(&number) {
+        Some(list) => next_of(rt, alloc, list, folders),
+        None => Ok(None),
+    }
 }
 
 /// Whether a path is that of the file that was just created.
@@ -144,7 +174,12 @@ where
 
     ghost holds_present = { λ disk told. absurd (false≢true told) };
 
-    fn stat(&mut self, path: &str, follow: bool) -> Result<Meta, DiskFault> {
+    fn stat(&mut self, path: &str, follow: bool) -> Result<Meta, DiskFault>
+        ensures not_taken { result ≢ Err DiskFault.Taken }
+        ensures tree { SameTree (host_state self.old) (host_state self.new) }
+        ensures lists { SameLists (host_state self.old) (host_state self.new) }
+        ensures count { IsCounted (host_state self.old).faults (host_state self.new).faults result }
+    {
         if !follow && let Some(told) = self.folders.take_told(path) {
             return Ok(told);
         }
@@ -152,24 +187,54 @@ where
         Ok(meta_of(&metadata))
     }
 
-    fn ident(&mut self, path: &str) -> Result<Ident, DiskFault> {
+    fn ident(&mut self, path: &str) -> Result<Ident, DiskFault>
+        ensures not_taken { result ≢ Err DiskFault.Taken }
+        ensures tree { SameTree (host_state self.old) (host_state self.new) }
+        ensures lists { SameLists (host_state self.old) (host_state self.new) }
+        ensures count { IsCounted (host_state self.old).faults (host_state self.new).faults result }
+    {
         let metadata = self.counter.counted(fs::metadata(&self.rt, path))?;
         Ok(ident_of(&metadata))
     }
 
-    fn resolve(&mut self, alloc: Global, path: &str) -> Result<Text, DiskFault> {
+    fn resolve(&mut self, alloc: Global, path: &str) -> Result<Text, DiskFault>
+        ensures not_taken { result ≢ Err DiskFault.Taken }
+        ensures tree { SameTree (host_state self.old) (host_state self.new) }
+        ensures lists { SameLists (host_state self.old) (host_state self.new) }
+        ensures count { IsCounted (host_state self.old).faults (host_state self.new).faults result }
+    {
         let resolved = self.counter.counted(self.folders.resolve(&self.rt, path))?;
         Ok(Text::new(alloc, resolved.as_str())?)
     }
 
-    fn open_dir(&mut self, path: &str) -> Result<ListId, DiskFault> {
+    fn open_dir(&mut self, path: &str) -> Result<ListId, DiskFault>
+        ensures opened { IfOk result (λ list. Opens (host_state self.old) list.number (host_state self.new)) }
+        ensures not_taken { result ≢ Err DiskFault.Taken }
+        ensures refused { OnErr result (SameLists (host_state self.old) (host_state self.new)) }
+        ensures tree { SameTree (host_state self.old) (host_state self.new) }
+        ensures count { IsCounted (host_state self.old).faults (host_state self.new).faults result }
+    {
         self.counter.counted(self.folders.list(&self.rt, path))?;
         let list = self.counter.counted(HostList::open(&self.rt, path))?;
         let boxed = Box::new(self.rt.alloc(), list)?;
         Ok(self.lists.open(boxed)?)
     }
 
-    fn next_entry(&mut self, alloc: Global, list: ListId) -> Result<Option<RawEntry>, DiskFault> {
+    fn next_entry(&mut self, alloc: Global, list: ListId) -> Result<Option<RawEntry>, DiskFault>
+        requires { IsOpen (host_state self.old) list.number }
+        ensures given { IfOk result (λ given. IfSome given (λ _. Gives (host_state self.old) list.number (host_state self.new))) }
+        ensures ended { IfOk result (λ given. IfNone given (Ends (host_state self.old) list.number (host_state self.new))) }
+        ensures failed { IsErrOf result DiskFault.Failed → PassesOver (host_state self.old) list.number (host_state self.new) }
+        ensures full { IsFull (host_state self.old) → IsUnfinished (host_state self.old) list.number → IsErrOf result DiskFault.Failed ⊎ IsErrOf result DiskFault.NoMemory }
+        ensures full_ends { IsFull (host_state self.old) → IsErrOf result DiskFault.Failed → Ends (host_state self.old) list.number (host_state self.new) }
+        ensures not_absent { result ≢ Err DiskFault.Absent }
+        ensures not_taken { result ≢ Err DiskFault.Taken }
+        ensures no_memory { IsErrOf result DiskFault.NoMemory → SameLists (host_state self.old) (host_state self.new) }
+        ensures others { SameOtherLists (host_state self.old) list.number (host_state self.new) }
+        ensures open { SameOpen (host_state self.old) (host_state self.new) }
+        ensures tree { SameTree (host_state self.old) (host_state self.new) }
+        ensures count { IsCounted (host_state self.old).faults (host_state self.new).faults result }
+    {
         if self.lists.is_at_end(list.number) {
             return Ok(None);
         }
@@ -184,19 +249,21 @@ where
             list.number,
             &mut self.folders,
         ) {
-            None => {
+            Ok(None) => {
                 self.lists.end(list.number);
                 Ok(None)
             }
-            Some(Ok(entry)) => {
+            Ok(Some(entry)) => {
                 self.lists.count();
                 Ok(Some(entry))
             }
-            Some(Err(error)) => {
-                if error.kind() == ErrorKind::OutOfMemory {
-                    return Err(DiskFault::NoMemory);
-                }
+            Err(ListFault::NoMemory) => Err(DiskFault::NoMemory),
+            Err(ListFault::Entry) => {
                 self.lists.count();
+                Err(self.counter.refusal(DiskFault::Failed))
+            }
+            Err(ListFault::List) => {
+                self.lists.end(list.number);
                 Err(self.counter.refusal(DiskFault::Failed))
             }
         }
@@ -206,19 +273,27 @@ where
         self.lists.close(list.number);
     }
 
-    fn read_file(&mut self, alloc: Global, path: &str) -> Result<Vec<u8>, DiskFault> {
-        let place = self.counter.counted(self.folders.place(&self.rt, path))?;
-        let told = self.counter.regular(place.metadata(&self.rt))?;
-        self.counter.counted(read(&self.rt, alloc, &place, &told))
+    fn read_file(&mut self, alloc: Global, path: &str) -> Result<Vec<u8>, DiskFault>
+        ensures not_taken { result ≢ Err DiskFault.Taken }
+        ensures tree { SameTree (host_state self.old) (host_state self.new) }
+        ensures lists { SameLists (host_state self.old) (host_state self.new) }
+        ensures count { IsCounted (host_state self.old).faults (host_state self.new).faults result }
+    {
+        let told = self.counter.regular(self.folders.status(&self.rt, path))?;
+        self.counter
+            .counted(read(&self.rt, alloc, &mut self.folders, path, told))
     }
 
-    fn create_like(&mut self, path: &str, like: &str) -> Result<(), DiskFault> {
-        self.folders.change();
-        let like = self.counter.counted(self.folders.place(&self.rt, like))?;
-        let told = self.counter.regular(like.metadata(&self.rt))?;
+    fn create_like(&mut self, path: &str, like: &str) -> Result<(), DiskFault>
+        ensures tree { SameTree (host_state self.old) (host_state self.new) }
+        ensures lists { SameLists (host_state self.old) (host_state self.new) }
+        ensures count { IsCounted (host_state self.old).faults (host_state self.new).faults result }
+    {
+        self.folders.change_name(path);
+        let told = self.counter.regular(self.folders.status(&self.rt, like))?;
         let place = self.counter.counted(self.folders.place(&self.rt, path))?;
         let path = Text::new(self.rt.alloc(), path)?;
-        match create(&self.rt, path, place.path.as_str(), told.mode()) {
+        match create(&self.rt, path, place.path.as_str(), told.mode) {
             Ok(new) => {
                 self.new_file = Some(new);
                 Ok(())
@@ -230,62 +305,85 @@ where
         }
     }
 
-    fn write_file(&mut self, path: &str, bytes: &[u8]) -> Result<(), DiskFault> {
-        self.folders.change();
+    fn write_file(&mut self, path: &str, bytes: &[u8]) -> Result<(), DiskFault>
+        ensures not_taken { result ≢ Err DiskFault.Taken }
+        ensures tree { SameTree (host_state self.old) (host_state self.new) }
+        ensures lists { SameLists (host_state self.old) (host_state self.new) }
+        ensures count { IsCounted (host_state self.old).faults (host_state self.new).faults result }
+    {
+        self.folders.change_bytes();
         match &mut self.new_file {
             Some(new) if new.is_empty_at(path) => self.counter.counted(new.fill(bytes)),
             _ => {
+                let told = self.counter.regular(self.folders.status(&self.rt, path))?;
                 let place = self.counter.counted(self.folders.place(&self.rt, path))?;
-                let told = self.counter.regular(place.metadata(&self.rt))?;
-                self.counter.counted(write(&self.rt, &place, &told, bytes))
+                self.counter.counted(write(&self.rt, &place, told, bytes))
             }
         }
     }
 
-    fn sync(&mut self, path: &str) -> Result<(), DiskFault> {
+    fn sync(&mut self, path: &str) -> Result<(), DiskFault>
+        ensures not_taken { result ≢ Err DiskFault.Taken }
+        ensures tree { SameTree (host_state self.old) (host_state self.new) }
+        ensures lists { SameLists (host_state self.old) (host_state self.new) }
+        ensures count { IsCounted (host_state self.old).faults (host_state self.new).faults result }
+    {
         match &self.new_file {
             Some(new) if new.is_at(path) => self.counter.counted(new.sync()),
             _ => {
+                let told = self.counter.regular(self.folders.status(&self.rt, path))?;
                 let place = self.counter.counted(self.folders.place(&self.rt, path))?;
-                let told = self.counter.regular(place.metadata(&self.rt))?;
-                self.counter.counted(sync(&self.rt, &place, &told))
+                self.counter.counted(sync(&self.rt, &place, told))
             }
         }
     }
 
-    fn rename(&mut self, from: &str, to: &str) -> Result<(), DiskFault> {
-        self.folders.change();
+    fn rename(&mut self, from: &str, to: &str) -> Result<(), DiskFault>
+        ensures not_taken { result ≢ Err DiskFault.Taken }
+        ensures tree { SameTree (host_state self.old) (host_state self.new) }
+        ensures lists { SameLists (host_state self.old) (host_state self.new) }
+        ensures count { IsCounted (host_state self.old).faults (host_state self.new).faults result }
+    {
+        let is_file = self.folders.knows_file(to);
+        self.folders.change_names();
         let (old, new) = self
             .counter
             .counted(self.folders.places(&self.rt, from, to))?;
         if !is_new(&self.new_file, from) {
             self.counter
-                .regular(fs::symlink_metadata(&self.rt, old.path.as_str()))?;
+                .regular(unfollowed(&self.rt, old.path.as_str()))?;
         }
-        match fs::symlink_metadata(&self.rt, new.path.as_str()) {
-            Ok(metadata) if !metadata.is_file() => {
-                return Err(self.counter.refusal(DiskFault::Absent));
-            }
-            _ => {}
+        if !is_file && is_no_file(&self.rt, new.path.as_str()) {
+            return Err(self.counter.refusal(DiskFault::Absent));
         }
         self.new_file = None;
         self.counter
             .counted(fs::rename(&self.rt, old.path.as_str(), new.path.as_str()))
     }
 
-    fn remove(&mut self, path: &str) -> Result<(), DiskFault> {
-        self.folders.change();
+    fn remove(&mut self, path: &str) -> Result<(), DiskFault>
+        ensures not_taken { result ≢ Err DiskFault.Taken }
+        ensures tree { SameTree (host_state self.old) (host_state self.new) }
+        ensures lists { SameLists (host_state self.old) (host_state self.new) }
+        ensures count { IsCounted (host_state self.old).faults (host_state self.new).faults result }
+    {
+        self.folders.change_names();
         let place = self.counter.counted(self.folders.place(&self.rt, path))?;
         if !is_new(&self.new_file, path) {
             self.counter
-                .regular(fs::symlink_metadata(&self.rt, place.path.as_str()))?;
+                .regular(unfollowed(&self.rt, place.path.as_str()))?;
         }
         self.new_file = None;
         self.counter
             .counted(fs::remove_file(&self.rt, place.path.as_str()))
     }
 
-    fn sync_dir(&mut self, path: &str) -> Result<(), DiskFault> {
+    fn sync_dir(&mut self, path: &str) -> Result<(), DiskFault>
+        ensures not_taken { result ≢ Err DiskFault.Taken }
+        ensures tree { SameTree (host_state self.old) (host_state self.new) }
+        ensures lists { SameLists (host_state self.old) (host_state self.new) }
+        ensures count { IsCounted (host_state self.old).faults (host_state self.new).faults result }
+    {
         self.counter.counted(self.folders.sync(&self.rt, path))
     }
 }

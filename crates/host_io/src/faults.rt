@@ -1,13 +1,12 @@
 //! The count of the faults of the host's disk.
 
 ghost use Rattle.std.specs.Prelude.{◌≡◌, ◌≢◌, ◌<◌, ◌≤◌, ◌⊎◌, Ok, Err, IfOk};
-ghost use Rattle.std.specs.Fs.{file_type, IsFile};
 ghost use Rattle.sd_io.specs.Count.{HasRisen};
 ghost use Rattle.host_io.specs.HostDisk.{IsCounted, Tells};
 ghost use Rattle.sd_io.specs.Calls.{count_after};
 
-use sd_io::DiskFault;
-use std::fs::Metadata;
+use crate::known_file::FileStatus;
+use sd_io::{DiskFault, Kind};
 use std::io;
 use std::io::ErrorKind;
 
@@ -59,15 +58,15 @@ impl FaultCounter {
     }
 
     /// What the host tells of a regular file. Where it tells of something else, that is refused.
-    pub fn regular(&mut self, answer: io::Result<Metadata>) -> Result<Metadata, DiskFault>
-        ensures told { IfOk result (λ metadata. answer ≡ Ok metadata) }
-        ensures regular { IfOk result (λ metadata. IsFile (file_type metadata)) }
+    pub fn regular(&mut self, answer: io::Result<FileStatus>) -> Result<FileStatus, DiskFault>
+        ensures told { IfOk result (λ status. answer ≡ Ok status) }
+        ensures regular { IfOk result (λ status. status.kind ≡ Kind.File) }
         ensures counted { IsCounted self.old.faults self.new.faults result }
         ensures not_taken { result ≢ Err DiskFault.Taken }
     {
-        let metadata = self.counted(answer)?;
-        if metadata.is_file() {
-            Ok(metadata)
+        let status = self.counted(answer)?;
+        if status.kind == Kind::File {
+            Ok(status)
         } else {
             Err(self.refusal(DiskFault::Absent))
         }

@@ -1,9 +1,10 @@
-//! The host's disk and streams, a few lines over std's. They tell their counts, and nothing of what they hold.
+//! The host's disk and streams, over std's files and streams. They tell their counts, and nothing of what they hold.
 #![tactic(auto)]
 
 mod disk;
 mod faults;
 mod folders;
+mod known_file;
 mod known_folders;
 mod list;
 mod new_file;

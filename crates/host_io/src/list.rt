@@ -1,6 +1,6 @@
 //! The open lists of the host.
 
-ghost use Rattle.std.specs.Prelude.{◌≡◌, ◌↔◌, ◌≤◌, IfOk, IsTrue, IsErrAnd, length};
+ghost use Rattle.std.specs.Prelude.{◌≡◌, ◌≢◌, ◌↔◌, ◌≤◌, IfOk, IsTrue, IsErrAnd, length};
 ghost use Rattle.std.specs.IoError.{error_kind};
 ghost use Rattle.host_io.specs.HostDisk.{IsOfKind};
 
@@ -23,8 +23,17 @@ pub struct HostList<R: Files + AllocGlobal + Drop> {
     path: String,
     /// The names that are left, each with a byte 0 behind.
     names: BufReader<R::Dir>,
-    /// Whether the host refused to go on.
-    is_broken: bool,
+}
+
+/// Why a list gives no entry, and isn't at its end.
+#[derive(Clone, Copy)]
+pub enum ListFault {
+    /// There is no memory for the next entry. It stays the next one.
+    NoMemory,
+    /// The next entry can't be told. It is passed over.
+    Entry,
+    /// The host can't go on with the list.
+    List,
 }
 
 /// How many bytes of names are read at once. Linux wants room for one entry at least, which takes at most 280.
@@ -99,6 +108,18 @@ pub fn is_out_of_memory<T>(answer: &io::Result<T>) -> bool
     }
 }
 
+/// The fault of a list by the host's error: want of memory, or else this one.
+fn list_fault(error: &io::Error, other: ListFault) -> ListFault
+    ensures memory { error_kind error.now ≡ ErrorKind.OutOfMemory → result ≡ ListFault.NoMemory }
+    ensures other { error_kind error.now ≢ ErrorKind.OutOfMemory → result ≡ other }
+{
+    if error.kind() == ErrorKind::OutOfMemory {
+        ListFault::NoMemory
+    } else {
+        other
+    }
+}
+
 /// An entry with its kind and inode, a link not followed. The folders get to know of it.
 fn tell<R: Files + AllocGlobal + Drop>(
     rt: &R,
@@ -134,33 +155,29 @@ where
             folder,
             path,
             names,
-            is_broken: false,
         })
     }
 
-    /// The next entry, as the host tells it. Where there is no memory for that, it stays the next one.
+    /// The next entry, as the host tells it. `None` at the end.
     pub fn next(
         &mut self,
         rt: &R,
         alloc: Global,
         folders: &mut Folders<R>,
-    ) -> Option<io::Result<RawEntry>> {
-        if self.is_broken {
-            return None;
-        }
+    ) -> Result<Option<RawEntry>, ListFault> {
         let len = match self.next_len() {
-            Ok(None) => return None,
+            Ok(None) => return Ok(None),
             Ok(Some(len)) => len,
-            Err(error) => {
-                self.is_broken = error.kind() != ErrorKind::OutOfMemory;
-                return Some(Err(error));
-            }
+            Err(error) => return Err(list_fault(&error, ListFault::List)),
         };
         let told = self.tell(rt, alloc, folders, len);
         if !is_out_of_memory(&told) {
             self.names.consume(len.saturating_add(1));
         }
-        Some(told)
+        match told {
+            Ok(entry) => Ok(Some(entry)),
+            Err(error) => Err(list_fault(&error, ListFault::Entry)),
+        }
     }
 
     /// How many bytes the name of the next entry takes, once the names that are none of an entry are passed over. `None` at the end.
