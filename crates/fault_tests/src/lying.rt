@@ -4,7 +4,7 @@ ghost use Rattle.std.specs.Prelude.{◌≡◌, IfOk, IfErr, IsErr, Ok};
 
 use crate::running::{holds, one_by_1, run_words};
 use mem_io::MemDisk;
-use sd_core::{SweepFault, sweep_capped};
+use sd_core::{Error, sweep_capped};
 use sd_io::{Disk, DiskFault, Globs, Ident, Kind, ListId, Meta, RawEntry, Text};
 use std::alloc::Global;
 use std::test::Fail;
@@ -156,7 +156,7 @@ fn lists_a_thousand(alloc: Global, disk: &mut LyingDisk) -> Result<bool, Fail> {
     globs.push("**")?;
     let replacer = one_by_1(alloc)?;
     let answer = sweep_capped(alloc, disk, "/t", &globs, &replacer, 1000);
-    let is_too_many = matches!(&answer, Err(SweepFault::TooMany));
+    let is_too_many = matches!(&answer, Err(Error::TooMany));
     drop(answer);
     drop(replacer);
     Ok(is_too_many)

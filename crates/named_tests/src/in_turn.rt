@@ -2,9 +2,8 @@
 
 use crate::disks::{NEW_B, OLD_A, OLD_B, all_hold, fill, has_modes, owned};
 use crate::swapping::Swap;
-use many_files::FilesFault;
+use many_files::{FilesFault, Report, rewrite_each};
 use mem_io::MemDisk;
-use named_files::rewrite_named;
 use sd_base::Text;
 use std::alloc::Global;
 use std::test::Fail;
@@ -24,14 +23,14 @@ fn answer_of(
     disk: &mut MemDisk,
     paths: Vec<Text>,
     swap: &Swap<'_>,
-) -> Result<(), FilesFault> {
-    rewrite_named(alloc, disk, paths, swap)
+) -> Result<Report, FilesFault> {
+    rewrite_each(alloc, disk, paths, swap)
 }
 
 /// The text of the fault; none where there is no fault.
-fn text_of(alloc: Global, answer: &Result<(), FilesFault>) -> Result<String, Fail> {
+fn text_of(alloc: Global, answer: &Result<Report, FilesFault>) -> Result<String, Fail> {
     match answer {
-        Ok(()) => Ok(String::new(alloc)),
+        Ok(_) => Ok(String::new(alloc)),
         Err(fault) => Ok(format!(in alloc; "{fault}")?),
     }
 }

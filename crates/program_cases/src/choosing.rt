@@ -15,7 +15,7 @@ use chosen_files::{Choice, ChoiceFault, GlobsError, choose_capped, read_globs};
 use glob_match::Glob;
 use mem_io::MemDisk;
 use sd_base::{Globs, Text};
-use sd_core::{Report, SweepFault, sweep_capped};
+use sd_core::{Report, sweep_capped};
 use sd_replace::{Replacer, ReplacerFault};
 use std::alloc::Global;
 
@@ -162,7 +162,7 @@ fn all_files(alloc: Global) -> Result<Globs, Error> {
 }
 
 /// What is told of a command: its counts, or the text of its fault.
-fn text_of(alloc: Global, answer: Result<Report, SweepFault>) -> Result<String, Error> {
+fn text_of(alloc: Global, answer: Result<Report, sd_core::Error>) -> Result<String, Error> {
     match answer {
         Ok(report) => {
             let (chosen, changed, replaced) = (report.chosen, report.changed, report.replaced);

@@ -2,7 +2,7 @@
 
 use crate::swapping::Swap;
 use mem_io::MemDisk;
-use sd_core::{Report, SweepFault, sweep};
+use sd_core::{Error, Report, sweep};
 use sd_io::Globs;
 use std::alloc::Global;
 use std::test::Fail;
@@ -26,7 +26,7 @@ fn globs_of(alloc: Global, texts: &[&str]) -> Result<Globs, Fail> {
 }
 
 /// What is told of a command: its counts, or the text of its fault.
-fn text_of(alloc: Global, answer: &Result<Report, SweepFault>) -> Result<String, Fail> {
+fn text_of(alloc: Global, answer: &Result<Report, Error>) -> Result<String, Fail> {
     match answer {
         Ok(report) => {
             let (chosen, changed, replaced) = (report.chosen, report.changed, report.replaced);
@@ -43,7 +43,7 @@ fn answer_of(
     root: &str,
     globs: &Globs,
     swap: &Swap<'_>,
-) -> Result<Report, SweepFault> {
+) -> Result<Report, Error> {
     sweep(alloc, disk, root, globs, swap)
 }
 
