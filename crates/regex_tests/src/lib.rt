@@ -1,21 +1,13 @@
-//! Tests of matchers of patterns by public calls alone: what they find, each option on and off, and what is refused.
+//! Tests of matchers of patterns by public calls alone, of what no table says: cloned builders, the default matchers, and the calls
+//! on trees.
 //!
-//! They stand apart from the crates that they test, so that a check of those reads no test.
+//! They stand apart from the crates that they test, so that a check of those reads no test. What matchers find is told by the tables
+//! of `regex_cases`.
 #![tactic(auto)]
 
 #[cfg(test)]
-mod building;
+mod builders;
 #[cfg(test)]
-mod bytes;
-#[cfg(test)]
-mod groups;
-#[cfg(test)]
-mod options;
-#[cfg(test)]
-mod patterns;
-#[cfg(test)]
-mod refusals;
-#[cfg(test)]
-mod terminators;
+mod defaults;
 #[cfg(test)]
 mod trees;

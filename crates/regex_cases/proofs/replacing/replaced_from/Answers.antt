@@ -1,5 +1,5 @@
 use Rattle.std.proofs.Common.{rules, ◌≡◌}
-use Rattle.regex_tests.proofs.patterns.replaced_from.Goals as goal
+use Rattle.regex_cases.proofs.replacing.replaced_from.Goals as goal
 
 pub replace_with_captures_at-done-requires-clause-stays : goal.replace_with_captures_at-done-requires-clause-stays
 replace_with_captures_at-done-requires-clause-stays c f g x takes step caps within d i span at =
