@@ -2,6 +2,7 @@
 use Rattle.std.specs.Prelude.{◌≡◌, Option, Some, None, List}
 use Rattle.sd_io.specs.Tree.{NameList, Node, Tree, node_at}
 use Rattle.sd_io.specs.Outcomes.{Outcome, Outcomes, never_used, built}
+use Rattle.sd_io.specs.Disk.{DiskState, outcomes_now}
 
 -- what stands at a place alone, or absent alone
 abbrev pub alone_outcome : Option Node → List Outcome
@@ -11,3 +12,7 @@ alone_outcome (Some node) = built node
 -- each place has one outcome: what stands there, or absent
 abbrev pub StandsAlone : Outcomes → Tree → Type 0
 StandsAlone outcomes tree = (q : NameList) → outcomes q ≡ alone_outcome (node_at tree q)
+
+-- so it is on a disk as built, and on an image
+abbrev pub IsAsBuilt : DiskState → Type 0
+IsAsBuilt state = StandsAlone (outcomes_now state) state.tree

@@ -1,6 +1,7 @@
 //! A disk, a source and a sink in memory, for tests and for trees that never touch the host.
 #![tactic(auto)]
 
+mod built_laws;
 mod calls;
 mod crash;
 mod disk;
@@ -18,6 +19,7 @@ mod trail;
 mod tree;
 mod walk;
 
+pub use built_laws::disks_as_built_have_one_outcome_a_place;
 pub use disk::MemDisk;
 pub use fault::BuildFault;
 pub use image_examples::images_take_outcomes_as_in_the_examples;

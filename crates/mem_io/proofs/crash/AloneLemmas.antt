@@ -3,7 +3,7 @@ use Rattle.std.proofs.Common.{◌≡◌, ◌≢◌, [], ℕ, refl, sym, ◌∙�
 use Rattle.std.specs.Prelude.{Option, Some, None, option_map}
 use Rattle.sd_io.specs.Tree.{NameList, Content, Node, Tree, SameBut, node_at}
 use Rattle.sd_io.specs.Outcomes.{Outcomes, never_used, built, put}
-use Rattle.mem_io.specs.Log.{at_first, new_top, outcomes_after, outcome_within}
+use Rattle.mem_io.specs.Log.{at_first, new_top, outcomes_after, outcome_within, after_device}
 use Rattle.mem_io.specs.MemTrail.{begins_with, dev_within}
 use Rattle.std.proofs.lemmas.Bool.{false≢true}
 use Rattle.mem_io.proofs.trail.DeviceLemmas.{begins_more, rest_of}
@@ -23,7 +23,7 @@ alone_first tree top others q = elim (same_or_other q []) [
 ]
 
 -- a node is built
-alone_more : (old new : Tree) (place : NameList) (node : Node) (outcomes : Outcomes) → StandsAlone outcomes old → SameBut place old new → node_at new place ≡ Some node → StandsAlone (put place (built node) outcomes) new
+pub alone_more : (old new : Tree) (place : NameList) (node : Node) (outcomes : Outcomes) → StandsAlone outcomes old → SameBut place old new → node_at new place ≡ Some node → StandsAlone (put place (built node) outcomes) new
 alone_more old new place node outcomes alone others stands q = elim (same_or_other q place) [
   | inl e ↦ (λ i. put place (built node) outcomes (e i)) ∙ put_there place (built node) outcomes ∙ ap alone_outcome (sym stands) ∙ (λ i. alone_outcome (node_at new (sym e i)))
   | inr n ↦ put_elsewhere place (built node) outcomes q n ∙ alone q ∙ ap alone_outcome (sym (others q n))
@@ -58,8 +58,12 @@ alone_within : (place : NameList) (dev : ℕ) (q : NameList) (o : Option Node) �
 alone_within place dev q None = refl
 alone_within place dev q (Some node) = refl
 
+pub alone_put : (old new : Tree) (place : NameList) (dev : ℕ) (outcomes : Outcomes) → PutsDevice old place dev new → StandsAlone outcomes old → StandsAlone (after_device place dev outcomes) new
+alone_put old new place dev outcomes puts alone q =
+    ap (map (outcome_within place dev q)) (alone q) ∙ alone_within place dev q (node_at old q) ∙ ap alone_outcome (sym (device_node old new place dev puts q))
+
 pub alone_device : (old new : Medium) (place : NameList) (dev : ℕ) → PutsDevice (told_tree old) place dev (told_tree new) → Notes old (change.DeviceSet place dev) new
     → StandsAlone (outcomes_after (changes_of old)) (told_tree old) → StandsAlone (outcomes_after (changes_of new)) (told_tree new)
 alone_device old new place dev puts noted alone q =
-    (λ i. outcomes_after (noted i) q) ∙ (λ i. after_last (changes_of old) (change.DeviceSet place dev) i q) ∙ ap (map (outcome_within place dev q)) (alone q)
-    ∙ alone_within place dev q (node_at (told_tree old) q) ∙ ap alone_outcome (sym (device_node (told_tree old) (told_tree new) place dev puts q))
+    (λ i. outcomes_after (noted i) q) ∙ (λ i. after_last (changes_of old) (change.DeviceSet place dev) i q)
+    ∙ alone_put (told_tree old) (told_tree new) place dev (outcomes_after (changes_of old)) puts alone q

@@ -1,0 +1,2 @@
+-- What the laws on disks as built use.
+pub mod BuiltLemmas
