@@ -24,15 +24,21 @@ type Answer = Result<Option<Vec<u8>>, Error>;
 
 /// What is chosen otherwise than a case has it; or nothing.
 pub fn chosen_otherwise(alloc: Global, case: &Case<'_>) -> Answer {
-    let mut disk = disk_of(alloc, case)?;
-    let found = chosen(alloc, case, &mut disk)?;
-    if disk.lists_most() > 10 {
+    let (found, lists) = chosen_on_new(alloc, case)?;
+    if lists > 10 {
         return Ok(Some("many lists".as_bytes().to_vec(alloc)?));
     }
     match found == wanted_lines(alloc, case.line())? {
         true => Ok(None),
         false => Ok(Some(found.into_bytes())),
     }
+}
+
+/// What a case chooses, as lines, and how many lists are open at most.
+fn chosen_on_new(alloc: Global, case: &Case<'_>) -> Result<(String, u64), Error> {
+    let mut disk = disk_of(alloc, case)?;
+    let found = chosen(alloc, case, &mut disk)?;
+    Ok((found, disk.lists_most()))
 }
 
 /// The fields of a case from the third on, as lines.
@@ -48,20 +54,21 @@ fn wanted_lines(alloc: Global, line: Line<'_>) -> Result<String, Error> {
 /// What is chosen on a disk, as lines.
 fn chosen(alloc: Global, case: &Case<'_>, disk: &mut MemDisk) -> Result<String, Error> {
     let globs = words_of(alloc, case.line(), 1)?;
-    chosen_by(alloc, case, disk, &globs)
-}
-
-/// What globs choose, as lines.
-fn chosen_by(
-    alloc: Global,
-    case: &Case<'_>,
-    disk: &mut MemDisk,
-    globs: &Globs,
-) -> Result<String, Error> {
-    let read = read_globs(alloc, globs)?;
     let cap = number_of(case, "cap")?.unwrap_or(1000);
     let root = case.line().text(alloc, 0)?;
-    let choice = choice_of(alloc, disk, &root, &read, cap);
+    chosen_by(alloc, disk, &root, &globs, cap)
+}
+
+/// What globs choose below a root, as lines.
+fn chosen_by(
+    alloc: Global,
+    disk: &mut MemDisk,
+    root: &str,
+    globs: &Globs,
+    cap: u64,
+) -> Result<String, Error> {
+    let read = read_globs(alloc, globs)?;
+    let choice = choice_of(alloc, disk, root, &read, cap);
     lines_of(alloc, &choice)
 }
 
@@ -112,8 +119,13 @@ fn count_of(alloc: Global, globs: &Globs) -> Result<usize, GlobsError> {
 /// What is told of a case's command, or what is left otherwise than it is to be.
 pub fn capped(alloc: Global, case: &Case<'_>) -> Answer {
     let mut disk = disk_of(alloc, case)?;
-    let told = swept(alloc, case, &mut disk)?;
-    match left_difference(alloc, case, &mut disk)? {
+    capped_on(alloc, case, &mut disk)
+}
+
+/// The same on a disk.
+fn capped_on(alloc: Global, case: &Case<'_>, disk: &mut MemDisk) -> Answer {
+    let told = swept(alloc, case, disk)?;
+    match left_difference(alloc, case, disk)? {
         None => Ok(Some(told.into_bytes())),
         found => Ok(found),
     }

@@ -3,7 +3,7 @@
 use crate::asked::{bytes_of, field_of, number_of};
 use crate::left::{holds, is_left, others_otherwise};
 use crate::running::{Ran, calls_of, run_words, wanted_of};
-use crate::tree::disk_of;
+use crate::tree::{disk_of, mode_of};
 use anyhow::Error;
 use case_reader::{Case, CaseFault, Line};
 use mem_io::MemDisk;
@@ -154,7 +154,7 @@ fn state_of_new(
         return Ok(State::Old);
     }
     let path = line.text(alloc, 1)?;
-    let has_mode = disk.mode_at(&path) == Some(crate::tree::mode_of(old, 2)?);
+    let has_mode = disk.mode_at(&path) == Some(mode_of(old, 2)?);
     match has_mode && holds(alloc, disk, &path, &line.bytes(alloc, 2)?)? {
         true => Ok(State::New),
         false => Ok(State::Otherwise),

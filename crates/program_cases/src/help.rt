@@ -8,12 +8,17 @@ use std::alloc::Global;
 
 /// What the help is shown otherwise than a case has it; or nothing.
 pub fn difference(alloc: Global, case: &Case<'_>) -> Result<Option<Vec<u8>>, Error> {
-    let mut disk = disk_of(alloc, case)?;
-    let ran = run_words(alloc, case, &mut disk)?;
+    let ran = run_on_new(alloc, case)?;
     if !is_help(&ran) {
         return Ok(Some("no help".as_bytes().to_vec(alloc)?));
     }
     missing(alloc, case, str::from_utf8(&ran.err)?)
+}
+
+/// Runs the words of a case on a new disk.
+fn run_on_new(alloc: Global, case: &Case<'_>) -> Result<Ran, Error> {
+    let mut disk = disk_of(alloc, case)?;
+    run_words(alloc, case, &mut disk)
 }
 
 /// Whether a run ended as one that shows the help.

@@ -3,7 +3,7 @@
 use crate::asked::number_of;
 use anyhow::Error;
 use case_reader::{Case, CaseFault, Line};
-use mem_io::MemDisk;
+use mem_io::{BuildFault, MemDisk};
 use std::alloc::Global;
 
 /// A disk with the tree of a section.
@@ -49,12 +49,22 @@ pub fn add(
 ) -> Result<(), Error> {
     let second = first.saturating_add(2);
     match line.written(first)? {
-        "dir" => Ok(disk.add_dir(path)?),
+        "dir" => Ok(add_dir(disk, path)?),
         "file" => add_file(alloc, disk, line, path, second),
         "link" => add_link(alloc, disk, line, path, second),
-        "other" => Ok(disk.add_other(path)?),
+        "other" => Ok(add_other(disk, path)?),
         _ => Err(CaseFault::Word)?,
     }
+}
+
+/// Adds a folder to a disk.
+fn add_dir(disk: &mut MemDisk, path: &str) -> Result<(), BuildFault> {
+    disk.add_dir(path)
+}
+
+/// Adds a node that is no folder, no link and no regular file to a disk.
+fn add_other(disk: &mut MemDisk, path: &str) -> Result<(), BuildFault> {
+    disk.add_other(path)
 }
 
 /// Adds a file to a disk. A field says its mode, and the next one its bytes.
@@ -89,7 +99,7 @@ fn add_deep(alloc: Global, disk: &mut MemDisk, line: Line<'_>) -> Result<(), Err
     for _ in 0..line.number(1)? {
         path.push('/')?;
         path.push_str(&name)?;
-        disk.add_dir(&path)?;
+        add_dir(disk, &path)?;
     }
     Ok(())
 }
