@@ -223,6 +223,24 @@ fn a_disk_as_built_is_its_own_image(rt: HostRuntime) -> Result<(), Fail> {
     Ok(())
 }
 
+#[test]
+fn nodes_of_an_image_keep_their_devices(rt: HostRuntime) -> Result<(), Fail> {
+    let alloc = rt.alloc();
+    let mut disk = two_files(alloc)?;
+    disk.set_dev("/t", 2)?;
+    disk.set_dev("/t/b.md", 3)?;
+    disk.add_dir("/u")?;
+    disk.rename("/t/a.txt", "/u/a.txt")?;
+    disk.sync_dir("/u")?;
+    let mut image = disk.crash(alloc, 0)?;
+    assert_eq!(rt; image.ident("/")?.dev, 1);
+    assert_eq!(rt; image.ident("/t")?.dev, 2);
+    assert_eq!(rt; image.ident("/t/b.md")?.dev, 3);
+    assert_eq!(rt; image.ident("/u")?.dev, 1);
+    assert_eq!(rt; image.ident("/u/a.txt")?.dev, 2);
+    Ok(())
+}
+
 /// Whether one of the first choices leaves nothing at the path.
 fn may_be_absent(alloc: Global, disk: &MemDisk, path: &str) -> Result<bool, Fail> {
     for choice in 0..CHOICES {

@@ -7,6 +7,7 @@ use Rattle.std.specs.Str.{bytes_eq}
 use Rattle.sd_io.specs.Tree.{Name, NameList, name_list_cmp, Content, directory, link, file, other, Node, Tree, IsName, is_directory_at}
 use Rattle.sd_io.specs.Outcomes.{Left, gone, this, any_file, Outcome, Outcomes, never_used, built, put, older, own_of, is_in, same_place, after_create, after_write, after_sync, after_move, after_no_move, after_remove, content_at}
 use Rattle.sd_io.specs.Disk.{DiskState}
+use Rattle.mem_io.specs.MemTree.{dev_at}
 use Rattle.mem_io.specs.MemTrail.{dev_within}
 use Rattle.mem_io.specs.MemSound.{bool_equation_prop, IsName-prop}
 use Rattle.mem_io.specs.declared.log.Change.{Change}
@@ -162,10 +163,18 @@ crash_content any_file = Some (file (0 ∷ []) 0)
 abbrev pub chosen : ℕ → ℕ → List Outcome → Left
 chosen choice i outcomes = (slice_index_or outcomes (rotate_right w64 choice (i % 64) % length outcomes) (older gone)).left
 
--- The image of a choice: the places that have an outcome other than absent are counted in order, and each takes one of its outcomes by its number.
+-- what stands where a node was left has its device
+abbrev pub HasDeviceOf : Left → ℕ → Type 0
+HasDeviceOf gone dev = Unit {0}
+HasDeviceOf (this node) dev = dev ≡ node.dev
+HasDeviceOf any_file dev = Unit {0}
+
+-- The image of a choice: the places that have an outcome other than absent are counted in order, and each takes one of its outcomes by its number,
+-- a node with its device.
 pub record IsCrash (outcomes : Outcomes) (choice : ℕ) (image : Tree) : Type 0 where
   pub places : List NameList
   pub in_order : IsStrictlySortedBy name_list_cmp places
   pub are_all : (q : NameList) → (has_other (outcomes q) ≡ true) ↔ Contains places q
   pub taken : (i : ℕ) (q : NameList) → i < length places → slice_index_or places i q ≡ q → content_at image q ≡ crash_content (chosen choice i (outcomes q))
+  pub devices : (i : ℕ) (q : NameList) → i < length places → slice_index_or places i q ≡ q → HasDeviceOf (chosen choice i (outcomes q)) (dev_at image q)
   pub others : (q : NameList) → has_other (outcomes q) ≡ false → content_at image q ≡ None

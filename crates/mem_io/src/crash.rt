@@ -1,14 +1,14 @@
 //! The image that a crash leaves of a disk in memory.
 
-ghost use Rattle.std.specs.Prelude.{◌≡◌, ◌≢◌, [], None, IfOk, OnOk};
+ghost use Rattle.std.specs.Prelude.{◌≡◌, ◌≢◌, [], None, IfOk, OnOk, IsSome};
 ghost use Rattle.sd_io.specs.Tree.{NameList, node_at};
-ghost use Rattle.mem_io.specs.MemTree.{IsPlaceIn, PutsDevice};
+ghost use Rattle.mem_io.specs.MemTree.{IsPlaceIn, PutsDevice, dev_at};
 ghost use Rattle.mem_io.specs.MemTreeView.{mem_tree};
 ghost use Rattle.sd_io.specs.Outcomes.{content_at};
-ghost use Rattle.mem_io.specs.Log.{IsCrash, crash_content, outcomes_after};
+ghost use Rattle.mem_io.specs.Log.{IsCrash, HasDeviceOf, crash_content, outcomes_after};
 ghost use Rattle.mem_io.specs.MemOutcome.{left_of};
 ghost use Rattle.mem_io.specs.MemTrail.{dev_within};
-ghost use Rattle.mem_io.specs.Images.{StandsAlone};
+ghost use Rattle.mem_io.specs.Images.{StandsAlone, SameDevicesOutside};
 ghost use Rattle.mem_io.specs.Medium.{told_tree, changes_of, Notes};
 ghost use Rattle.mem_io.specs.declared.log.Change.TheVariants as change;
 
@@ -59,6 +59,9 @@ impl Medium {
 
     /// A node that is left at a place has its device there.
     fn keep_dev(&mut self, place: &Place, left: &MemLeft) -> Result<(), NoMemory>
+        requires { IsSome (node_at (told_tree self.old) place.now) }
+        ensures device { OnOk result (HasDeviceOf (left_of left.now) (dev_at (told_tree self.new) place.now)) }
+        ensures outside { OnOk result (SameDevicesOutside place.now (told_tree self.old) (told_tree self.new)) }
         ensures contents { OnOk result ((q : NameList) → content_at (told_tree self.new) q ≡ content_at (told_tree self.old) q) }
         ensures alone { OnOk result (StandsAlone (outcomes_after (changes_of self.old)) (told_tree self.old) → StandsAlone (outcomes_after (changes_of self.new)) (told_tree self.new)) }
     {
@@ -80,6 +83,8 @@ impl Medium {
         ensures takes { OnOk result (place.now ≢ [] → content_at (told_tree self.new) place.now ≡ crash_content (left_of left.now)) }
         ensures others { OnOk result ((q : NameList) → q ≢ place.now → content_at (told_tree self.new) q ≡ content_at (told_tree self.old) q) }
         ensures top { OnOk result (content_at (told_tree self.new) [] ≡ content_at (told_tree self.old) []) }
+        ensures device { OnOk result (HasDeviceOf (left_of left.now) (dev_at (told_tree self.new) place.now)) }
+        ensures outside { OnOk result (SameDevicesOutside place.now (told_tree self.old) (told_tree self.new)) }
         ensures alone { OnOk result (StandsAlone (outcomes_after (changes_of self.old)) (told_tree self.old) → StandsAlone (outcomes_after (changes_of self.new)) (told_tree self.new)) }
     {
         let Some(content) = left.content(self.tree.alloc)? else {
@@ -93,7 +98,7 @@ impl Medium {
     }
 
     /// The image of a choice, on which each place has one outcome. The places that have an outcome other than absent are
-    /// counted from 0 in their order, and each takes one of its outcomes by the bits of the choice.
+    /// counted from 0 in their order, and each takes one of its outcomes by the bits of the choice, a node with its device.
     pub fn crash(&self, alloc: Global, choice: u64) -> Result<Medium, NoMemory>
         ensures crash { IfOk result (λ image. IsCrash (outcomes_after (changes_of self.now)) choice (told_tree image)) }
         ensures alone { IfOk result (λ image. StandsAlone (outcomes_after (changes_of image)) (told_tree image)) }

@@ -169,7 +169,7 @@ impl MemDisk {
     /// The image that a crash leaves now, by a choice: a disk of its own, of which no call was made or is to fail, and on
     /// which each place has one outcome. The places that have an outcome other than absent are counted from 0 in the order
     /// of their names. The one with number i takes its outcome number (choice rotated right by i mod 64 bits) mod their
-    /// count; any file becomes the one byte 0 with mode 0. Nothing stands elsewhere.
+    /// count, a node with its device; any file becomes the one byte 0 with mode 0. Nothing stands elsewhere.
     pub fn crash(&self, alloc: Global, choice: u64) -> Result<MemDisk, NoMemory>
         ensures crash { IfOk result (λ image. IsCrash (outcomes_now (mem_state self.now)) choice (mem_state image).tree) }
         ensures left { IfOk result (λ image. MayLeave (mem_state self.now) (mem_state image).tree) }

@@ -1,5 +1,5 @@
 -- The image of a choice grows place by place.
-use Rattle.std.proofs.Common.{◌≡◌, ◌≢◌, ◌<◌, ◌≤◌, ◌+◌, ◌%◌, ◌⊎◌, ℕ, zero, suc, List, [], ◌∷◌, ◌++◌, length, get_or, refl, sym, ◌∙◌, ap, inl, inr, true, arith}
+use Rattle.std.proofs.Common.{◌≡◌, ◌≢◌, ◌<◌, ◌≤◌, ◌+◌, ◌%◌, ◌⊎◌, ℕ, zero, suc, List, [], ◌∷◌, ◌++◌, length, get_or, refl, sym, ◌∙◌, ap, subst, inl, inr, Bool, true, false, cond, arith}
 use Rattle.std.specs.Prelude.{Option, Some, None, option_map}
 use Rattle.std.specs.declared.cmp.Ordering.TheVariants.{Less, Greater}
 use Rattle.std.specs.Ordering.{ordering_then}
@@ -7,15 +7,19 @@ use Rattle.std.specs.Int.{w64, rotate_right}
 use Rattle.std.specs.List.{list_all, slice_get}
 use Rattle.std.specs.List.Sorted.{IsStrictlySortedBy}
 use Rattle.std.specs.Map.{keys_of}
+use Rattle.std.specs.Str.{bytes_eq}
+use Rattle.std.specs.Cmp.Lexicographic.{bytes_decides}
 use Rattle.std.proofs.Math.Nat.{mod-lt}
 use Rattle.std.proofs.lemmas.Cmp.{tied_itself, nat_list_cmp_total}
 use Rattle.std.proofs.lemmas.Map.Keys.{Less-from_sorted}
 use Rattle.std.proofs.lemmas.Map.Entries.{length-keys_of}
 use Rattle.std.proofs.lemmas.Option.{slice_get_within, get_or_from_slice_get, slice_get-map, slice_get-get_or, same_Some}
 use Rattle.sd_io.specs.Tree.{Name, NameList, name_list_cmp, Content, directory, link, file, other, Node, Tree, node_at, is_directory_at, is_directory_node}
-use Rattle.mem_io.specs.MemTree.{IsPlaceIn}
+use Rattle.mem_io.specs.MemTree.{IsPlaceIn, dev_at}
+use Rattle.mem_io.specs.MemTrail.{begins_with}
+use Rattle.mem_io.specs.Images.{SameDevicesOutside}
 use Rattle.sd_io.specs.Outcomes.{Left, gone, this, any_file, Outcome, older, Outcomes, content_of, content_at}
-use Rattle.mem_io.specs.Log.{fits_test, is_own_of, is_left, is_tidy, has_other, crash_content, chosen, IsKept, IsCrash}
+use Rattle.mem_io.specs.Log.{fits_test, is_own_of, is_left, is_tidy, has_other, crash_content, chosen, HasDeviceOf, IsKept, IsCrash}
 use Rattle.mem_io.specs.LogHolds.{both, content_same}
 use Rattle.mem_io.specs.OutcomeTable.{Counts}
 use Rattle.mem_io.proofs.log.TestLemmas.{standing_other}
@@ -104,18 +108,34 @@ before_or_here k n low = grind arith
 apart_numbers : (k n : ℕ) → (k < n) ⊎ ((k ≡ n) ⊎ (n < k))
 apart_numbers k n = grind arith
 
+-- a place that begins with the names of another doesn't come before it
+pub not_before : (place q : NameList) → name_list_cmp q place ≡ Less → begins_with place q ≡ false
+not_before [] [] e = cc
+not_before [] (next ∷ q) e = cc
+not_before (name ∷ place) [] e = refl
+not_before (name ∷ place) (next ∷ q) e = by (bytes_eq name next) (bytes_decides name next).0 (not_before place q)
+  where
+    by : (b : Bool) → (b ≡ true → name ≡ next) → (name_list_cmp q place ≡ Less → begins_with place q ≡ false) → cond b (begins_with place q) false ≡ false
+    by false same rest = refl
+    by true same rest =
+        let tied : name_list_cmp (next ∷ q) (name ∷ place) ≡ name_list_cmp q place =
+        ap (λ n. name_list_cmp (next ∷ q) (n ∷ place)) (same refl) ∙ ap (λ r. ordering_then r (name_list_cmp q place)) (tied_itself nat_list_cmp_total next) in
+        rest (sym tied ∙ e)
+
 -- ---- the image so far
 
 -- the first n places that count have what they take, and nothing else stands but the top
 pub record ImageSoFar (choice : ℕ) (lists : Lists) (n : ℕ) (tree : Tree) : Type 0 where
   pub top : content_at tree [] ≡ Some directory
   pub taken : (k : ℕ) (q : NameList) (list : List Outcome) → k < n → slice_get lists k ≡ Some (q, list) → q ≢ [] → content_at tree q ≡ crash_content (chosen choice k list)
+  pub devices : (k : ℕ) (q : NameList) (list : List Outcome) → k < n → slice_get lists k ≡ Some (q, list) → HasDeviceOf (chosen choice k list) (dev_at tree q)
   pub free : (q : NameList) → q ≢ [] → ((k : ℕ) (list : List Outcome) → k < n → slice_get lists k ≡ Some (q, list) → ⊥) → content_at tree q ≡ None
 
 pub image_first : (choice : ℕ) (lists : Lists) (tree : Tree) (top : Node) → node_at tree [] ≡ Some top → top.content ≡ directory → ((q : NameList) → q ≢ [] → node_at tree q ≡ None) → ImageSoFar choice lists 0 tree
 image_first choice lists tree top stands is others = record {
   top = ap content_of stands ∙ ap (λ (c : Content). Some c) is;
   taken = λ k q list low _ _. absurd (omega arith);
+  devices = λ k q list low _. absurd (omega arith);
   free = λ q below _. ap content_of (others q below);
 }
 
@@ -126,12 +146,17 @@ module _ (choice : ℕ) (lists : Lists) (n : ℕ) (tree : Tree) (place : NameLis
   next_free below = nothing_there (node_at tree place) (so_far.free place below (λ k other low at. apart_at lists k n place place other list sorted at here low refl))
 
   -- one place more
-  pub image_more : (new : Tree) → ((q : NameList) → q ≢ place → content_at new q ≡ content_at tree q) → content_at new [] ≡ Some directory → (place ≢ [] → content_at new place ≡ crash_content (chosen choice n list)) → ImageSoFar choice lists (n + 1) new
-  image_more new others top takes = record {
+  pub image_more : (new : Tree) → ((q : NameList) → q ≢ place → content_at new q ≡ content_at tree q) → content_at new [] ≡ Some directory → (place ≢ [] → content_at new place ≡ crash_content (chosen choice n list))
+      → SameDevicesOutside place tree new → HasDeviceOf (chosen choice n list) (dev_at new place) → ImageSoFar choice lists (n + 1) new
+  image_more new others top takes outside device = record {
     top = top;
     taken = λ k q l low at below. elim (before_or_here k n low) [
       | inl before ↦ others q (apart_at lists k n q place l list sorted at here before) ∙ so_far.taken k q l before at below
       | inr same ↦ now k q l same at below
+    ];
+    devices = λ k q l low at. elim (before_or_here k n low) [
+      | inl before ↦ subst (HasDeviceOf (chosen choice k l)) (sym (outside q (not_before place q (ordered_at lists k n q place l list sorted at here before)))) (so_far.devices k q l before at)
+      | inr same ↦ device_now k q l same at
     ];
     free = λ q below none.
         let apart : q ≢ place = λ e. none n list (omega arith) (here ∙ (λ i. Some (sym e i, list))) in
@@ -145,6 +170,13 @@ module _ (choice : ℕ) (lists : Lists) (n : ℕ) (tree : Tree) (place : NameLis
           let place_is = ap (λ (e : NameList × List Outcome). e.0) entry_is in
           let list_is = ap (λ (e : NameList × List Outcome). e.1) entry_is in
           (λ i. content_at new (place_is i)) ∙ takes (λ e. below (place_is ∙ e)) ∙ (λ i. crash_content (chosen choice (sym same i) (sym list_is i)))
+
+      device_now : (k : ℕ) (q : NameList) (l : List Outcome) → k ≡ n → slice_get lists k ≡ Some (q, l) → HasDeviceOf (chosen choice k l) (dev_at new q)
+      device_now k q l same at =
+          let both_are : Some (q, l) ≡ Some (place, list) = sym at ∙ ap (slice_get lists) same ∙ here in
+          let entry_is = same_Some (q, l) (place, list) both_are in
+          let there : HasDeviceOf (chosen choice n l) (dev_at new q) = subst (λ (e : NameList × List Outcome). HasDeviceOf (chosen choice n e.1) (dev_at new e.0)) (sym entry_is) device in
+          subst (λ (m : ℕ). HasDeviceOf (chosen choice m l) (dev_at new q)) (sym same) there
 
 -- ---- where a node can be built
 
@@ -190,6 +222,9 @@ module _ (old : Tree) (outcomes : Outcomes) (kept : IsKept old outcomes) (lists 
     in_order = counts.in_order;
     are_all = λ q. ((λ e. let at = counts.all q e in (at.0, key_within lists at.0 q (outcomes q) at.1, key_at lists at.0 q q (outcomes q) at.1)), (λ at. listed at.0 q at.1 at.2));
     taken = λ i q low is. takes i q low is (same_or_other q []);
+    devices = λ i q low is.
+        let told = counts.told i q _ (entry i q low is) in
+        subst (λ (os : List Outcome). HasDeviceOf (chosen choice i os) (dev_at tree q)) told.0 (so_far.devices i q _ (omega (arith, low, all, length-keys_of lists)) (entry i q low is));
     others = λ q none.
         let below : q ≢ [] = λ e. cc (sym none ∙ (λ i. has_other (outcomes (e i))) ∙ directory_other old outcomes kept [] top) in
         so_far.free q below (λ k list low at. let told = counts.told k q list at in cc (sym none ∙ ap has_other (sym told.0) ∙ told.1));

@@ -1,8 +1,9 @@
 use Rattle.std.proofs.Common.{◌≡◌, List, length, refl, sym, ◌∙◌, ap, subst, arith}
 use Rattle.std.proofs.lemmas.Option.{slice_get_read}
 use Rattle.sd_io.specs.Tree.{NameList}
-use Rattle.sd_io.specs.Outcomes.{Outcome, Outcomes}
-use Rattle.mem_io.specs.Log.{new_top, outcomes_after, crash_content}
+use Rattle.sd_io.specs.Outcomes.{Left, Outcome, Outcomes}
+use Rattle.mem_io.specs.Log.{new_top, outcomes_after, crash_content, HasDeviceOf}
+use Rattle.mem_io.specs.MemTree.{dev_at}
 use Rattle.mem_io.specs.MemTreeView.{mem_tree}
 use Rattle.mem_io.specs.Medium.{told_tree, changes_of}
 use Rattle.mem_io.specs.OutcomeTable.{Counts}
@@ -57,7 +58,8 @@ loop-i-preserved c =
     let left = c.in_ok-leave.ensures in
     record {
       so_far = image_more c.args.choice items c.loop-i.i (told_tree c.loop-i.image) entry.0 entry.1 counts.in_order c.loop-i.invariant.so_far here (told_tree c.leave.new.self) left.others (left.top ∙ c.loop-i.invariant.so_far.top)
-          (λ below. left.takes below ∙ ap crash_content c.chosen.ensures);
+          (λ below. left.takes below ∙ ap crash_content c.chosen.ensures) left.outside
+          (subst (λ (l : Left). HasDeviceOf l (dev_at (told_tree c.leave.new.self) entry.0)) c.chosen.ensures left.device);
       alone = left.alone c.loop-i.invariant.alone;
     }
 
