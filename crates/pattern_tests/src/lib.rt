@@ -1,4 +1,4 @@
-//! Tests of patterns by public calls alone: trees, their lists, looks, and searches.
+//! Tests of patterns by public calls alone: trees, their lists, and searches.
 //!
 //! They stand apart from the crates that they test, so that a check of those reads no test.
 #![tactic(auto)]
@@ -7,8 +7,6 @@
 mod all_small_patterns;
 #[cfg(test)]
 mod lists;
-#[cfg(test)]
-mod looks;
 #[cfg(test)]
 mod many_spots;
 #[cfg(test)]
