@@ -9,3 +9,12 @@ pub mod Readings
 pub mod Removed
 pub mod ReadSoFar
 pub mod Stripping
+pub use Rattle.grep_matcher.specs.ByteSets
+pub use Rattle.grep_matcher.specs.NoMatch
+pub use Rattle.grep_matcher.specs.Span
+pub use Rattle.grep_matcher.specs.Terminators
+pub use Rattle.hir_tree.specs.Cores
+pub use Rattle.hir_tree.specs.Onward
+pub use Rattle.hir_tree.specs.Runs
+pub use Rattle.hir_tree.specs.Spots
+pub use Rattle.hir_tree.specs.Tree

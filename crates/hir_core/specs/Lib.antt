@@ -17,6 +17,7 @@ pub use Rattle.hir_tree.specs.Groups
 pub use Rattle.hir_tree.specs.Hirs
 pub use Rattle.hir_tree.specs.Laws
 pub use Rattle.hir_tree.specs.Looks
+pub use Rattle.hir_tree.specs.Onward
 pub use Rattle.hir_tree.specs.PlainText
 pub use Rattle.hir_tree.specs.Ranges
 pub use Rattle.hir_tree.specs.Runs
@@ -26,3 +27,7 @@ pub use Rattle.hir_tree.specs.Sides
 pub use Rattle.hir_tree.specs.Sound
 pub use Rattle.hir_tree.specs.Spots
 pub use Rattle.hir_tree.specs.Tree
+pub use Rattle.grep_matcher.specs.Groups as MatchGroups
+pub use Rattle.grep_matcher.specs.Span
+pub use Rattle.sd_base.specs.Steps
+pub use Rattle.sd_base.specs.StepsView
