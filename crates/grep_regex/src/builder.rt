@@ -5,7 +5,7 @@ ghost use Rattle.hir_tree.specs.Tree.{tree_of};
 ghost use Rattle.grep_regex.specs.Building.{FitTogether, HasTheClearRuns, IsBare, IsBuilt, IsRefused, MatchesAreClear};
 ghost use Rattle.grep_regex.specs.Options.{byte_terminator, crlf_terminator, default_options, line_options, terminator_told};
 
-use crate::building::matcher_of;
+use crate::building::{check_length, matcher_of};
 use crate::options::Options;
 use crate::{Error, RegexMatcher};
 use grep_matcher::LineTerminator;
@@ -219,11 +219,10 @@ impl RegexMatcherBuilder {
     /// A matcher of one pattern. No match holds a byte of the terminator: where nothing stands round the whole, the matches are
     /// those of the pattern that don't.
     ///
-    /// It is refused, and in this order, where the terminator isn't ASCII, where the pattern isn't read or nests too deep, where
-    /// it has a name twice, where it asks for the banned byte or for a byte of the terminator, and where it is too large. Want of
-    /// memory may come at any time.
+    /// It is refused, and in this order, where the terminator isn't ASCII, where the pattern isn't read, as one of 2^32 bytes and
+    /// more, or nests too deep, where it has a name twice, where it asks for the banned byte or for a byte of the terminator, and
+    /// where it is too large. Want of memory may come at any time.
     pub fn build(&self, alloc: Global, pattern: &str) -> Result<RegexMatcher, Error>
-        requires fit { FitTogether (pattern.now ∷ []) }
         ensures built { IfOk result (λ matcher. IsBuilt self.now (pattern.now ∷ []) (tree_of matcher.searcher)) }
         ensures terminator { IfOk result (λ matcher. matcher.terminator ≡ terminator_told self.now (tree_of matcher.searcher)) }
         ensures clear { IfOk result (λ matcher. MatchesAreClear self.now (tree_of matcher.searcher)) }
@@ -231,6 +230,7 @@ impl RegexMatcherBuilder {
             → HasTheClearRuns self.now (pattern.now ∷ []) (tree_of matcher.searcher)) }
         ensures refused { IfErr result (λ error. IsRefused self.now (pattern.now ∷ []) error.kind) }
     {
+        check_length(&self.options, pattern)?;
         let mut patterns = Patterns::new(alloc);
         patterns.push(pattern)?;
         self.build_many(alloc, &patterns)
@@ -268,7 +268,6 @@ impl RegexMatcher {
     /// A matcher of a pattern under the options that a builder begins with. It is refused as
     /// [`build`](RegexMatcherBuilder::build) is.
     pub fn new(alloc: Global, pattern: &str) -> Result<RegexMatcher, Error>
-        requires fit { FitTogether (pattern.now ∷ []) }
         ensures built { IfOk result (λ matcher. IsBuilt default_options (pattern.now ∷ []) (tree_of matcher.searcher)) }
         ensures terminator { IfOk result (λ matcher. matcher.terminator ≡ terminator_told default_options (tree_of matcher.searcher)) }
         ensures clear { IfOk result (λ matcher. MatchesAreClear default_options (tree_of matcher.searcher)) }
@@ -280,7 +279,6 @@ impl RegexMatcher {
 
     /// The same for lines that end with `\n`: no match holds one.
     pub fn new_line_matcher(alloc: Global, pattern: &str) -> Result<RegexMatcher, Error>
-        requires fit { FitTogether (pattern.now ∷ []) }
         ensures built { IfOk result (λ matcher. IsBuilt line_options (pattern.now ∷ []) (tree_of matcher.searcher)) }
         ensures terminator { IfOk result (λ matcher. matcher.terminator ≡ terminator_told line_options (tree_of matcher.searcher)) }
         ensures clear { IfOk result (λ matcher. MatchesAreClear line_options (tree_of matcher.searcher)) }

@@ -1,12 +1,13 @@
 //! The way from patterns to a matcher, test by test.
 
-ghost use Rattle.std.specs.Prelude.{◌≡◌, ◌<◌, ◌≤◌, None, IfOk, IfErr, IfSome, OnOk};
+ghost use Rattle.std.specs.Prelude.{◌≡◌, ◌<◌, ◌≤◌, ◌∷◌, [], None, IfOk, IfErr, IfSome, OnOk};
 ghost use Rattle.hir_tree.specs.Tree.{tree_of};
 ghost use Rattle.grep_regex.specs.Building.{FitTogether, HasTheClearRuns, IsAscii, IsBanRefused, IsBare, IsBuilt, IsRefused, IsSizeRefused, IsStripRefused, IsTerminatorRefused, IsUnbanned, MatchesAreClear, size_cap, size_of};
 ghost use Rattle.grep_regex.specs.Options.{terminator, terminator_told};
 ghost use Rattle.grep_regex.specs.Stripping.{not_allowed, stripped};
 
 use crate::assembling::{edged, together};
+use crate::fitting::MOST_BYTES;
 use crate::non_matching::has_text_anchor;
 use crate::options::Options;
 use crate::reading::read_patterns;
@@ -56,6 +57,18 @@ fn pattern_of(alloc: Global, options: &Options, patterns: &Patterns) -> Result<H
     let whole = edged(alloc, options, stripped)?;
     check_size(options, &whole)?;
     Ok(whole)
+}
+
+/// Refuses a pattern of 2^32 bytes and more, which is read as nothing, after a terminator that isn't ASCII.
+pub(crate) fn check_length(options: &Options, pattern: &str) -> Result<(), Error>
+    ensures fits { OnOk result (FitTogether (pattern.now ∷ [])) }
+    ensures refused { IfErr result (λ error. IsRefused options.now (pattern.now ∷ []) error.kind) }
+{
+    if pattern.len() <= MOST_BYTES {
+        return Ok(());
+    }
+    check_terminator(options)?;
+    Err(Error::new(ErrorKind::Regex(RegexFault::Grammar)))
 }
 
 /// Refuses a terminator that isn't ASCII. Of `\r\n` the last byte tells.

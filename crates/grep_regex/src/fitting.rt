@@ -6,7 +6,7 @@ ghost use Rattle.grep_regex.specs.Building.{FitTogether};
 use sd_base::Patterns;
 
 /// How many bytes patterns may have together: one fewer than 2^32.
-const MOST_BYTES: usize = u32::MAX as usize;
+pub(crate) const MOST_BYTES: usize = u32::MAX as usize;
 
 /// Whether patterns together have fewer than 2^32 bytes, so that the numbers of their groups fit. Building asks for it.
 pub fn fit_together(patterns: &Patterns) -> bool
