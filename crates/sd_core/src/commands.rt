@@ -12,6 +12,7 @@ ghost use Rattle.sd_core.specs.TreeCommand.{DoesTreeCommand, TreeCommand};
 ghost use Rattle.sd_core.specs.DemoCommand.{DemoCommand};
 ghost use Rattle.sd_core.specs.InputCommand.{InputCommand};
 ghost use Rattle.sd_core.specs.NamedCommands.{FilesCommand, PreviewCommand};
+ghost use Rattle.sd_core.specs.declared.error.Error.{Error};
 
 use crate::app::{preview_files, replace_input, rewrite_files};
 use crate::printing::print_report;

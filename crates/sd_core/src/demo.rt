@@ -15,12 +15,7 @@ use std::alloc::Global;
 ///
 /// Refuses `BadGlob` with the place of the first invalid glob, and for want of memory: before anything is written, or as
 /// `FailedProcessing` with the files that it kept from being rewritten.
-pub fn sweep_demo<R: Replaces>(
-    alloc: Global,
-    n: u64,
-    globs: &Globs,
-    replacer: &R,
-) -> Result<Report>
+pub fn sweep_demo<R: Replaces>(alloc: Global, n: u64, globs: &Globs, replacer: &R) -> Result<Report>
     requires { n ≤ 100000 }
     ensures counted { IfOk result (CountsDemo (R.change replacer.now) n globs.now) }
     ensures fails { IfErr result (DemoFails n globs.now) }
