@@ -1,6 +1,7 @@
 -- Walks that run out, and listings.
 use Rattle.std.proofs.Common.{◌≡◌, ◌≢◌, ◌≤◌, ◌⊎◌, ℕ, zero, suc, Bool, List, [], ◌∷◌, Option, Some, None, Err, refl, sym, subst, ap, arith, inl, inr}
 use Rattle.std.specs.Prelude.{IsTrue, All}
+use Rattle.std.proofs.lemmas.List.Elements.{All-head, All-tail}
 use Rattle.sd_io.specs.Count.{HasRisen}
 use Rattle.sd_io.specs.Disk.{DiskState}
 use Rattle.sd_io.specs.Tree.{Tree}
@@ -49,21 +50,23 @@ module _ {S : Type 0} where
       → (HasRisen old.faults new.faults → ⊥) → All (λ (item : Item). item ≢ Err error.NoMemory) items → Runs rest items
   runs_out tells sorts compares_by old new before now items by rest told compares has (ended gives) none named = at (gives.step told by rest compares has)
     where
-      at : (None ≡ Some (Err error.NoMemory)) ⊎ StepsTo old (sorts before.order) by rest None new now → Runs rest []
+      at : ◌≡◌ {A = Option Item} None (Some (Err error.NoMemory)) ⊎ StepsTo old (sorts before.order) by rest None new now → Runs rest []
       at (inl want) = absurd (cc want)
       at (inr step) = (step.new, whole_step old new (sorts before.order) by rest None now step none)
   runs_out tells sorts compares_by old new before now items by rest told compares has (went_on {mid = mid} {between = between} {item = item} {items = more} gives runs) none named =
-      at (gives.step told by rest compares has)
+      at (λ left has_left no_fault all_named. runs_out tells sorts compares_by mid new between now more by left told (subst (λ (order : S). compares_by order by) (sym gives.same.order) compares) has_left runs no_fault all_named)
+      (gives.step told by rest compares has)
     where
-      at : (Some item ≡ Some (Err error.NoMemory)) ⊎ StepsTo old (sorts before.order) by rest (Some item) mid between → Runs rest (item ∷ more)
-      at (inl want) = (let is : item ≡ Err error.NoMemory = cc want in absurd (named.0 is))
-      at (inr step) = (
+      at : ((left : Rest) → HasRest mid (sorts between.order) by between left → (HasRisen mid.faults new.faults → ⊥)
+          → All (λ (i : Item). i ≢ Err error.NoMemory) more → Runs left more)
+          → ◌≡◌ {A = Option Item} (Some item) (Some (Err error.NoMemory)) ⊎ StepsTo old (sorts before.order) by rest (Some item) mid between → Runs rest (item ∷ more)
+      at goes (inl want) = (let is : item ≡ Err error.NoMemory = cc want in absurd (All-head (λ (i : Item). i ≢ Err error.NoMemory) item more named is))
+      at goes (inr step) = (
         step.new,
         whole_step old mid (sorts before.order) by rest (Some item) between step
             (λ risen. none (rises_later old.faults mid.faults new.faults (runs_later tells sorts compares_by mid new between now more runs) risen)),
-        runs_out tells sorts compares_by mid new between now more by step.new told (subst (λ (order : S). compares_by order by) (sym gives.same.order) compares)
-            (subst (λ (b : Bool). HasRest mid b by between step.new) (sym (ap sorts gives.same.order)) step.left) runs
-            (λ risen. none (rises_earlier old.faults mid.faults new.faults gives.faults risen)) named.1,
+        goes step.new (subst (λ (b : Bool). HasRest mid b by between step.new) (sym (ap sorts gives.same.order)) step.left)
+            (λ risen. none (rises_earlier old.faults mid.faults new.faults gives.faults risen)) (All-tail (λ (i : Item). i ≢ Err error.NoMemory) item more named),
       )
 
 -- ---- how many lists may be open
