@@ -6,3 +6,5 @@ pub mod Steps
 pub mod Lists
 pub mod Causes
 pub mod Listed
+pub mod Promises
+pub mod Progress

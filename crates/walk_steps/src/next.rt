@@ -2,16 +2,17 @@
 
 ghost use Rattle.std.specs.Prelude.{◌≡◌, ◌≢◌, ◌+◌, ◌^◌, ◌<◌, ◌≤◌, ◌⊎◌, ◌↔◌, ℕ, true, false, [], Some, None, Err, IsTrue, IfOk, OnOk, OnSome, IfNone};
 ghost use Rattle.sd_io.specs.Count.{HasRisen};
-ghost use Rattle.sd_io.specs.Disk.{SameTree};
 ghost use Rattle.walk_rest.specs.declared.error.Error.TheVariants as error;
 ghost use Rattle.walk_rest.specs.Plan.{Comparison};
 ghost use Rattle.walk_rest.specs.Rest.{Rest};
-ghost use Rattle.walk_steps.specs.Causes.{CountsAbsent, CountsFaults, FitsTree, IsCaused, IsEnteredBy, IsLoopOf, faults_told};
-ghost use Rattle.walk_steps.specs.Inside.{HasRest, IsRead, SameWalk, chain_of, levels_of, with_top};
-ghost use Rattle.walk_steps.specs.Listed.{GivesAtOnce, GivesListed, HasRoom, IsToList, IsToListOnTop, IsTopSettled};
-ghost use Rattle.walk_steps.specs.Listed.{below_one, entered_in, gives_below, waits_in};
-ghost use Rattle.walk_steps.specs.Sound.{IsSound, KeepsWalk, SameOthers, StaysWithin, depth_below, open_in, open_limit};
-ghost use Rattle.walk_steps.specs.Steps.{ByEachRest, HasTaken, StepsTo, TurnsTo};
+ghost use Rattle.walk_steps.specs.Causes.{CountsFaults, FitsTree, IsCaused, faults_told};
+ghost use Rattle.walk_steps.specs.Inside.{HasRest, IsRead, levels_of, with_top};
+ghost use Rattle.walk_steps.specs.Listed.{GivesAtOnce, GivesListed, HasRoom, IsToList, IsTopSettled};
+ghost use Rattle.walk_steps.specs.Listed.{below_one, gives_below, waits_in};
+ghost use Rattle.walk_steps.specs.Progress.{Progresses, kept_in};
+ghost use Rattle.walk_steps.specs.Promises.{GivesNext};
+ghost use Rattle.walk_steps.specs.Sound.{IsSound, KeepsWalk, depth_below, open_in, open_limit};
+ghost use Rattle.walk_steps.specs.Steps.{ByEachRest, HasTaken, TurnsTo};
 ghost use Rattle.walk_steps.specs.Work.{left_to_do};
 
 use crate::Inside;
@@ -30,31 +31,9 @@ pub fn next_item<D: Disk, S: Order>(
 ) -> Option<Result<DirEntry, Error>>
     requires sound { IsSound (D.state disk.old) (S.sorts inside.old.order) inside.old }
     requires order { S.can_compare inside.old.order }
-    ensures step { ByEachRest D.tells S.compares_by (D.state disk.old) (S.sorts inside.old.order) inside.old (λ by rest.
-        (result ≡ Some (Err error.NoMemory)) ⊎ StepsTo (D.state disk.old) (S.sorts inside.old.order) by rest result (D.state disk.new) inside.new) }
-    ensures sound { IsSound (D.state disk.new) (S.sorts inside.new.order) inside.new }
-    ensures same { SameWalk inside.old inside.new }
+    ensures gives { GivesNext D.tells (S.sorts inside.old.order) (S.compares_by inside.old.order) (D.state disk.old) inside.old result
+        (D.state disk.new) inside.new }
     ensures less { OnSome result (left_to_do (D.state disk.new) inside.new < left_to_do (D.state disk.old) inside.old) }
-    ensures ended { IfNone result (levels_of inside.new ≡ []) }
-    ensures gave_up { result ≡ Some (Err error.NoMemory) → levels_of inside.new ≡ [] }
-    ensures within { StaysWithin (open_limit inside.old.options) (D.state disk.old) (levels_of inside.old) (D.state disk.new) (levels_of inside.new) }
-    ensures others { SameOthers (D.state disk.old) (levels_of inside.old) (D.state disk.new) (levels_of inside.new) }
-    ensures counted { FitsTree D.tells S.compares_by (D.state disk.old) (S.sorts inside.old.order) inside.old
-        → CountsFaults (faults_told D.tells result) (D.state disk.old) (levels_of inside.old) (D.state disk.new) (levels_of inside.new) }
-    ensures absent { CountsAbsent D.tells (D.state disk.old) result (D.state disk.new) }
-    ensures looped { IsLoopOf inside.new.options.follow_links (chain_of inside.new) result }
-    ensures uncapped { result ≢ Some (Err error.TooMany) }
-    ensures listed_each { GivesListed (gives_below result) (D.state disk.old) (levels_of inside.old) (D.state disk.new) (levels_of inside.new) }
-    ensures listed_once { S.sorts inside.old.order ≡ false → GivesAtOnce inside.old.options → entered_in (levels_of inside.old) ≤ open_limit inside.old.options
-        → (D.state disk.new).listed ≤ (D.state disk.old).listed + 1 }
-    ensures listed_whole { IsTrue D.tells → (by : Comparison) (count : ℕ) → S.compares_by inside.old.order by
-        → S.sorts inside.old.order ≡ true → GivesAtOnce inside.old.options
-        → IsToListOnTop (D.state disk.old).tree inside.old.options.max_depth inside.old.top count
-        → ¬ HasRisen (D.state disk.old).faults (D.state disk.new).faults → result ≢ Some (Err error.NoMemory)
-        → (D.state disk.new).listed ≡ (D.state disk.old).listed + count }
-    ensures entered { IsEnteredBy result inside.new.top }
-    ensures tree { SameTree (D.state disk.old) (D.state disk.new) }
-    ensures faults { (D.state disk.old).faults ≤ (D.state disk.new).faults }
 {
     while let Some(level) = inside.top.take() {
         match turn(disk, inside, level) {
@@ -101,6 +80,8 @@ fn turn<D: Disk, S: Order>(
         → IsToList (D.state disk.old).tree inside.old.options.max_depth level.folder level.entries count
         → ¬ HasRisen (D.state disk.old).faults (D.state disk.new).faults
         → OnOk result ((D.state disk.new).listed ≡ (D.state disk.old).listed + count) }
+    ensures progress { IsRead level.entries → IfOk result (λ answer.
+        Progresses level.first (D.state disk.old) (levels_of (with_top inside.old level)) answer (D.state disk.new) (levels_of inside.new)) }
     ensures less { OnOk result (left_to_do (D.state disk.new) inside.new < left_to_do (D.state disk.old) (with_top inside.old level)) }
 {
     let mut level = level;
@@ -168,6 +149,8 @@ fn take_next<D: Disk, S: Order>(
     ensures settles { GivesAtOnce inside.old.options → IfOk result (λ answer. IfNone answer (IsTopSettled inside.old.options.max_depth inside.new.top)) }
     ensures listed_once { (D.state disk.new).listed ≤ (D.state disk.old).listed + open_in level.entries }
     ensures passes { GivesAtOnce inside.old.options → IfOk result (λ answer. IfNone answer ((D.state disk.new).listed ≡ (D.state disk.old).listed)) }
+    ensures progress { IfOk result (λ answer.
+        Progresses None (D.state disk.old) (levels_of (with_top inside.old level)) answer (D.state disk.new) (levels_of inside.new)) }
     ensures less { OnOk result (left_to_do (D.state disk.new) inside.new < left_to_do (D.state disk.old) (with_top inside.old level)) }
 {
     let mut level = level;
@@ -228,6 +211,7 @@ fn meet<D: Disk, S: Order>(
     ensures hides { GivesAtOnce inside.old.options → IfOk result (λ answer. IfNone answer (inside.old.options.max_depth < entry.depth)) }
     ensures settles { GivesAtOnce inside.old.options → IfOk result (λ answer. IfNone answer (IsTopSettled inside.old.options.max_depth inside.new.top)) }
     ensures listed { (D.state disk.new).listed ≡ (D.state disk.old).listed }
+    ensures kept { OnOk result (kept_in (levels_of inside.new) ≡ kept_in (levels_of (with_top inside.old level))) }
     ensures little { OnOk result (left_to_do (D.state disk.new) inside.new ≤ left_to_do (D.state disk.old) (with_top inside.old level) + 4) }
 {
     match see(disk, inside, &level, entry) {

@@ -10,6 +10,7 @@ ghost use Rattle.walk_steps.specs.Inside.{IsRead, entries_due};
 ghost use Rattle.walk_steps.specs.Sound.{IsReadable, SameOtherThan, depth_below, open_in};
 ghost use Rattle.walk_steps.specs.Listed.{below_one, waits_of};
 ghost use Rattle.walk_steps.specs.Lists.{SameLevel};
+ghost use Rattle.walk_steps.specs.Progress.{kept_of};
 ghost use Rattle.walk_steps.specs.Work.{work_of};
 
 use sd_io::{Disk, DiskFault};
@@ -47,6 +48,8 @@ pub fn take_entry<D: Disk>(
     ensures listed_each { IfOk result (λ given. IfSome given (λ entry.
         below_one entry + waits_of level.new + (D.state disk.old).listed ≤ waits_of level.old + (D.state disk.new).listed)) }
     ensures waits { waits_of level.new + (D.state disk.old).listed ≤ waits_of level.old + (D.state disk.new).listed }
+    ensures takes { IfOk result (λ given. IfSome given (λ entry.
+        1 + kept_of level.new.entries + (D.state disk.old).listed ≤ kept_of level.old.entries + (D.state disk.new).listed)) }
     ensures none_listed { IfOk result (λ given. IfNone given ((D.state disk.new).listed ≡ (D.state disk.old).listed)) }
     ensures worked { IfOk result (λ given. IfSome given (λ entry. work_of (D.state disk.new) level.new + 5 ≤ work_of (D.state disk.old) level.old)) }
     ensures not_more { OnOk result (work_of (D.state disk.new) level.new ≤ work_of (D.state disk.old) level.old) }

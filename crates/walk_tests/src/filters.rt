@@ -100,6 +100,29 @@ fn nothing_is_left_before_the_first_item(rt: HostRuntime) -> Result<(), Fail> {
     Ok(())
 }
 
+/// How many calls a walk of `foo` makes, where the directory of an entry of this path is left.
+fn calls_leaving(alloc: Global, sorts: bool, path: &str) -> Result<u64, Fail> {
+    let mut disk = foo(alloc)?;
+    let walk = asked(alloc, "foo", &[])?;
+    let _given = if sorts {
+        text_leaving(alloc, walk.sort_by_file_name().into_iter(&mut disk), path)?
+    } else {
+        text_leaving(alloc, walk.into_iter(&mut disk), path)?
+    };
+    Ok(disk.calls())
+}
+
+#[test]
+fn a_directory_that_is_left_is_not_opened(rt: HostRuntime) -> Result<(), Fail> {
+    for sorts in [false, true] {
+        let read = calls_leaving(rt.alloc(), sorts, "none")?;
+        let left = calls_leaving(rt.alloc(), sorts, "foo/abc")?;
+        // one call opens its list, two give its entries, and one tells its end
+        assert_eq!(rt; read, left.saturating_add(4), "sorted: {sorts}");
+    }
+    Ok(())
+}
+
 /// What `foo` gives without entries of a name, sorted by file name under these options.
 fn text_without(
     alloc: Global,

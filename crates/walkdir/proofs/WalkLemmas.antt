@@ -1,6 +1,6 @@
 -- How walks begin and end.
-use Rattle.std.proofs.Common.{rules, ◌≡◌, ◌+◌, ◌∙◌, ℕ, Bool, true, List, [], ◌∷◌, ◌++◌, Option, Some, None, refl, sym, subst, ap, inl, inr, arith, length}
-use Rattle.std.specs.Prelude.{is_none, map, option_map, reverse}
+use Rattle.std.proofs.Common.{◌≡◌, ◌+◌, ◌∙◌, ℕ, Bool, List, [], ◌∷◌, ◌++◌, Option, Some, None, refl, sym, subst, ap, inl, arith, length}
+use Rattle.std.specs.Prelude.{map, option_map, reverse}
 use Rattle.sd_io.specs.Tree.{Tree}
 use Rattle.sd_io.specs.Disk.{DiskState, OpenList}
 use Rattle.walk_rest.specs.declared.level.Level.{Level}
@@ -15,18 +15,10 @@ use Rattle.walk_rest.specs.Level.{HasPart, HasParts, IsDue, fault_of, item_of, l
 use Rattle.walk_steps.specs.declared.inside.Inside.{Inside}
 use Rattle.walk_steps.specs.Causes.{faults_due}
 use Rattle.walk_steps.specs.Inside.{HasRest, IsUnbegun, IsUntaken, KnowsDevice, SameWalk, levels_of, top_levels}
-use Rattle.walk_steps.specs.Listed.{IsToListOnTop, waits_first, waits_in, waits_kept}
+use Rattle.walk_steps.specs.Listed.{waits_first, waits_in, waits_kept}
 use Rattle.walk_steps.specs.Sound.{IsSound, IsFresh, IsReadable, IsShallow, IsTopFresh, AreApartFrom, AreShallow, AreSound, AreRead, SameOthers, StaysWithin, open_in, open_limit, opens}
 use Rattle.walk_steps.specs.Steps.{LiesUnread}
-use Rattle.walkdir.specs.Steps.{Begins, GivesNext}
-
-pub none_is : {X : Type 0} (value : Option X) → is_none value ≡ true → value ≡ None
-none_is None is = refl
-none_is (Some x) is = absurd (cc is)
-
-no_parts : (state : DiskState) (manner : Manner) (root : List ℕ) (rest : Rest) → HasParts state manner root [] [] rest → rest ≡ []
-no_parts state manner root [] has = refl
-no_parts state manner root (part ∷ rest) has = absurd has
+use Rattle.walkdir.specs.Steps.{Begins}
 
 -- ---- lists that stay
 
@@ -87,48 +79,6 @@ others_next old mid new x y z h k = λ number apart opened.
     (b.0 ∙ a.0, b.1)
 
 module _ {S : Type 0} where
-  -- the levels of a walk of which nothing is on top
-  no_levels : (state : DiskState) (sorts : Bool) (inside : Inside S) → IsSound state sorts inside → inside.top ≡ None → levels_of inside ≡ []
-  no_levels state sorts inside sound over =
-      ap (λ (top : Option Level). inside.stack.items ++ top_levels top) over ∙ ap (λ (lower : List Level). lower ++ []) (sound.rooted over)
-
-  -- a walk that is over gives nothing and stays
-  pub over_gives : (tells sorts : Bool) (ComparesBy : Comparison → Type 0) (state : DiskState) (inside : Inside S)
-      → IsSound state sorts inside → inside.top ≡ None → GivesNext tells sorts ComparesBy state inside None state inside
-  over_gives tells sorts ComparesBy state inside sound gone =
-      let over = no_levels state sorts inside sound gone in
-      record {
-        step = λ told by rest compares has.
-            (let over_too = no_parts state (manner_of state.tree inside.options sorts by inside.root) inside.root rest (subst (λ (levels : List Level). HasParts state (manner_of state.tree inside.options sorts by inside.root) inside.root [] levels rest) over has.parts) in
-            inr (record {
-              cuts = 0;
-              new = rest;
-              is_step = record { mid = rest; moves = none; answers = (over_too, over_too) };
-              left = has;
-              allowed = inl (omega arith);
-              enters = λ entry given. absurd (cc given);
-            }));
-        over = λ e. refl;
-        ended = over;
-        gave_up = λ e. over;
-        sound = sound;
-        same = record { options = refl; order = refl; root = refl };
-        within = λ others e. (e, search (rules, arith));
-        others = λ number apart opened. (refl, apart);
-        tree = record { tree = refl; clock = refl; outcomes = refl };
-        faults = omega arith;
-        counted = λ fits. inl (omega arith);
-        absent = λ untold path depth e. absurd (cc e);
-        looped = λ path depth ancestor ident e. absurd (cc e);
-        uncapped = λ e. cc e;
-        entered = λ level folder top unread of. absurd (cc (gone, top));
-        listed_each = omega arith;
-        listed_once = λ unsorted plain few. omega arith;
-        listed_whole = λ told by count compares sorted plain counted_on risen named.
-            let none : count ≡ 0 = subst (λ (top : Option Level). IsToListOnTop state.tree inside.options.max_depth top count) gone counted_on in
-            omega arith;
-      }
-
   -- what a call leaves that opens and reads no list
   pub still_sound_after : (old new : DiskState) (sorts : Bool) (inside : Inside S) → new.open_list ≡ old.open_list → IsSound old sorts inside → IsSound new sorts inside
   still_sound_after old new sorts inside same sound =

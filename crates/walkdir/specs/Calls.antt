@@ -5,7 +5,7 @@ use Rattle.walk_rest.specs.Plan.{Comparison, Item}
 use Rattle.walk_steps.specs.declared.inside.Inside.{Inside}
 use Rattle.walk_steps.specs.Causes.{faults_told}
 use Rattle.walk_steps.specs.Listed.{gives_below}
-use Rattle.walkdir.specs.Steps.{GivesNext, SkipsTop}
+use Rattle.walk_steps.specs.Promises.{GivesNext, SkipsTop}
 
 -- how many counted faults these items tell
 abbrev pub all_told : Bool → List Item → ℕ
@@ -37,3 +37,11 @@ module _ {S : Type 0} (tells : Bool) (sorts : S → Bool) (compares_by : S → C
         → SkipsTop tells (sorts before.order) old before mid between → Calls mid between items new now → Calls old before items new now
     asked : {old mid new : DiskState} {before now : Inside S} {items : List Item}
         → Asks old mid → Calls mid before items new now → Calls old before items new now
+
+  -- Calls of `next` gave these items in turn, and then none; nothing else was called.
+  pub data RunsOut : DiskState → Inside S → List Item → DiskState → Inside S → Type 0 where
+    ended : {old new : DiskState} {before now : Inside S}
+        → GivesNext tells (sorts before.order) (compares_by before.order) old before None new now → RunsOut old before [] new now
+    went_on : {old mid new : DiskState} {before between now : Inside S} {item : Item} {items : List Item}
+        → GivesNext tells (sorts before.order) (compares_by before.order) old before (Some item) mid between → RunsOut mid between items new now
+        → RunsOut old before (item ∷ items) new now

@@ -1,6 +1,7 @@
 -- Steps one after another, and what collecting them gives.
-use Rattle.std.specs.Prelude.{◌≡◌, ◌+◌, ◌⊎◌, ℕ, nat_lt, Bool, List, [], ◌∷◌, map, Some, Ok, Err, if◌then◌else◌}
-use Rattle.sd_io.specs.Disk.{DiskState}
+use Rattle.std.specs.Prelude.{◌≡◌, ◌+◌, ◌<◌, ◌≤◌, ◌⊎◌, ℕ, nat_lt, Bool, false, List, [], ◌∷◌, map, Some, Result, Ok, Err, IfOk, IfErr, IsErrOf, if◌then◌else◌}
+use Rattle.std.specs.Global.{Vec}
+use Rattle.sd_io.specs.Disk.{DiskState, SameTree}
 use Rattle.sd_io.specs.declared.meta.Ident.{Ident}
 use Rattle.walk_rest.specs.declared.entry.DirEntry.{DirEntry}
 use Rattle.walk_rest.specs.declared.error.Error.{Error}
@@ -8,7 +9,12 @@ use Rattle.walk_rest.specs.declared.error.Error.TheVariants as error
 use Rattle.walk_rest.specs.Plan.{Comparison, Item}
 use Rattle.walk_rest.specs.Rest.{Rest, HasNoFaults, IsStep, due_in}
 use Rattle.walk_steps.specs.declared.inside.Inside.{Inside}
-use Rattle.walkdir.specs.Steps.{GivesNext}
+use Rattle.walk_steps.specs.Causes.{CountsFaults, FitsTree, faults_told}
+use Rattle.walk_steps.specs.Inside.{levels_of}
+use Rattle.walk_steps.specs.Listed.{waits_in}
+use Rattle.walk_steps.specs.Promises.{GivesNext}
+use Rattle.walk_steps.specs.Sound.{SameOthers, StaysWithin, open_limit}
+use Rattle.walk_steps.specs.Steps.{ByEachRest}
 
 abbrev pub entry_item : DirEntry → Item
 entry_item entry = Ok entry
@@ -68,3 +74,22 @@ module _ {S : Type 0} (tells : Bool) (sorts : S → Bool) (compares_by : S → C
   -- why a walk isn't collected, on any disk: for want of memory, at the cap, or by its first error
   abbrev pub WhyNotCollected : DiskState → Inside S → Error → Type 0
   WhyNotCollected old before failed = (failed ≡ error.NoMemory) ⊎ ((failed ≡ error.TooMany) ⊎ IsFirstError old before failed)
+
+  -- What collecting a walk gives, and what it leaves.
+  pub record Collects (old : DiskState) (before : Inside S) (cap : ℕ) (collected : Result (Vec DirEntry) Error) (new : DiskState) : Type 0 where
+    -- all entries that were due, on a disk that tells its tree
+    pub all : ByEachRest tells compares_by old (sorts before.order) before (λ by rest. IfOk collected (λ (entries : Vec DirEntry). IsAll rest entries.items))
+    pub few : IfOk collected (λ (entries : Vec DirEntry). below_root entries.items < cap)
+    -- at the cap, so many entries were listed, but for those that waited
+    pub capped : IsErrOf collected error.TooMany → cap + old.listed ≤ waits_in (levels_of before) + new.listed
+    -- why it failed: where the disk tells its tree, and on any disk
+    pub failed : ByEachRest tells compares_by old (sorts before.order) before (λ by rest. IfErr collected (WhyNotAll rest cap))
+    pub first_error : IfErr collected (WhyNotCollected old before)
+    pub unlooped : before.options.follow_links ≡ false → IfErr collected IsNoLoop
+    pub counted : FitsTree tells compares_by old (sorts before.order) before
+        → IfErr collected (λ (failed : Error). CountsFaults (faults_told tells (Some (Err failed))) old (levels_of before) new [])
+    -- every list that the walk held is closed, and those of others stay
+    pub others : SameOthers old (levels_of before) new []
+    pub closed : StaysWithin (open_limit before.options) old (levels_of before) new []
+    pub tree : SameTree old new
+    pub faults : old.faults ≤ new.faults

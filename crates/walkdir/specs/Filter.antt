@@ -1,6 +1,6 @@
 -- What a filter gives of the walk that it stands on.
-use Rattle.std.specs.Prelude.{◌≡◌, Bool, true, false, Option, Some, None, Ok, Err}
-use Rattle.std.proofs.Common.{sym, subst, refl}
+use Rattle.std.specs.Prelude.{◌≡◌, ◌≤◌, ℕ, Bool, true, false, Option, Some, None, Ok, Err}
+use Rattle.std.proofs.Common.{sym, subst, refl, arith}
 use Rattle.std.specs.Borrow.{Bor}
 use Rattle.std.specs.Bool.{MatchBool}
 use Rattle.std.specs.Fn.{Shared, FnReturnsAt}
@@ -47,20 +47,31 @@ module _ {W : Type 0} {Gives : W → Option Item → W → Type 0} {has_entered 
   filters_go_on Keeps next skips old answer new keeps (passes {mid = mid} {next = then} {entry = entry} gives tests over filters) =
       filters_go_on Keeps next skips then answer new (passes_on Keeps skips mid then (next old (Some (Ok entry)) mid keeps gives) (has_entered mid) over) filters
 
-  -- after the end of the walk the filter gives nothing
-  filters_after : {Tests : DirEntry → Bool → Type 0} → ((old mid : W) (answer : Option Item) (new : W) → Gives old None mid → Gives mid answer new → answer ≡ None)
-      → (old mid : W) (answer : Option Item) (new : W) → Gives old None mid → Filters Gives has_entered Skips Tests mid answer new → answer ≡ None
-  filters_after fused old mid answer new end (ended gives) = refl
-  filters_after fused old mid answer new end (fails {failed = failed} gives) = fused old mid (Some (Err failed)) new end gives
-  filters_after fused old mid answer new end (meets {entry = entry} gives tests) = fused old mid (Some (Ok entry)) new end gives
-  filters_after fused old mid answer new end (passes {mid = next} {entry = entry} gives tests over filters) = absurd (cc (fused old mid (Some (Ok entry)) next end gives))
+  -- a number that no `next` and no skip of the walk raises, no `next` of the filter raises
+  pub filters_no_more : {Tests : DirEntry → Bool → Type 0} (count : W → ℕ) → ((old : W) (answer : Option Item) (new : W) → Gives old answer new → count new ≤ count old)
+      → ((old new : W) → Skips old new → count new ≤ count old) → (old : W) (answer : Option Item) (new : W)
+      → Filters Gives has_entered Skips Tests old answer new → count new ≤ count old
+  filters_no_more count next skips old answer new filters =
+      filters_go_on (λ (walk : W). count walk ≤ count old) (λ a given b so_far gives. at_most (next a given b gives) so_far)
+      (λ a b so_far skip. at_most (skips a b skip) so_far) old answer new (omega arith) filters
+    where
+      at_most : {a b c : ℕ} → a ≤ b → b ≤ c → a ≤ c
+      at_most h k = omega (arith, h, k)
+
+  -- where the walk gives nothing, the filter gives nothing
+  pub filters_none : {Tests : DirEntry → Bool → Type 0} (old : W) → ((answer : Option Item) (new : W) → Gives old answer new → answer ≡ None)
+      → (answer : Option Item) (new : W) → Filters Gives has_entered Skips Tests old answer new → answer ≡ None
+  filters_none old over answer new (ended gives) = refl
+  filters_none old over answer new (fails {failed = failed} gives) = over (Some (Err failed)) new gives
+  filters_none old over answer new (meets {entry = entry} gives tests) = over (Some (Ok entry)) new gives
+  filters_none old over answer new (passes {mid = next} {entry = entry} gives tests over_it filters) = absurd (cc (over (Some (Ok entry)) next gives))
 
   -- after the end of a filter it gives nothing
   pub filters_end : {Tests Others : DirEntry → Bool → Type 0}
       → ((old mid : W) (answer : Option Item) (new : W) → Gives old None mid → Gives mid answer new → answer ≡ None)
       → (old mid : W) (answer : Option Item) (new : W) → Filters Gives has_entered Skips Tests old None mid
       → Filters Gives has_entered Skips Others mid answer new → answer ≡ None
-  filters_end fused old mid answer new (ended gives) more = filters_after fused old mid answer new gives more
+  filters_end fused old mid answer new (ended gives) more = filters_none mid (λ given next. fused old mid given next gives) answer new more
   filters_end fused old mid answer new (passes {next = then} gives tests over filters) more = filters_end fused then mid answer new filters more
 
   -- a filter by a predicate goes by each test that the predicate answers by

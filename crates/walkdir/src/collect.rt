@@ -7,12 +7,11 @@ ghost use Rattle.walk_steps.specs.Inside.{SameWalk, levels_of};
 ghost use Rattle.walk_steps.specs.Listed.{waits_in};
 ghost use Rattle.walk_steps.specs.Sound.{IsSound, SameOthers, StaysWithin, open_limit};
 ghost use Rattle.walk_steps.specs.Steps.{ByEachRest};
-ghost use Rattle.walkdir.specs.Collect.{IsAll, IsNoLoop, WhyNotAll, WhyNotCollected, below_root};
+ghost use Rattle.walkdir.specs.Collect.{Collects, IsAll, IsNoLoop, WhyNotAll, WhyNotCollected, below_root};
 
-use crate::into_iter::give_next;
 use sd_io::Disk;
 use walk_rest::{DirEntry, Error, Order};
-use walk_steps::{Inside, give_up};
+use walk_steps::{Inside, give_up, next_item};
 
 /// All entries of a walk, or its first error, or `TooMany` at the entry below the root with this number. Closes every list that the walk holds.
 pub(crate) fn collect<D: Disk, S: Order + Drop>(
@@ -23,19 +22,7 @@ pub(crate) fn collect<D: Disk, S: Order + Drop>(
     requires sound { IsSound (D.state disk.old) (S.sorts inside.order) inside }
     requires order { S.can_compare inside.order }
     requires cap { 0 < cap }
-    ensures all { ByEachRest D.tells S.compares_by (D.state disk.old) (S.sorts inside.order) inside (λ by rest.
-        IfOk result (λ entries. IsAll rest entries.items)) }
-    ensures few { IfOk result (λ entries. below_root entries.items < cap) }
-    ensures capped { IsErrOf result Error.TooMany → cap + (D.state disk.old).listed ≤ waits_in (levels_of inside) + (D.state disk.new).listed }
-    ensures failed { ByEachRest D.tells S.compares_by (D.state disk.old) (S.sorts inside.order) inside (λ by rest. IfErr result (WhyNotAll rest cap)) }
-    ensures first_error { IfErr result (WhyNotCollected D.tells S.sorts S.compares_by (D.state disk.old) inside) }
-    ensures unlooped { inside.options.follow_links ≡ false → IfErr result IsNoLoop }
-    ensures counted { FitsTree D.tells S.compares_by (D.state disk.old) (S.sorts inside.order) inside
-        → IfErr result (λ failed. CountsFaults (faults_told D.tells (Some (Err failed))) (D.state disk.old) (levels_of inside) (D.state disk.new) []) }
-    ensures others { SameOthers (D.state disk.old) (levels_of inside) (D.state disk.new) [] }
-    ensures closed { StaysWithin (open_limit inside.options) (D.state disk.old) (levels_of inside) (D.state disk.new) [] }
-    ensures tree { SameTree (D.state disk.old) (D.state disk.new) }
-    ensures faults { (D.state disk.old).faults ≤ (D.state disk.new).faults }
+    ensures { Collects D.tells S.sorts S.compares_by (D.state disk.old) inside cap result (D.state disk.new) }
 {
     let mut inside = inside;
     let collected = collect_from(disk, &mut inside, cap);
@@ -71,7 +58,7 @@ fn collect_from<D: Disk, S: Order>(
 {
     let mut entries = Vec::new(inside.alloc);
     let mut below = 0u64;
-    while let Some(item) = give_next(disk, inside) {
+    while let Some(item) = next_item(disk, inside) {
         let entry = item?;
         if entry.depth > 0 {
             below += 1;

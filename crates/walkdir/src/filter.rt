@@ -4,7 +4,7 @@ ghost use Rattle.std.specs.Prelude.{◌≡◌, ◌≤◌};
 ghost use Rattle.std.specs.Fn.{FnReturnsAt};
 ghost use Rattle.std.specs.Iterator.{IsFinite, size};
 ghost use Rattle.std.proofs.Common.{sym, subst};
-ghost use Rattle.walkdir.specs.Filter.{Filters, PassesOver, filters_go_on, filters_end};
+ghost use Rattle.walkdir.specs.Filter.{Filters, PassesOver, filters_end, filters_go_on, filters_no_more, filters_none};
 
 use crate::{DirEntry, Error, Walk};
 use std::iter::FusedIterator;
@@ -90,6 +90,13 @@ impl<W: Walk + Drop, P: Fn(&DirEntry) -> bool + Drop> Walk for FilterEntry<W, P>
     ghost skips_on = { λ old new can ends skips.
         let on = W.skips_on old.walk new.walk can.0 can.1 skips.1 in
         ((on.0, on.1, subst P.IsAlwaysCallable (sym skips.0) can.2), on.1) };
+
+    ghost not_more = { λ old answer new gives. filters_no_more (λ walk. size (W.remaining walk)) W.not_more W.skips_no_more old.walk answer new.walk gives.1 };
+
+    ghost skips_no_more = { λ old new skips. W.skips_no_more old.walk new.walk skips.1 };
+
+    ghost closed = { λ old mid answer new closes gives. filters_none mid.walk (λ given next. W.closed old.walk mid.walk given next closes.1)
+        answer new.walk gives.1 };
 
     ghost fused = { λ old mid answer new ended gives. filters_end W.fused old.walk mid.walk answer new.walk ended.1 gives.1 };
 

@@ -1,20 +1,18 @@
 //! A walk over a disk.
 
-ghost use Rattle.std.specs.Prelude.{◌≡◌, ◌+◌, ◌<◌, ◌≤◌, ◌&&◌, [], Bool, false, IsTrue, Some, Err, IfOk, IfErr, IsErrOf, OnSome};
+ghost use Rattle.std.specs.Prelude.{◌≡◌, ◌+◌, ◌<◌, ◌≤◌, ◌&&◌, [], Bool, false, IsTrue, Some, IfOk, IfErr, OnSome};
 ghost use Rattle.std.specs.Iterator.{at_most};
 ghost use Rattle.sd_io.specs.Disk.{SameLists, SameTree};
 ghost use Rattle.sd_io.specs.Files.{Describes};
 ghost use Rattle.walk_rest.specs.Errors.{IsRefusedFor};
 ghost use Rattle.walk_rest.specs.Plan.{Comparison};
 ghost use Rattle.walk_rest.specs.Rest.{Rest};
-ghost use Rattle.walk_steps.specs.Causes.{CountsFaults, FitsTree, faults_told};
 ghost use Rattle.walk_steps.specs.Inside.{HasRest, levels_of};
-ghost use Rattle.walk_steps.specs.Listed.{waits_in};
-ghost use Rattle.walk_steps.specs.Sound.{AreSound, IsSound, SameOthers, StaysWithin, open_limit};
-ghost use Rattle.walk_steps.specs.Steps.{ByEachRest};
+ghost use Rattle.walk_steps.specs.Promises.{GivesNext, SkipsTop};
+ghost use Rattle.walk_steps.specs.Sound.{AreSound, IsSound};
 ghost use Rattle.walk_steps.specs.Work.{left_to_do};
-ghost use Rattle.walkdir.specs.Collect.{IsAll, IsNoLoop, WhyNotAll, WhyNotCollected, below_root};
-ghost use Rattle.walkdir.specs.Steps.{ClosesAll, GivesNext, SkipsTop, is_directory_item, lies_unread, still_compares, still_sound};
+ghost use Rattle.walkdir.specs.Collect.{Collects};
+ghost use Rattle.walkdir.specs.Steps.{ClosesAll, is_directory_item, lies_unread, still_compares, still_sound};
 
 use crate::collect::collect;
 use crate::{FilterEntry, Walk};
@@ -119,23 +117,7 @@ impl<'d, D: Disk, S: Order + Drop> IntoIter<'d, D, S, Inside<S>> {
         requires sound { IsSound (D.state self.disk.now) (S.sorts self.inside.order) self.inside }
         requires order { S.can_compare self.inside.order }
         requires cap { 0 < cap }
-        ensures all { ByEachRest D.tells S.compares_by (D.state self.entry.disk.now) (S.sorts self.entry.inside.order) self.entry.inside (λ by rest.
-            IfOk result (λ entries. IsAll rest entries.items)) }
-        ensures few { IfOk result (λ entries. below_root entries.items < cap) }
-        ensures capped { IsErrOf result Error.TooMany → cap + (D.state self.entry.disk.now).listed
-            ≤ waits_in (levels_of self.entry.inside) + (D.state self.exit.0.now).listed }
-        ensures failed { ByEachRest D.tells S.compares_by (D.state self.entry.disk.now) (S.sorts self.entry.inside.order) self.entry.inside (λ by rest.
-            IfErr result (WhyNotAll rest cap)) }
-        ensures first_error { IfErr result (WhyNotCollected D.tells S.sorts S.compares_by (D.state self.entry.disk.now) self.entry.inside) }
-        ensures unlooped { self.entry.inside.options.follow_links ≡ false → IfErr result IsNoLoop }
-        ensures counted { FitsTree D.tells S.compares_by (D.state self.entry.disk.now) (S.sorts self.entry.inside.order) self.entry.inside
-            → IfErr result (λ failed.
-            CountsFaults (faults_told D.tells (Some (Err failed))) (D.state self.entry.disk.now) (levels_of self.entry.inside) (D.state self.exit.0.now) []) }
-        ensures others { SameOthers (D.state self.entry.disk.now) (levels_of self.entry.inside) (D.state self.exit.0.now) [] }
-        ensures closed { StaysWithin (open_limit self.entry.inside.options) (D.state self.entry.disk.now) (levels_of self.entry.inside)
-            (D.state self.exit.0.now) [] }
-        ensures tree { SameTree (D.state self.entry.disk.now) (D.state self.exit.0.now) }
-        ensures faults { (D.state self.entry.disk.now).faults ≤ (D.state self.exit.0.now).faults }
+        ensures { Collects D.tells S.sorts S.compares_by (D.state self.entry.disk.now) self.entry.inside cap result (D.state self.exit.0.now) }
     {
         let IntoIter {
             disk,
@@ -194,6 +176,12 @@ impl<'d, D: Disk, S: Order + Drop> Walk for IntoIter<'d, D, S, Inside<S>> {
         let compares = still_compares S.can_compare old.inside new.inside skips.1.same can.1 in
         ((sound, compares), tt) };
 
+    ghost not_more = { λ old answer new gives. gives.1.not_more };
+
+    ghost skips_no_more = { λ old new skips. skips.1.not_more };
+
+    ghost closed = { λ old mid answer new closes gives. gives.1.over closes.1 };
+
     ghost fused = { λ old mid answer new ended gives. gives.1.over ended.1.ended };
 
     fn skip_current_dir(&mut self) {
@@ -205,7 +193,7 @@ impl<'d, D: Disk, S: Order + Drop> Walk for IntoIter<'d, D, S, Inside<S>> {
     }
 
     fn close_lists(&mut self) {
-        give_up(self.disk, &mut self.inside);
+        end(self.disk, &mut self.inside);
     }
 
     fn close(self)
@@ -229,26 +217,9 @@ fn step<D: Disk, S: Order>(
     ensures directory { gave_directory.new ≡ is_directory_item result }
     ensures less { OnSome result (left_to_do (D.state disk.new) inside.new < left_to_do (D.state disk.old) inside.old) }
 {
-    let item = give_next(disk, inside);
+    let item = next_item(disk, inside);
     *gave_directory = is_directory(&item);
     item
-}
-
-/// The next item of a walk, or `None` where nothing is left.
-pub(crate) fn give_next<D: Disk, S: Order>(
-    disk: &mut D,
-    inside: &mut Inside<S>,
-) -> Option<Result<DirEntry, Error>>
-    requires sound { IsSound (D.state disk.old) (S.sorts inside.old.order) inside.old }
-    requires order { S.can_compare inside.old.order }
-    ensures gives { GivesNext D.tells (S.sorts inside.old.order) (S.compares_by inside.old.order) (D.state disk.old) inside.old result
-        (D.state disk.new) inside.new }
-    ensures less { OnSome result (left_to_do (D.state disk.new) inside.new < left_to_do (D.state disk.old) inside.old) }
-{
-    if inside.top.is_none() {
-        return None;
-    }
-    next_item(disk, inside)
 }
 
 /// Leaves the directory that was entered last.
@@ -268,6 +239,18 @@ fn close_all<D: Disk, S: Drop>(disk: &mut D, inside: Inside<S>)
 {
     let mut inside = inside;
     give_up(disk, &mut inside);
+}
+
+/// Closes every list that a walk holds, and ends it.
+fn end<D: Disk, S: Order>(disk: &mut D, inside: &mut Inside<S>)
+    requires sound { IsSound (D.state disk.old) (S.sorts inside.old.order) inside.old }
+    requires order { S.can_compare inside.old.order }
+    ensures gone { levels_of inside.new ≡ [] }
+    ensures closes { ClosesAll (D.state disk.old) (levels_of inside.old) (D.state disk.new) }
+    ensures sound { IsSound (D.state disk.new) (S.sorts inside.new.order) inside.new }
+    ensures order { S.can_compare inside.new.order }
+{
+    give_up(disk, inside);
 }
 
 /// Whether an item is an entry of kind `Directory`.

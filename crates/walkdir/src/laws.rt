@@ -1,17 +1,22 @@
 //! What holds of all calls of a walk together.
 
-ghost use Rattle.std.specs.Prelude.{◌≡◌, ◌+◌, ◌≤◌, Bool, true, List, Some, Ok};
+ghost use Rattle.std.specs.Prelude.{◌≡◌, ◌≢◌, ◌+◌, ◌≤◌, ℕ, Bool, true, IsTrue, All, List, Some, Ok, Err};
+ghost use Rattle.sd_io.specs.Count.{HasRisen};
 ghost use Rattle.sd_io.specs.Disk.{DiskState};
+ghost use Rattle.sd_io.specs.Tree.{Tree};
 ghost use Rattle.walk_rest.specs.declared.entry.DirEntry.{DirEntry};
+ghost use Rattle.walk_rest.specs.declared.error.Error.TheVariants as error;
+ghost use Rattle.walk_rest.specs.declared.options.Options.{Options};
 ghost use Rattle.walk_rest.specs.Level.{IsAllowed};
-ghost use Rattle.walk_rest.specs.Plan.{Comparison, Item};
-ghost use Rattle.walk_rest.specs.Rest.{Rest};
+ghost use Rattle.walk_rest.specs.Listing.{IsListing, IsRootPlan, manner_of};
+ghost use Rattle.walk_rest.specs.Plan.{Comparison, Item, Plan};
+ghost use Rattle.walk_rest.specs.Rest.{Rest, start};
 ghost use Rattle.walk_steps.specs.declared.inside.Inside.{Inside};
 ghost use Rattle.walk_steps.specs.Causes.{FitsTree, faults_due};
-ghost use Rattle.walk_steps.specs.Inside.{levels_of};
+ghost use Rattle.walk_steps.specs.Inside.{HasRest, levels_of};
 ghost use Rattle.walk_steps.specs.Listed.{waits_in};
 ghost use Rattle.walk_steps.specs.Steps.{IsNextInto, StepsTo};
-ghost use Rattle.walkdir.specs.Calls.{Calls, all_below, all_told};
+ghost use Rattle.walkdir.specs.Calls.{Calls, RunsOut, all_below, all_told};
 ghost use Rattle.walkdir.specs.Steps.{lies_unread};
 
 use sd_io::Disk;
@@ -34,4 +39,21 @@ pub fn entries_were_listed<D: Disk, S: Order>()
 pub fn an_entered_directory_lies_unread<S>()
     ensures { (old new : DiskState) (sorts : Bool) (by : Comparison) (rest : Rest) (entry : DirEntry) (now : Inside S)
         → (step : StepsTo old sorts by rest (Some (Ok entry)) new now) → IsNextInto step.is_step.mid → lies_unread now.top ≡ true }
+{}
+
+/// Calls of `next` down to `None`, with no skip, no failure of the disk and no want of memory, gave the listing of the root.
+pub fn calls_give_the_listing<D: Disk, S: Order>()
+    ensures { (old new : DiskState) (before now : Inside S) (items : List Item) (by : Comparison) (plan : Plan)
+        → IsTrue D.tells → S.compares_by before.order by
+        → IsRootPlan old.tree (manner_of old.tree before.options (S.sorts before.order) by before.root) before.root plan
+        → HasRest old (S.sorts before.order) by before (start plan)
+        → RunsOut D.tells S.sorts S.compares_by old before items new now
+        → ¬ HasRisen old.faults new.faults → All (λ (item : Item). item ≢ Err error.NoMemory) items
+        → IsListing old.tree before.options (S.sorts before.order) by before.root items }
+{}
+
+/// The listing of a root doesn't depend on how many lists may be open.
+pub fn each_max_open_has_the_same_listing()
+    ensures { (tree : Tree) (how : Options) (most : ℕ) (sorts : Bool) (compare : Comparison) (root : List ℕ) (items : List Item)
+        → IsListing tree how sorts compare root items → IsListing tree (record how { max_open = most }) sorts compare root items }
 {}

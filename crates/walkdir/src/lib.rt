@@ -15,7 +15,10 @@ pub use examples::{
 };
 pub use filter::FilterEntry;
 pub use into_iter::IntoIter;
-pub use laws::{an_entered_directory_lies_unread, entries_were_listed, failures_were_counted};
+pub use laws::{
+    an_entered_directory_lies_unread, calls_give_the_listing, each_max_open_has_the_same_listing,
+    entries_were_listed, failures_were_counted,
+};
 pub use walk::Walk;
 pub use walk_dir::WalkDir;
 pub use walk_rest::{

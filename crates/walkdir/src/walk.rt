@@ -31,10 +31,13 @@ pub trait Walk: Iterator<Item = Result<DirEntry, Error>> {
     fn just_entered(&self) -> bool
         ensures { result ≡ has_entered self.now };
 
-    /// Closes every list that it holds, and ends it.
+    /// Closes every list that it holds, and ends it: `next` gives `None` from then on.
     fn close_lists(&mut self)
-        requires { Self.can_next self.old }
-        ensures { closes self.old self.new };
+        requires can { Self.can_next self.old }
+        requires ends { IsFinite (Self.remaining self.old) }
+        ensures can { Self.can_next self.new }
+        ensures ends { IsFinite (Self.remaining self.new) }
+        ensures closes { closes self.old self.new };
 
     /// The same, and lets the walk go. What a value of a type that isn't known leaves behind its references, no clause can say once it is let go:
     /// `close_lists` says it.
@@ -49,6 +52,16 @@ pub trait Walk: Iterator<Item = Result<DirEntry, Error>> {
 
     /// After a skip there may be a `next`.
     ghost skips_on: { (old new : Self) → Self.can_next old → IsFinite (Self.remaining old) → skips old new → Self.can_next new × IsFinite (Self.remaining new) };
+
+    /// The number that falls with each item is never raised by a `next`, also where it gives `None`.
+    ghost not_more: { (old : Self) (answer : Option Item) (new : Self) → Self.next_gives old answer new
+        → size (Self.remaining new) ≤ size (Self.remaining old) };
+
+    /// Nor is it by a skip.
+    ghost skips_no_more: { (old new : Self) → skips old new → size (Self.remaining new) ≤ size (Self.remaining old) };
+
+    /// Once its lists were closed, `None` comes.
+    ghost closed: { (old mid : Self) (answer : Option Item) (new : Self) → closes old mid → Self.next_gives mid answer new → answer ≡ None };
 
     /// After `None` always `None` comes.
     ghost fused: { (old mid : Self) (answer : Option Item) (new : Self) → Self.next_gives old None mid → Self.next_gives mid answer new → answer ≡ None };

@@ -166,3 +166,31 @@ module _ {S : Type 0} where
       let c = weight_in_some s level.entries in
       let d = ap (weight_all last) gone in
       omega (arith, a, b, c, d, later, le)
+
+-- ---- a walk that is over
+
+front_none : (xs ys : List Level) → xs ++ ys ≡ [] → xs ≡ []
+front_none [] ys e = refl
+front_none (x ∷ xs) ys e = absurd (cc e)
+
+back_none : (xs ys : List Level) → xs ++ ys ≡ [] → ys ≡ []
+back_none [] ys e = e
+back_none (x ∷ xs) ys e = absurd (cc e)
+
+fresh_none : (top : Option Level) → top_levels top ≡ [] → IsTopFresh top
+fresh_none None e = tt
+fresh_none (Some level) e = absurd (cc e)
+
+module _ {S : Type 0} where
+  pub sound_gone : (s : DiskState) (sorts : Bool) (inside : Inside S) → levels_of inside ≡ [] → IsSound s sorts inside
+  sound_gone s sorts inside gone =
+      let stack = front_none inside.stack.items (top_levels inside.top) gone in
+      let none : opens (levels_of inside) ≡ 0 = ap opens gone in
+      record {
+        lists = subst (AreSound s) (sym gone) tt;
+        read = subst AreRead (sym stack) tt;
+        rooted = λ e. stack;
+        few = omega (arith, none);
+        shallow = subst (AreShallow inside.options.max_depth) (sym gone) tt;
+        fresh = fresh_none inside.top (back_none inside.stack.items (top_levels inside.top) gone);
+      }

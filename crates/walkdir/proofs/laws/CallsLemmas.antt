@@ -14,7 +14,8 @@ use Rattle.walk_steps.specs.Inside.{HasRest, IsUnbegun, SameWalk, levels_of}
 use Rattle.walk_steps.specs.Listed.{GivesListed, waits_in}
 use Rattle.walk_steps.specs.Steps.{HasUnreadTop, StepsTo}
 use Rattle.walkdir.specs.Calls.{Asks, Calls, all_below, all_told, no_more, gave, gave_none, skipped, asked}
-use Rattle.walkdir.specs.Steps.{GivesNext, SkipsTop, lies_unread}
+use Rattle.walk_steps.specs.Promises.{GivesNext, SkipsTop}
+use Rattle.walkdir.specs.Steps.{lies_unread}
 use Rattle.walkdir.proofs.WalkLemmas.{still_rest_after}
 
 -- ---- counts

@@ -17,6 +17,7 @@ use Rattle.walk_steps.proofs.next.MeetLemmas.{PutsBack, met_stays, met_error, me
 use Rattle.walk_steps.proofs.next.CauseLemmas.{caused_met, caused_none, caused_ok, counts_same, entered_by, enters_due, error_allowed, fails_for, read_not, top_not}
 use Rattle.walk_steps.proofs.next.ListedLemmas.{enters_hidden, enters_settled, hidden_deep, settled_read}
 use Rattle.walk_steps.specs.Listed.{waits_first}
+use Rattle.walk_steps.proofs.take.ProgressLemmas.{enters_kept}
 use Rattle.walk_steps.proofs.take.WaitsLemmas.{enters_waits, same_below}
 use Rattle.walk_steps.proofs.next.meet.Goals as goal
 
@@ -330,3 +331,11 @@ returns-in-None-clause-listed_each g c =
 
 pub returns-in_ok-named-in-Err-clause-listed_each : goal.returns-in_ok-named-in-Err-clause-listed_each
 returns-in_ok-named-in-Err-clause-listed_each g c = omega arith
+
+pub returns-in-Some-clause-kept : goal.returns-in-Some-clause-kept
+returns-in-Some-clause-kept g c =
+    enters_kept c.args.inside.now c.enter.new.inside c.args.level c.in-Ok-Enters.entry c.in-Ok-Enters.folder c.in_ok-entry-in-Ok-Enters.field-0 c.in_ok-entry-in-Ok-Enters.ensures.entered
+
+pub returns-in-None-clause-kept : goal.returns-in-None-clause-kept
+returns-in-None-clause-kept g c =
+    enters_kept c.args.inside.now c.enter.new.inside c.args.level c.in-Ok-Enters.entry c.in-Ok-Enters.folder c.in_ok-entry-in-Ok-Enters.field-0 c.in_ok-entry-in-Ok-Enters.ensures.entered

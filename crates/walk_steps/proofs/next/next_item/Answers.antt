@@ -4,10 +4,10 @@ use Rattle.walk_rest.specs.Plan.{Item}
 use Rattle.walk_steps.specs.Causes.{CountsFaults, IsCaused, faults_due, faults_told}
 use Rattle.walk_steps.specs.Inside.{HasRest, levels_of, top_levels, with_top}
 use Rattle.walk_steps.specs.Steps.{MovesTo, StepsTo, TurnsTo}
-use Rattle.walk_steps.specs.Sound.{AreApart, IsSound, opens, open_limit}
+use Rattle.walk_steps.specs.Sound.{AreApart, IsSound, KeepsWalk, opens, open_limit}
 use Rattle.walk_steps.specs.Work.{work_in}
 use Rattle.walk_steps.proofs.leave.OthersLemmas.{others_on}
-use Rattle.walk_steps.proofs.leave.WithinLemmas.{keeps_on, keeps_same, retop_levels, within_on, within_more, gone_lighter}
+use Rattle.walk_steps.proofs.leave.WithinLemmas.{sound_gone, keeps_on, keeps_same, retop_levels, within_on, within_more, gone_lighter}
 use Rattle.walk_steps.proofs.next.StepLemmas.{moves_none, moves_more, moves_last, none_left, rest_retop}
 use Rattle.walk_steps.proofs.next.CauseLemmas.{caused_later, counts_from, counts_on, no_level, still_fits}
 use Rattle.walk_steps.proofs.next.next_item.Given as given
@@ -15,6 +15,7 @@ use Rattle.walk_steps.proofs.leave.SoundLemmas.{sound_front}
 use Rattle.walk_steps.proofs.next.ListedLemmas.{risen_from, risen_on, room_at, room_entered, settled_at, to_list_at, to_list_none}
 use Rattle.walk_steps.specs.Listed.{GivesAtOnce, GivesListed, IsToListOnTop, gives_below, waits_in}
 use Rattle.walk_steps.proofs.next.next_item.Goals as goal
+use Rattle.walk_steps.proofs.next.next_item.Goals.{After-give_up}
 
 pub loop-level-init : goal.loop-level-init
 loop-level-init g c = record {
@@ -22,6 +23,7 @@ loop-level-init g c = record {
   keeps = keeps_same (g.D.Disk.state c.args.disk.now) c.args.inside.now c.args.inside.now (record { options = refl; order = refl; root = refl }) refl c.requires.sound.lists;
   less = omega arith;
   moved = λ tells by rest same h. moves_none (g.D.Disk.state c.args.disk.now) (g.S.Order.sorts c.args.inside.now.order) by c.args.inside.now rest h;
+  over = λ e. e;
   counted = λ fits. inl (omega arith);
   each = omega arith;
   once = λ unsorted gives few. (
@@ -50,6 +52,7 @@ loop-level-preserved g c =
     record {
       sound = subst P order_now c.in-Ok-None.ensures.sound;
       keeps = keeps;
+      over = λ e. absurd (no_level c.loop-level.inside c.in-Some.level (inv.over e) top);
       less = let a = c.in-Ok-None.ensures.less in let b = inv.less in let d = ap (work_in s) levels in omega (arith, a, b, d);
       moved = λ tells by rest same h.
           (let m = inv.moved tells by rest same h in
@@ -85,126 +88,6 @@ loop-level-preserved g c =
           (0, to_list_none (g.D.Disk.state c.turn.new.disk).tree c.args.inside.now.options.max_depth c.turn.new.inside.top (settled_at c.args.inside.now.options c.loop-level.inside.options c.turn.new.inside.top inv.keeps.same.options ((rw c.in-Ok-None.field-0-is at c.in-Ok-None.ensures.settles) (subst GivesAtOnce (sym inv.keeps.same.options) gives))), omega (arith, e, l)));
     }
 
-pub returns-in-Ok-Some-clause-step : goal.returns-in-Ok-Some-clause-step
-returns-in-Ok-Some-clause-step g c = λ tells by rest same h.
-    let s0 = g.D.Disk.state c.args.disk.now in
-    let s = g.D.Disk.state c.loop-level.disk in
-    let now = g.D.Disk.state c.turn.new.disk in
-    let inv = c.loop-level.invariant in
-    let mid = with_top c.loop-level.inside c.in-Some.level in
-    let levels = retop_levels c.loop-level.inside c.loop-level.inside c.in-Some.level (sym c.take.ensures.value ∙ c.in-Some.is) refl in
-    let order = ap g.S.Order.sorts inv.keeps.same.order in
-    let m = inv.moved tells by rest same h in
-    let C : _ → Type 0 = λ o. g.S.Order.compares_by o by in
-    let H : Bool → Type 0 = λ b. HasRest s b by mid m.new in
-    let has = rest_retop s (g.S.Order.sorts c.args.inside.now.order) by c.loop-level.inside mid m.new (record { options = refl; order = refl; root = refl }) refl levels m.left in
-    let T : Option Item → Type 0 = λ a. TurnsTo s (g.S.Order.sorts c.loop-level.inside.order) by m.new a now c.turn.new.inside in
-    let turned = subst T c.in-Ok-Some.field-0-is (c.in-Ok-Some.ensures.turns tells by m.new (subst C (sym inv.keeps.same.order) same) (subst H (sym order) has)) in
-    let M : Bool → Type 0 = λ b. StepsTo s b by m.new (Some c.in-Ok-Some.item) now c.turn.new.inside in
-    inr (moves_last s0 s now (g.S.Order.sorts c.args.inside.now.order) by c.loop-level.inside c.turn.new.inside rest (Some c.in-Ok-Some.item) inv.keeps.faults c.turn.ensures.keeps.faults m (subst M order turned))
-
-pub returns-in-Ok-Some-clause-gave_up : goal.returns-in-Ok-Some-clause-gave_up
-returns-in-Ok-Some-clause-gave_up g c = λ e. absurd ((rw c.in-Ok-Some.field-0-is at c.in-Ok-Some.ensures.named) e)
-
-pub returns-in-Ok-Some-clause-within : goal.returns-in-Ok-Some-clause-within
-returns-in-Ok-Some-clause-within g c =
-    let s0 = g.D.Disk.state c.args.disk.now in
-    let s = g.D.Disk.state c.loop-level.disk in
-    let now = g.D.Disk.state c.turn.new.disk in
-    let inv = c.loop-level.invariant in
-    let top = sym c.take.ensures.value ∙ c.in-Some.is in
-    let mid = with_top c.loop-level.inside c.in-Some.level in
-    let put = keeps_same s c.loop-level.inside mid (record { options = refl; order = refl; root = refl }) (retop_levels c.loop-level.inside c.loop-level.inside c.in-Some.level top refl) inv.sound.lists in
-    (keeps_on s0 s now c.args.inside.now c.loop-level.inside c.turn.new.inside inv.keeps (keeps_on s s now c.loop-level.inside mid c.turn.new.inside put c.turn.ensures.keeps)).within
-
-pub returns-in-Err-clause-less : goal.returns-in-Err-clause-less
-returns-in-Err-clause-less g c =
-    gone_lighter (g.D.Disk.state c.loop-level.disk) (g.D.Disk.state c.give_up.new.disk) c.loop-level.inside c.give_up.new.inside c.in-Some.level _ (sym c.take.ensures.value ∙ c.in-Some.is) c.give_up.ensures.gone
-    (let a = c.turn.ensures.keeps.later in let b = c.give_up.ensures.listed in omega (arith, a, b)) c.loop-level.invariant.less
-
-pub returns-in-Err-clause-within : goal.returns-in-Err-clause-within
-returns-in-Err-clause-within g c =
-    let s0 = g.D.Disk.state c.args.disk.now in
-    let s = g.D.Disk.state c.loop-level.disk in
-    let now = g.D.Disk.state c.turn.new.disk in
-    let inv = c.loop-level.invariant in
-    let limit = open_limit c.args.inside.now.options in
-    let top = sym c.take.ensures.value ∙ c.in-Some.is in
-    let mid = with_top c.loop-level.inside c.in-Some.level in
-    let put = keeps_same s c.loop-level.inside mid (record { options = refl; order = refl; root = refl }) (retop_levels c.loop-level.inside c.loop-level.inside c.in-Some.level top refl) inv.sound.lists in
-    let so_far = (keeps_on s0 s now c.args.inside.now c.loop-level.inside c.turn.new.inside inv.keeps (keeps_on s s now c.loop-level.inside mid c.turn.new.inside put c.turn.ensures.keeps)).within in
-    let closed = within_more 0 limit now (g.D.Disk.state c.give_up.new.disk) (levels_of c.turn.new.inside) [] (omega arith) c.give_up.ensures.within in
-    let all = within_on limit s0 now (g.D.Disk.state c.give_up.new.disk) (levels_of c.args.inside.now) (levels_of c.turn.new.inside) [] so_far closed in
-    let none = ap opens c.give_up.ensures.gone in
-    λ others e. let w = all others e in (let a = w.0 in omega (arith, a, none), w.1)
-
-pub returns-clause-step : goal.returns-clause-step
-returns-clause-step g c = λ tells by rest same h.
-    let s = g.D.Disk.state c.loop-level.disk in
-    let inv = c.loop-level.invariant in
-    let top = sym c.take.ensures.value ∙ c.in_default.is in
-    let empty = inv.sound.rooted top in
-    let none : levels_of c.loop-level.inside ≡ [] = ap (λ (t : Option Level). c.loop-level.inside.stack.items ++ top_levels t) top ∙ (append-nil _ ∙ empty) in
-    let after = ap (λ (t : Option Level). c.loop-level.inside.stack.items ++ top_levels t) c.take.ensures.after ∙ (append-nil _ ∙ empty) in
-    inr (none_left (g.D.Disk.state c.args.disk.now) s (g.S.Order.sorts c.args.inside.now.order) by c.loop-level.inside _ rest none after (record { options = refl; order = refl; root = refl }) refl (inv.moved tells by rest same h))
-
-pub returns-clause-within : goal.returns-clause-within
-returns-clause-within g c =
-    let inv = c.loop-level.invariant in
-    let top = sym c.take.ensures.value ∙ c.in_default.is in
-    let after = ap (λ (t : Option Level). opens (c.loop-level.inside.stack.items ++ top_levels t)) (c.take.ensures.after ∙ sym top) in
-    λ others e. let w = inv.keeps.within others e in (let a = w.0 in omega (arith, a, after), w.1)
-
--- ---- lists of others
-
-pub returns-in-Ok-Some-clause-others : goal.returns-in-Ok-Some-clause-others
-returns-in-Ok-Some-clause-others g c =
-    let s0 = g.D.Disk.state c.args.disk.now in
-    let s = g.D.Disk.state c.loop-level.disk in
-    let now = g.D.Disk.state c.turn.new.disk in
-    let inv = c.loop-level.invariant in
-    let top = sym c.take.ensures.value ∙ c.in-Some.is in
-    let mid = with_top c.loop-level.inside c.in-Some.level in
-    let put = keeps_same s c.loop-level.inside mid (record { options = refl; order = refl; root = refl }) (retop_levels c.loop-level.inside c.loop-level.inside c.in-Some.level top refl) inv.sound.lists in
-    (keeps_on s0 s now c.args.inside.now c.loop-level.inside c.turn.new.inside inv.keeps (keeps_on s s now c.loop-level.inside mid c.turn.new.inside put c.turn.ensures.keeps)).others
-
-pub returns-in-Err-clause-others : goal.returns-in-Err-clause-others
-returns-in-Err-clause-others g c =
-    let s0 = g.D.Disk.state c.args.disk.now in
-    let s = g.D.Disk.state c.loop-level.disk in
-    let now = g.D.Disk.state c.turn.new.disk in
-    let last = g.D.Disk.state c.give_up.new.disk in
-    let inv = c.loop-level.invariant in
-    let top = sym c.take.ensures.value ∙ c.in-Some.is in
-    let mid = with_top c.loop-level.inside c.in-Some.level in
-    let put = keeps_same s c.loop-level.inside mid (record { options = refl; order = refl; root = refl }) (retop_levels c.loop-level.inside c.loop-level.inside c.in-Some.level top refl) inv.sound.lists in
-    let so_far = (keeps_on s0 s now c.args.inside.now c.loop-level.inside c.turn.new.inside inv.keeps (keeps_on s s now c.loop-level.inside mid c.turn.new.inside put c.turn.ensures.keeps)).others in
-    let all = others_on s0 now last (levels_of c.args.inside.now) (levels_of c.turn.new.inside) [] so_far c.give_up.ensures.others in
-    λ number apart is. let k = all number apart is in (k.0, subst (AreApart number) (sym c.give_up.ensures.gone) k.1)
-
-pub returns-clause-others : goal.returns-clause-others
-returns-clause-others g c =
-    let inv = c.loop-level.invariant in
-    let top = sym c.take.ensures.value ∙ c.in_default.is in
-    λ number apart is. let k = inv.keeps.others number apart is in
-    (k.0, (let P : Option Level → Type 0 = λ t. AreApart number (c.loop-level.inside.stack.items ++ top_levels t) in subst P (sym (c.take.ensures.after ∙ sym top)) k.1))
-
--- ---- causes and counts
-
-pub returns-in-Ok-Some-clause-counted : goal.returns-in-Ok-Some-clause-counted
-returns-in-Ok-Some-clause-counted g c = λ fits.
-    let s0 = g.D.Disk.state c.args.disk.now in
-    let s = g.D.Disk.state c.loop-level.disk in
-    let now = g.D.Disk.state c.turn.new.disk in
-    let inv = c.loop-level.invariant in
-    let told = faults_told g.D.Disk.tells (Some c.in-Ok-Some.item) in
-    let mid = with_top c.loop-level.inside c.in-Some.level in
-    let levels = retop_levels c.loop-level.inside c.loop-level.inside c.in-Some.level (sym c.take.ensures.value ∙ c.in-Some.is) refl in
-    let T : Option Item → Type 0 = λ a. CountsFaults (faults_told g.D.Disk.tells a) s (levels_of mid) now (levels_of c.turn.new.inside) in
-    counts_on told s0 s now (levels_of c.args.inside.now) (levels_of c.loop-level.inside) (levels_of c.turn.new.inside) c.turn.ensures.keeps.faults (inv.counted fits)
-    (counts_from told s s now (levels_of c.loop-level.inside) (levels_of mid) (levels_of c.turn.new.inside) (omega arith) (ap faults_due levels)
-    (subst T c.in-Ok-Some.field-0-is (c.in-Ok-Some.ensures.counted (still_fits g.D.Disk.tells g.S.Order.compares_by g.S.Order.sorts s0 s c.args.inside.now c.loop-level.inside c.in-Some.level fits inv.moved inv.keeps.same (sym c.take.ensures.value ∙ c.in-Some.is)))))
-
 -- why the answer came
 caused : (g : given.Over) (c : goal.In-Ok-Some g) → IsCaused g.D.Disk.tells (g.D.Disk.state c.args.disk.now) (g.D.Disk.state c.turn.new.disk) (Some c.in-Ok-Some.item) c.turn.new.inside
 caused g c =
@@ -212,125 +95,248 @@ caused g c =
     caused_later g.D.Disk.tells (g.D.Disk.state c.args.disk.now) (g.D.Disk.state c.loop-level.disk) (g.D.Disk.state c.turn.new.disk) (Some c.in-Ok-Some.item) c.turn.new.inside c.loop-level.invariant.keeps.faults
     (subst T c.in-Ok-Some.field-0-is c.in-Ok-Some.ensures.caused)
 
-pub returns-in-Ok-Some-clause-absent : goal.returns-in-Ok-Some-clause-absent
-returns-in-Ok-Some-clause-absent g c = (caused g c).absent
-
-pub returns-in-Ok-Some-clause-looped : goal.returns-in-Ok-Some-clause-looped
-returns-in-Ok-Some-clause-looped g c = (caused g c).looped
-
-pub returns-in-Ok-Some-clause-entered : goal.returns-in-Ok-Some-clause-entered
-returns-in-Ok-Some-clause-entered g c = (caused g c).entered (λ e. cc e)
-
-pub returns-in-Err-clause-counted : goal.returns-in-Err-clause-counted
-returns-in-Err-clause-counted g c = λ fits.
-    let a = c.loop-level.invariant.keeps.faults in
-    let b = c.turn.ensures.keeps.faults in
-    let d = c.give_up.ensures.faults in
-    let none = ap faults_due c.give_up.ensures.gone in
-    inl (omega (arith, a, b, d, none))
-
-pub returns-in-Err-clause-absent : goal.returns-in-Err-clause-absent
-returns-in-Err-clause-absent g c = λ untold path depth e. absurd (cc e)
-
-pub returns-in-Err-clause-looped : goal.returns-in-Err-clause-looped
-returns-in-Err-clause-looped g c = λ path depth ancestor ident e. absurd (cc e)
-
-pub returns-in-Err-clause-entered : goal.returns-in-Err-clause-entered
-returns-in-Err-clause-entered g c = λ level folder top unread in_it. absurd (no_level c.give_up.new.inside level c.give_up.ensures.gone top)
-
-pub returns-clause-counted : goal.returns-clause-counted
-returns-clause-counted g c = λ fits.
-    let inv = c.loop-level.invariant in
-    let top = sym c.take.ensures.value ∙ c.in_default.is in
-    let after = ap (λ (t : Option Level). faults_due (c.loop-level.inside.stack.items ++ top_levels t)) (c.take.ensures.after ∙ sym top) in
-    elim (inv.counted fits) [ inl h ↦ inl (omega (arith, h, after)) | inr h ↦ inr h ]
-
-pub returns-clause-absent : goal.returns-clause-absent
-returns-clause-absent g c = λ untold path depth e. absurd (cc e)
-
-pub returns-clause-looped : goal.returns-clause-looped
-returns-clause-looped g c = λ path depth ancestor ident e. absurd (cc e)
-
-pub returns-clause-entered : goal.returns-clause-entered
-returns-clause-entered g c = λ level folder top unread in_it. absurd (let none = c.take.ensures.after in cc (none, top))
-
-pub returns-in-Ok-Some-clause-uncapped : goal.returns-in-Ok-Some-clause-uncapped
-returns-in-Ok-Some-clause-uncapped g c = (caused g c).uncapped
-
-pub returns-in-Err-clause-uncapped : goal.returns-in-Err-clause-uncapped
-returns-in-Err-clause-uncapped g c = λ e. cc e
-
-pub returns-clause-uncapped : goal.returns-clause-uncapped
-returns-clause-uncapped g c = λ e. cc e
-
--- ---- what is listed
-
-pub returns-in-Ok-Some-clause-listed_each : goal.returns-in-Ok-Some-clause-listed_each
-returns-in-Ok-Some-clause-listed_each g c =
+-- what the loop kept, with its last turn
+kept : (g : given.Over) (c : goal.In-Ok-Some g) → KeepsWalk (g.D.Disk.state c.args.disk.now) c.args.inside.now (g.D.Disk.state c.turn.new.disk) c.turn.new.inside
+kept g c =
+    let s0 = g.D.Disk.state c.args.disk.now in
     let s = g.D.Disk.state c.loop-level.disk in
     let now = g.D.Disk.state c.turn.new.disk in
+    let inv = c.loop-level.invariant in
+    let top = sym c.take.ensures.value ∙ c.in-Some.is in
     let mid = with_top c.loop-level.inside c.in-Some.level in
-    let same = ap waits_in (retop_levels c.loop-level.inside c.loop-level.inside c.in-Some.level (sym c.take.ensures.value ∙ c.in-Some.is) refl) in
-    let T : Option Item → Type 0 = λ a. GivesListed (gives_below a) s (levels_of mid) now (levels_of c.turn.new.inside) in
-    let more = subst T c.in-Ok-Some.field-0-is c.in-Ok-Some.ensures.listed_each in
-    let so_far = c.loop-level.invariant.each in
-    omega (arith, more, same, so_far)
+    let put = keeps_same s c.loop-level.inside mid (record { options = refl; order = refl; root = refl }) (retop_levels c.loop-level.inside c.loop-level.inside c.in-Some.level top refl) inv.sound.lists in
+    keeps_on s0 s now c.args.inside.now c.loop-level.inside c.turn.new.inside inv.keeps (keeps_on s s now c.loop-level.inside mid c.turn.new.inside put c.turn.ensures.keeps)
 
-pub returns-in-Err-clause-listed_each : goal.returns-in-Err-clause-listed_each
-returns-in-Err-clause-listed_each g c =
-    let none = ap waits_in c.give_up.ensures.gone in
-    let a = c.loop-level.invariant.keeps.later in
-    let b = c.turn.ensures.keeps.later in
-    let d = c.give_up.ensures.listed in
-    omega (arith, none, a, b, d)
-
-pub returns-clause-listed_each : goal.returns-clause-listed_each
-returns-clause-listed_each g c =
+-- the same, where that turn refused
+kept_err : (g : given.Over) (c : After-give_up g) → KeepsWalk (g.D.Disk.state c.args.disk.now) c.args.inside.now (g.D.Disk.state c.turn.new.disk) c.turn.new.inside
+kept_err g c =
+    let s0 = g.D.Disk.state c.args.disk.now in
+    let s = g.D.Disk.state c.loop-level.disk in
+    let now = g.D.Disk.state c.turn.new.disk in
     let inv = c.loop-level.invariant in
-    let top = sym c.take.ensures.value ∙ c.in_default.is in
-    let after = ap (λ (t : Option Level). waits_in (c.loop-level.inside.stack.items ++ top_levels t)) (c.take.ensures.after ∙ sym top) in
-    let so_far = inv.each in
-    omega (arith, so_far, after)
+    let top = sym c.take.ensures.value ∙ c.in-Some.is in
+    let mid = with_top c.loop-level.inside c.in-Some.level in
+    let put = keeps_same s c.loop-level.inside mid (record { options = refl; order = refl; root = refl }) (retop_levels c.loop-level.inside c.loop-level.inside c.in-Some.level top refl) inv.sound.lists in
+    keeps_on s0 s now c.args.inside.now c.loop-level.inside c.turn.new.inside inv.keeps (keeps_on s s now c.loop-level.inside mid c.turn.new.inside put c.turn.ensures.keeps)
 
-pub returns-in-Ok-Some-clause-listed_once : goal.returns-in-Ok-Some-clause-listed_once
-returns-in-Ok-Some-clause-listed_once g c = λ unsorted gives few.
-    let inv = c.loop-level.invariant in
-    let o = inv.once unsorted gives few in
-    let same = o.0 in
-    let a = c.turn.ensures.listed_once (ap g.S.Order.sorts inv.keeps.same.order ∙ unsorted) (subst GivesAtOnce (sym inv.keeps.same.options) gives)
-    (room_at c.args.inside.now.options c.loop-level.inside.options c.loop-level.inside.stack.items c.loop-level.inside.top c.in-Some.level inv.keeps.same.options (sym c.take.ensures.value ∙ c.in-Some.is) o.1) in
-    omega (arith, same, a)
+pub returns-in-Ok-Some-clause-gives : goal.returns-in-Ok-Some-clause-gives
+returns-in-Ok-Some-clause-gives g c = record {
+  step =
+      (λ tells by rest same h.
+      let s0 = g.D.Disk.state c.args.disk.now in
+      let s = g.D.Disk.state c.loop-level.disk in
+      let now = g.D.Disk.state c.turn.new.disk in
+      let inv = c.loop-level.invariant in
+      let mid = with_top c.loop-level.inside c.in-Some.level in
+      let levels = retop_levels c.loop-level.inside c.loop-level.inside c.in-Some.level (sym c.take.ensures.value ∙ c.in-Some.is) refl in
+      let order = ap g.S.Order.sorts inv.keeps.same.order in
+      let m = inv.moved tells by rest same h in
+      let C : _ → Type 0 = λ o. g.S.Order.compares_by o by in
+      let H : Bool → Type 0 = λ b. HasRest s b by mid m.new in
+      let has = rest_retop s (g.S.Order.sorts c.args.inside.now.order) by c.loop-level.inside mid m.new (record { options = refl; order = refl; root = refl }) refl levels m.left in
+      let T : Option Item → Type 0 = λ a. TurnsTo s (g.S.Order.sorts c.loop-level.inside.order) by m.new a now c.turn.new.inside in
+      let turned = subst T c.in-Ok-Some.field-0-is (c.in-Ok-Some.ensures.turns tells by m.new (subst C (sym inv.keeps.same.order) same) (subst H (sym order) has)) in
+      let M : Bool → Type 0 = λ b. StepsTo s b by m.new (Some c.in-Ok-Some.item) now c.turn.new.inside in
+      inr (moves_last s0 s now (g.S.Order.sorts c.args.inside.now.order) by c.loop-level.inside c.turn.new.inside rest (Some c.in-Ok-Some.item) inv.keeps.faults c.turn.ensures.keeps.faults m (subst M order turned)));
+  over = λ e. absurd (no_level c.loop-level.inside c.in-Some.level (c.loop-level.invariant.over e) (sym c.take.ensures.value ∙ c.in-Some.is));
+  ended = tt;
+  gave_up = λ e. absurd ((rw c.in-Ok-Some.field-0-is at c.in-Ok-Some.ensures.named) e);
+  sound =
+      (let k = c.turn.ensures.keeps in
+      let P : Bool → Type 0 = λ b. IsSound (g.D.Disk.state c.turn.new.disk) b c.turn.new.inside in
+      subst P (ap g.S.Order.sorts (k.same.order ∙ c.loop-level.invariant.keeps.same.order)) c.in-Ok-Some.ensures.sound);
+  same = (kept g c).same;
+  not_more =
+      (let a = c.in-Ok-Some.ensures.less in
+      let b = c.loop-level.invariant.less in
+      let d = ap (work_in (g.D.Disk.state c.loop-level.disk)) (retop_levels c.loop-level.inside c.loop-level.inside c.in-Some.level (sym c.take.ensures.value ∙ c.in-Some.is) refl) in
+      omega (arith, a, b, d));
+  within = (kept g c).within;
+  others = (kept g c).others;
+  tree = (kept g c).tree;
+  faults = (kept g c).faults;
+  later = (kept g c).later;
+  counted =
+      (λ fits.
+      let s0 = g.D.Disk.state c.args.disk.now in
+      let s = g.D.Disk.state c.loop-level.disk in
+      let now = g.D.Disk.state c.turn.new.disk in
+      let inv = c.loop-level.invariant in
+      let told = faults_told g.D.Disk.tells (Some c.in-Ok-Some.item) in
+      let mid = with_top c.loop-level.inside c.in-Some.level in
+      let levels = retop_levels c.loop-level.inside c.loop-level.inside c.in-Some.level (sym c.take.ensures.value ∙ c.in-Some.is) refl in
+      let T : Option Item → Type 0 = λ a. CountsFaults (faults_told g.D.Disk.tells a) s (levels_of mid) now (levels_of c.turn.new.inside) in
+      counts_on told s0 s now (levels_of c.args.inside.now) (levels_of c.loop-level.inside) (levels_of c.turn.new.inside) c.turn.ensures.keeps.faults (inv.counted fits)
+      (counts_from told s s now (levels_of c.loop-level.inside) (levels_of mid) (levels_of c.turn.new.inside) (omega arith) (ap faults_due levels)
+      (subst T c.in-Ok-Some.field-0-is (c.in-Ok-Some.ensures.counted (still_fits g.D.Disk.tells g.S.Order.compares_by g.S.Order.sorts s0 s c.args.inside.now c.loop-level.inside c.in-Some.level fits inv.moved inv.keeps.same (sym c.take.ensures.value ∙ c.in-Some.is))))));
+  absent = (caused g c).absent;
+  looped = (caused g c).looped;
+  uncapped = (caused g c).uncapped;
+  entered = (caused g c).entered (λ e. cc e);
+  listed_each =
+      (let s = g.D.Disk.state c.loop-level.disk in
+      let now = g.D.Disk.state c.turn.new.disk in
+      let mid = with_top c.loop-level.inside c.in-Some.level in
+      let same = ap waits_in (retop_levels c.loop-level.inside c.loop-level.inside c.in-Some.level (sym c.take.ensures.value ∙ c.in-Some.is) refl) in
+      let T : Option Item → Type 0 = λ a. GivesListed (gives_below a) s (levels_of mid) now (levels_of c.turn.new.inside) in
+      let more = subst T c.in-Ok-Some.field-0-is c.in-Ok-Some.ensures.listed_each in
+      let so_far = c.loop-level.invariant.each in
+      omega (arith, more, same, so_far));
+  listed_once =
+      (λ unsorted gives few.
+      let inv = c.loop-level.invariant in
+      let o = inv.once unsorted gives few in
+      let same = o.0 in
+      let a = c.turn.ensures.listed_once (ap g.S.Order.sorts inv.keeps.same.order ∙ unsorted) (subst GivesAtOnce (sym inv.keeps.same.options) gives)
+      (room_at c.args.inside.now.options c.loop-level.inside.options c.loop-level.inside.stack.items c.loop-level.inside.top c.in-Some.level inv.keeps.same.options (sym c.take.ensures.value ∙ c.in-Some.is) o.1) in
+      omega (arith, same, a));
+  listed_whole =
+      (λ tells by count compares sorts gives to_list none named.
+      let inv = c.loop-level.invariant in
+      let a = inv.keeps.faults in
+      let b = c.turn.ensures.keeps.faults in
+      let w = inv.whole tells by count compares sorts gives to_list (λ risen. none (risen_on _ _ _ b risen)) in
+      let k = w.2 in
+      let l = c.in-Ok-Some.ensures.listed_whole tells by w.0 (let C : _ → Type 0 = λ o. g.S.Order.compares_by o by in subst C (sym inv.keeps.same.order) compares) (ap g.S.Order.sorts inv.keeps.same.order ∙ sorts) (to_list_at (g.D.Disk.state c.loop-level.disk).tree c.args.inside.now.options c.loop-level.inside.options c.loop-level.inside.top c.in-Some.level w.0 inv.keeps.same.options (sym c.take.ensures.value ∙ c.in-Some.is) w.1) (λ risen. none (risen_from _ _ _ a risen)) in
+      omega (arith, k, l));
+}
 
-pub returns-in-Err-clause-listed_once : goal.returns-in-Err-clause-listed_once
-returns-in-Err-clause-listed_once g c = λ unsorted gives few.
-    let inv = c.loop-level.invariant in
-    let o = inv.once unsorted gives few in
-    let same = o.0 in
-    let a = c.turn.ensures.listed_once (ap g.S.Order.sorts inv.keeps.same.order ∙ unsorted) (subst GivesAtOnce (sym inv.keeps.same.options) gives)
-    (room_at c.args.inside.now.options c.loop-level.inside.options c.loop-level.inside.stack.items c.loop-level.inside.top c.in-Some.level inv.keeps.same.options (sym c.take.ensures.value ∙ c.in-Some.is) o.1) in
-    let b = c.give_up.ensures.listed in
-    omega (arith, same, a, b)
+pub returns-in-Err-clause-gives : goal.returns-in-Err-clause-gives
+returns-in-Err-clause-gives g c = record {
+  step = λ tells by rest same h. inl refl;
+  over = λ e. absurd (no_level c.loop-level.inside c.in-Some.level (c.loop-level.invariant.over e) (sym c.take.ensures.value ∙ c.in-Some.is));
+  ended = tt;
+  gave_up = λ e. c.give_up.ensures.gone;
+  sound = sound_gone _ _ c.give_up.new.inside c.give_up.ensures.gone;
+  same = (let k = kept_err g c in let u = c.give_up.ensures.same in record { options = u.options ∙ k.same.options; order = u.order ∙ k.same.order; root = u.root ∙ k.same.root });
+  not_more =
+      (let fewer = gone_lighter (g.D.Disk.state c.loop-level.disk) (g.D.Disk.state c.give_up.new.disk) c.loop-level.inside c.give_up.new.inside c.in-Some.level _ (sym c.take.ensures.value ∙ c.in-Some.is) c.give_up.ensures.gone
+      (let a = c.turn.ensures.keeps.later in let b = c.give_up.ensures.listed in omega (arith, a, b)) c.loop-level.invariant.less in
+      omega (arith, fewer));
+  within =
+      (let s0 = g.D.Disk.state c.args.disk.now in
+      let s = g.D.Disk.state c.loop-level.disk in
+      let now = g.D.Disk.state c.turn.new.disk in
+      let inv = c.loop-level.invariant in
+      let limit = open_limit c.args.inside.now.options in
+      let top = sym c.take.ensures.value ∙ c.in-Some.is in
+      let mid = with_top c.loop-level.inside c.in-Some.level in
+      let put = keeps_same s c.loop-level.inside mid (record { options = refl; order = refl; root = refl }) (retop_levels c.loop-level.inside c.loop-level.inside c.in-Some.level top refl) inv.sound.lists in
+      let so_far = (keeps_on s0 s now c.args.inside.now c.loop-level.inside c.turn.new.inside inv.keeps (keeps_on s s now c.loop-level.inside mid c.turn.new.inside put c.turn.ensures.keeps)).within in
+      let closed = within_more 0 limit now (g.D.Disk.state c.give_up.new.disk) (levels_of c.turn.new.inside) [] (omega arith) c.give_up.ensures.within in
+      let all = within_on limit s0 now (g.D.Disk.state c.give_up.new.disk) (levels_of c.args.inside.now) (levels_of c.turn.new.inside) [] so_far closed in
+      let none = ap opens c.give_up.ensures.gone in
+      λ others e. let w = all others e in (let a = w.0 in omega (arith, a, none), w.1));
+  others =
+      (let s0 = g.D.Disk.state c.args.disk.now in
+      let s = g.D.Disk.state c.loop-level.disk in
+      let now = g.D.Disk.state c.turn.new.disk in
+      let last = g.D.Disk.state c.give_up.new.disk in
+      let inv = c.loop-level.invariant in
+      let top = sym c.take.ensures.value ∙ c.in-Some.is in
+      let mid = with_top c.loop-level.inside c.in-Some.level in
+      let put = keeps_same s c.loop-level.inside mid (record { options = refl; order = refl; root = refl }) (retop_levels c.loop-level.inside c.loop-level.inside c.in-Some.level top refl) inv.sound.lists in
+      let so_far = (keeps_on s0 s now c.args.inside.now c.loop-level.inside c.turn.new.inside inv.keeps (keeps_on s s now c.loop-level.inside mid c.turn.new.inside put c.turn.ensures.keeps)).others in
+      let all = others_on s0 now last (levels_of c.args.inside.now) (levels_of c.turn.new.inside) [] so_far c.give_up.ensures.others in
+      λ number apart is. let k = all number apart is in (k.0, subst (AreApart number) (sym c.give_up.ensures.gone) k.1));
+  tree = (let k = kept_err g c in let u = c.give_up.ensures.tree in record { tree = u.tree ∙ k.tree.tree; clock = u.clock ∙ k.tree.clock; outcomes = u.outcomes ∙ k.tree.outcomes });
+  faults = (let k = kept_err g c in let a = k.faults in let b = c.give_up.ensures.faults in omega (arith, a, b));
+  later = (let k = kept_err g c in let a = k.later in let b = c.give_up.ensures.listed in omega (arith, a, b));
+  counted =
+      (λ fits.
+      let a = c.loop-level.invariant.keeps.faults in
+      let b = c.turn.ensures.keeps.faults in
+      let d = c.give_up.ensures.faults in
+      let none = ap faults_due c.give_up.ensures.gone in
+      inl (omega (arith, a, b, d, none)));
+  absent = λ untold path depth e. absurd (cc e);
+  looped = λ path depth ancestor ident e. absurd (cc e);
+  uncapped = λ e. cc e;
+  entered = λ level folder top unread in_it. absurd (no_level c.give_up.new.inside level c.give_up.ensures.gone top);
+  listed_each =
+      (let none = ap waits_in c.give_up.ensures.gone in
+      let a = c.loop-level.invariant.keeps.later in
+      let b = c.turn.ensures.keeps.later in
+      let d = c.give_up.ensures.listed in
+      omega (arith, none, a, b, d));
+  listed_once =
+      (λ unsorted gives few.
+      let inv = c.loop-level.invariant in
+      let o = inv.once unsorted gives few in
+      let same = o.0 in
+      let a = c.turn.ensures.listed_once (ap g.S.Order.sorts inv.keeps.same.order ∙ unsorted) (subst GivesAtOnce (sym inv.keeps.same.options) gives)
+      (room_at c.args.inside.now.options c.loop-level.inside.options c.loop-level.inside.stack.items c.loop-level.inside.top c.in-Some.level inv.keeps.same.options (sym c.take.ensures.value ∙ c.in-Some.is) o.1) in
+      let b = c.give_up.ensures.listed in
+      omega (arith, same, a, b));
+  listed_whole = λ tells by count compares sorts gives to_list none named. absurd (named refl);
+}
 
-pub returns-clause-listed_once : goal.returns-clause-listed_once
-returns-clause-listed_once g c = λ unsorted gives few. let o = c.loop-level.invariant.once unsorted gives few in let a = o.0 in omega (arith, a)
+pub returns-clause-gives : goal.returns-clause-gives
+returns-clause-gives g c = record {
+  step =
+      (λ tells by rest same h.
+      let s = g.D.Disk.state c.loop-level.disk in
+      let inv = c.loop-level.invariant in
+      let top = sym c.take.ensures.value ∙ c.in_default.is in
+      let empty = inv.sound.rooted top in
+      let none : levels_of c.loop-level.inside ≡ [] = ap (λ (t : Option Level). c.loop-level.inside.stack.items ++ top_levels t) top ∙ (append-nil _ ∙ empty) in
+      let after = ap (λ (t : Option Level). c.loop-level.inside.stack.items ++ top_levels t) c.take.ensures.after ∙ (append-nil _ ∙ empty) in
+      inr (none_left (g.D.Disk.state c.args.disk.now) s (g.S.Order.sorts c.args.inside.now.order) by c.loop-level.inside _ rest none after (record { options = refl; order = refl; root = refl }) refl (inv.moved tells by rest same h)));
+  over = λ e. refl;
+  ended =
+      (let empty = c.loop-level.invariant.sound.rooted (sym c.take.ensures.value ∙ c.in_default.is) in
+      ap (λ (t : Option Level). c.loop-level.inside.stack.items ++ top_levels t) c.take.ensures.after ∙ (append-nil _ ∙ empty));
+  gave_up = λ e. absurd (cc e);
+  sound =
+      (let top = sym c.take.ensures.value ∙ c.in_default.is in
+      let P : Option Level → Type 0 = λ t. IsSound (g.D.Disk.state c.loop-level.disk) (g.S.Order.sorts c.args.inside.now.order) (record c.loop-level.inside { top = t }) in
+      subst P (sym (c.take.ensures.after ∙ sym top)) c.loop-level.invariant.sound);
+  same = (let k = c.loop-level.invariant.keeps.same in record { options = k.options; order = k.order; root = k.root });
+  not_more =
+      (let top = sym c.take.ensures.value ∙ c.in_default.is in
+      let after = ap (λ (t : Option Level). work_in (g.D.Disk.state c.loop-level.disk) (c.loop-level.inside.stack.items ++ top_levels t)) (c.take.ensures.after ∙ sym top) in
+      let a = c.loop-level.invariant.less in
+      omega (arith, after, a));
+  within =
+      (let inv = c.loop-level.invariant in
+      let top = sym c.take.ensures.value ∙ c.in_default.is in
+      let after = ap (λ (t : Option Level). opens (c.loop-level.inside.stack.items ++ top_levels t)) (c.take.ensures.after ∙ sym top) in
+      λ others e. let w = inv.keeps.within others e in (let a = w.0 in omega (arith, a, after), w.1));
+  others =
+      (let inv = c.loop-level.invariant in
+      let top = sym c.take.ensures.value ∙ c.in_default.is in
+      λ number apart is. let k = inv.keeps.others number apart is in
+      (k.0, (let P : Option Level → Type 0 = λ t. AreApart number (c.loop-level.inside.stack.items ++ top_levels t) in subst P (sym (c.take.ensures.after ∙ sym top)) k.1)));
+  tree = c.loop-level.invariant.keeps.tree;
+  faults = c.loop-level.invariant.keeps.faults;
+  later = c.loop-level.invariant.keeps.later;
+  counted =
+      (λ fits.
+      let inv = c.loop-level.invariant in
+      let top = sym c.take.ensures.value ∙ c.in_default.is in
+      let after = ap (λ (t : Option Level). faults_due (c.loop-level.inside.stack.items ++ top_levels t)) (c.take.ensures.after ∙ sym top) in
+      elim (inv.counted fits) [ inl h ↦ inl (omega (arith, h, after)) | inr h ↦ inr h ]);
+  absent = λ untold path depth e. absurd (cc e);
+  looped = λ path depth ancestor ident e. absurd (cc e);
+  uncapped = λ e. cc e;
+  entered = λ level folder top unread in_it. absurd (let none = c.take.ensures.after in cc (none, top));
+  listed_each =
+      (let inv = c.loop-level.invariant in
+      let top = sym c.take.ensures.value ∙ c.in_default.is in
+      let after = ap (λ (t : Option Level). waits_in (c.loop-level.inside.stack.items ++ top_levels t)) (c.take.ensures.after ∙ sym top) in
+      let so_far = inv.each in
+      omega (arith, so_far, after));
+  listed_once = λ unsorted gives few. let o = c.loop-level.invariant.once unsorted gives few in let a = o.0 in omega (arith, a);
+  listed_whole =
+      (λ tells by count compares sorts gives to_list none named.
+      let w = c.loop-level.invariant.whole tells by count compares sorts gives to_list none in
+      let T : Option Level → Type 0 = λ t. IsToListOnTop (g.D.Disk.state c.loop-level.disk).tree c.args.inside.now.options.max_depth t w.0 in
+      let zero_is : w.0 ≡ 0 = subst T (sym c.take.ensures.value ∙ c.in_default.is) w.1 in
+      let k = w.2 in
+      omega (arith, k, zero_is));
+}
 
-pub returns-in-Ok-Some-clause-listed_whole : goal.returns-in-Ok-Some-clause-listed_whole
-returns-in-Ok-Some-clause-listed_whole g c = λ tells by count compares sorts gives to_list none named.
-    let inv = c.loop-level.invariant in
-    let a = inv.keeps.faults in
-    let b = c.turn.ensures.keeps.faults in
-    let w = inv.whole tells by count compares sorts gives to_list (λ risen. none (risen_on _ _ _ b risen)) in
-    let k = w.2 in
-    let l = c.in-Ok-Some.ensures.listed_whole tells by w.0 (let C : _ → Type 0 = λ o. g.S.Order.compares_by o by in subst C (sym inv.keeps.same.order) compares) (ap g.S.Order.sorts inv.keeps.same.order ∙ sorts) (to_list_at (g.D.Disk.state c.loop-level.disk).tree c.args.inside.now.options c.loop-level.inside.options c.loop-level.inside.top c.in-Some.level w.0 inv.keeps.same.options (sym c.take.ensures.value ∙ c.in-Some.is) w.1) (λ risen. none (risen_from _ _ _ a risen)) in
-    omega (arith, k, l)
-
-pub returns-in-Err-clause-listed_whole : goal.returns-in-Err-clause-listed_whole
-returns-in-Err-clause-listed_whole g c = λ tells by count compares sorts gives to_list none named. absurd (named refl)
-
-pub returns-clause-listed_whole : goal.returns-clause-listed_whole
-returns-clause-listed_whole g c = λ tells by count compares sorts gives to_list none named.
-    let w = c.loop-level.invariant.whole tells by count compares sorts gives to_list none in
-    let T : Option Level → Type 0 = λ t. IsToListOnTop (g.D.Disk.state c.loop-level.disk).tree c.args.inside.now.options.max_depth t w.0 in
-    let zero_is : w.0 ≡ 0 = subst T (sym c.take.ensures.value ∙ c.in_default.is) w.1 in
-    let k = w.2 in
-    omega (arith, k, zero_is)
+pub returns-in-Err-clause-less : goal.returns-in-Err-clause-less
+returns-in-Err-clause-less g c =
+    gone_lighter (g.D.Disk.state c.loop-level.disk) (g.D.Disk.state c.give_up.new.disk) c.loop-level.inside c.give_up.new.inside c.in-Some.level _ (sym c.take.ensures.value ∙ c.in-Some.is) c.give_up.ensures.gone
+    (let a = c.turn.ensures.keeps.later in let b = c.give_up.ensures.listed in omega (arith, a, b)) c.loop-level.invariant.less

@@ -1,4 +1,4 @@
-use Rattle.std.proofs.Common.{◌≡◌, ◌+◌, ◌≤◌, ℕ, true, false}
+use Rattle.std.proofs.Common.{◌≡◌, ◌+◌, ◌≤◌, ℕ, true, false, []}
 use Rattle.sd_io.specs.Count.{HasRisen}
 use Rattle.std.specs.Prelude.{IsTrue}
 use Rattle.std.specs.declared.cmp.Ordering.{Ordering}
@@ -20,6 +20,7 @@ invariant-loop-level g l = record {
   moved : IsTrue g.D.Disk.tells → (by : DirEntry → DirEntry → Ordering) → (rest : Rest) → g.S.Order.compares_by l.fn.inside.order by
       → HasRest (g.D.Disk.state l.fn.disk) (g.S.Order.sorts l.fn.inside.order) by l.fn.inside rest
       → MovesTo (g.D.Disk.state l.fn.disk) (g.S.Order.sorts l.fn.inside.order) by rest (g.D.Disk.state l.disk) l.inside;
+  over : levels_of l.fn.inside ≡ [] → levels_of l.inside ≡ [];
   counted : FitsTree g.D.Disk.tells g.S.Order.compares_by (g.D.Disk.state l.fn.disk) (g.S.Order.sorts l.fn.inside.order) l.fn.inside
       → CountsFaults 0 (g.D.Disk.state l.fn.disk) (levels_of l.fn.inside) (g.D.Disk.state l.disk) (levels_of l.inside);
   each : GivesListed 0 (g.D.Disk.state l.fn.disk) (levels_of l.fn.inside) (g.D.Disk.state l.disk) (levels_of l.inside);

@@ -1,4 +1,4 @@
-use Rattle.std.proofs.Common.{None, Some, Err, inl, length, refl, sym, subst, ◌∙◌, ap, arith}
+use Rattle.std.proofs.Common.{◌∷◌, [], None, Some, Err, inl, inr, length, length-append, refl, sym, subst, ◌∙◌, ap, arith}
 use Rattle.walk_rest.specs.declared.error.Error.TheVariants as error
 use Rattle.walk_steps.specs.Causes.{faults_due}
 use Rattle.walk_steps.specs.Inside.{levels_of, with_top}
@@ -12,6 +12,7 @@ use Rattle.walk_steps.specs.Sound.{AreRead}
 use Rattle.walk_steps.proofs.next.ListedLemmas.{hidden_listed, settled_top}
 use Rattle.walk_steps.proofs.leave.OthersLemmas.{shallow_split}
 use Rattle.walk_steps.specs.Listed.{waits_in}
+use Rattle.walk_steps.proofs.take.ProgressLemmas.{took_met}
 use Rattle.walk_steps.proofs.take.WaitsLemmas.{gives_met, waits_snoc}
 use Rattle.walk_steps.proofs.next.take_next.Goals as goal
 
@@ -243,3 +244,20 @@ returns-in-Err-Failed-clause-listed_each g c =
     let b = waits_snoc xs c.take_entry.new.level in
     let less = c.take_entry.ensures.waits in
     omega (arith, a, b, less)
+
+-- ---- what is done
+
+pub returns-in-Ok-None-clause-progress : goal.returns-in-Ok-None-clause-progress
+returns-in-Ok-None-clause-progress g c =
+    let xs = c.args.inside.now.stack.items in
+    let a = length-append xs (c.args.level ∷ []) in
+    let d = ap length (popped_levels c.pop.new.self.items c.pop.result xs c.pop.ensures.items) in
+    inr (inl (omega (arith, a, d)))
+
+pub returns-in-Ok-Some-clause-progress : goal.returns-in-Ok-Some-clause-progress
+returns-in-Ok-Some-clause-progress g c =
+    took_met None (g.D.Disk.state c.args.disk.now) (g.D.Disk.state c.take_entry.new.disk) (g.D.Disk.state c.meet.new.disk) c.args.inside.now.stack.items c.args.level c.take_entry.new.level
+    (levels_of c.meet.new.inside) c.meet.result (rw c.in-Ok-Some.field-0-is at c.in-Ok-Some.ensures.takes) c.meet.ensures.listed c.meet.ensures.kept
+
+pub returns-in-Err-Failed-clause-progress : goal.returns-in-Err-Failed-clause-progress
+returns-in-Err-Failed-clause-progress g c = inr (inr (inr (_, refl)))

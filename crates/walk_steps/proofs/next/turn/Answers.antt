@@ -1,4 +1,4 @@
-use Rattle.std.proofs.Common.{◌<◌, ◌∷◌, [], None, Some, ℕ, inl, length, length-append, refl, sym, subst, ◌∙◌, ap, arith}
+use Rattle.std.proofs.Common.{◌<◌, ◌∷◌, [], None, Some, ℕ, inl, inr, length, length-append, refl, sym, subst, ◌∙◌, ap, arith}
 use Rattle.std.specs.Prelude.{OnOk}
 use Rattle.walk_rest.specs.declared.level.Level.{Level}
 use Rattle.walk_steps.specs.Inside.{levels_of, with_top}
@@ -13,6 +13,7 @@ use Rattle.walk_steps.proofs.next.ListedLemmas.{ok_result, one_list, one_result,
 use Rattle.walk_steps.proofs.leave.SoundLemmas.{opens_snoc}
 use Rattle.walk_steps.specs.Sound.{held_limit, open_limit}
 use Rattle.walk_steps.specs.Listed.{IsToList, waits_first}
+use Rattle.walk_steps.proofs.take.ProgressLemmas.{progress_relevel}
 use Rattle.walk_steps.proofs.take.WaitsLemmas.{gives_first, gives_result, waits_relevel, waits_snoc}
 use Rattle.walk_steps.proofs.next.turn.Goals as goal
 
@@ -316,3 +317,23 @@ returns-clause-listed_each g c =
     let a = waits_snoc c.args.inside.now.stack.items c.args.level in
     let h = c.in_ok-read_directory-in-Some-folder.ensures.listed_each in
     omega (arith, a, h)
+
+-- ---- what is done
+
+pub returns-in-Some-clause-progress : goal.returns-in-Some-clause-progress
+returns-in-Some-clause-progress g c = λ read. inr (inr (inr (_, refl)))
+
+pub returns-in-Some-take-clause-progress : goal.returns-in-Some-take-clause-progress
+returns-in-Some-take-clause-progress g c = λ read. inr (inr (inl (c.in-Some-take.entry, sym c.take.ensures.value ∙ c.in-Some-take.is, refl)))
+
+pub returns-then-is_read-clause-progress : goal.returns-then-is_read-clause-progress
+returns-then-is_read-clause-progress g c = λ read.
+    let level : Level = record c.args.level { first = c.take.new.self; faults = c.pop.new.self } in
+    progress_relevel c.args.level.first (g.D.Disk.state c.args.disk.now) (g.D.Disk.state c.take_next.new.disk) c.args.inside.now.stack.items c.args.level level
+    (levels_of c.take_next.new.inside) c.take_next.result refl c.take_next.ensures.progress
+
+pub returns-in-None-clause-progress : goal.returns-in-None-clause-progress
+returns-in-None-clause-progress g c = λ read. absurd (let e = sym c.if-is_read.false ∙ c.is_read.ensures.1 read in cc e)
+
+pub returns-clause-progress : goal.returns-clause-progress
+returns-clause-progress g c = λ read. absurd (let e = sym c.if-is_read.false ∙ c.is_read.ensures.1 read in cc e)
