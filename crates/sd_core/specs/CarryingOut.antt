@@ -1,15 +1,14 @@
 -- What is promised of what options ask for, whatever their mode.
-use Rattle.std.specs.Prelude.{◌≡◌, ◌≢◌, ℕ, IsTrue, List}
+use Rattle.std.specs.Prelude.{◌≡◌, ◌≢◌, ℕ, List}
 use Rattle.sd_io.specs.Disk.{DiskState}
 use Rattle.sd_io.specs.Streams.{SourceState, SinkState}
 use Rattle.sd_course.specs.Course.{Course}
 use Rattle.sd_words.specs.declared.options.Options.{Options}
-use Rattle.sd_replace.specs.Replacement.{Replacement, Changes}
-use Rattle.sd_core.specs.Asked.{IsReplacerOf, RefusesReplacer}
+use Rattle.sd_core.specs.Asked.{RefusesReplacer}
 use Rattle.sd_core.specs.Mode as mode
 use Rattle.sd_core.specs.Mode.{mode_of}
-use Rattle.sd_core.specs.Run.{Begins, CallsNoDisk, IsRefusedFirst, ReadsNoInput, WritesNoOutput}
-use Rattle.sd_core.specs.TreeCommand.{DoesTreeCommand, TreeCommand}
+use Rattle.sd_core.specs.Run.{Begins, CallsNoDisk, IsOrMemory, IsRefusedFirst, ReadsNoInput, WritesNoOutput}
+use Rattle.sd_core.specs.TreeCommand.{TreeCommand}
 use Rattle.sd_core.specs.DemoCommand.{DemoCommand}
 use Rattle.sd_core.specs.InputCommand.{InputCommand}
 use Rattle.sd_core.specs.NamedCommands.{FilesCommand, PreviewCommand}
@@ -17,14 +16,13 @@ use Rattle.sd_core.specs.declared.error.Error.{Error}
 use Rattle.sd_core.specs.declared.ended.Why.{Why}
 use Rattle.sd_core.specs.declared.ended.Why.TheVariants as why
 
--- Each clause of a run, of the options that its words ask for. That disk, input and output are the very values that were handed in is given as three facts.
+-- What a run promises of the options that its words ask for, by their mode. That disk, input and output are the very values that were handed in is given as
+-- three facts.
 pub record CarriesOut (options : Options) (same_disk same_input same_out : Type 0) (d : Course DiskState) (input : Course SourceState) (out : Course SinkState)
     (ended : Why) : Type 0 where
   pub ordered : ended ≢ why.Usage
-  pub not_yet : (root : List ℕ) → mode_of options ≡ mode.plan root → ended ≡ why.NotYet
+  pub not_yet : (root : List ℕ) → mode_of options ≡ mode.plan root → IsOrMemory why.NotYet ended
   pub replacer : ended ≢ why.NotYet → (error : Error) → RefusesReplacer options error → IsRefusedFirst options ended
-  pub headline : IsTrue d.tells → (root : List ℕ) → mode_of options ≡ mode.tree root → ended ≡ why.Done
-      → (replacement : Replacement) × IsReplacerOf options replacement × DoesTreeCommand (Changes replacement) root options.words d.old d.new out
   pub tree : (root : List ℕ) → mode_of options ≡ mode.tree root
       → Begins options (same_disk × same_input × same_out) ended (λ change. TreeCommand change root options.words d out ended)
   pub demo : (n : ℕ) → mode_of options ≡ mode.demo n

@@ -36,9 +36,10 @@ pub record DoesButPrint (change : Change) (root : List ℕ) (globs : List (List 
   pub rewrites : RewritesTree change root globs report old new
   pub appended : IsTrue out.tells → AppendsPrefix out.old.held (line_of report) out.new.held
 
--- How a tree command ends; what one that is done does, the headline says.
+-- How a tree command ends. One that is done did what the headline says.
 abbrev pub TreeEnds : Change → List ℕ → List (List ℕ) → Course DiskState → Course SinkState → Why → Type 0
-TreeEnds change root globs d out why.Done = IsTrue d.tells → HasFewerBelow sweep_cap d.old.tree root
+TreeEnds change root globs d out why.Done =
+    (IsTrue d.tells → HasFewerBelow sweep_cap d.old.tree root) × (IsTrue d.tells → DoesTreeCommand change root globs d.old d.new out)
 TreeEnds change root globs d out why.Print =
     SinkFailed out × (IsTrue d.tells → HasFewerBelow sweep_cap d.old.tree root)
     × (IsTrue d.tells → DoesButPrint change root globs d.old d.new out)

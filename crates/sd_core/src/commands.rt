@@ -1,6 +1,6 @@
 //! The commands, one for each mode.
 
-ghost use Rattle.std.specs.Prelude.{◌≡◌, ◌≤◌, ℕ, IsTrue};
+ghost use Rattle.std.specs.Prelude.{◌≡◌, ◌≤◌, ℕ};
 ghost use Rattle.sd_change.specs.Change.{Change};
 ghost use Rattle.sd_course.specs.Course.{course};
 ghost use Rattle.sd_replace.specs.Replacement.{Changes};
@@ -8,7 +8,7 @@ ghost use Rattle.sd_replace.specs.Replacer.{replacement_of};
 ghost use Rattle.sd_core.specs.Mode as mode;
 ghost use Rattle.sd_core.specs.Mode.{mode_by, words_mode};
 ghost use Rattle.sd_core.specs.Run.{IsFault, CallsNoDisk, ReadsNoInput, WritesNoOutput, end_of};
-ghost use Rattle.sd_core.specs.TreeCommand.{DoesTreeCommand, TreeCommand};
+ghost use Rattle.sd_core.specs.TreeCommand.{TreeCommand};
 ghost use Rattle.sd_core.specs.DemoCommand.{DemoCommand};
 ghost use Rattle.sd_core.specs.InputCommand.{InputCommand};
 ghost use Rattle.sd_core.specs.NamedCommands.{FilesCommand, PreviewCommand};
@@ -31,8 +31,6 @@ pub fn tree_command<D: Disk, O: Sink>(
     globs: &Globs,
     replacer: &Replacer,
 ) -> Why
-    ensures headline { IsTrue D.tells → result ≡ Why.Done → DoesTreeCommand (Changes (replacement_of replacer.now)) root.now globs.now
-        (D.state disk.old) (D.state disk.new) (course O.tells (O.state out.old) (O.state out.new)) }
     ensures tree { TreeCommand (Changes (replacement_of replacer.now)) root.now globs.now
         (course D.tells (D.state disk.old) (D.state disk.new)) (course O.tells (O.state out.old) (O.state out.new)) result }
     ensures bad_glob { (place : ℕ) → result ≡ Why.Fault (Error.BadGlob place) → disk.new ≡ disk.old }

@@ -1,22 +1,21 @@
 //! The program, from its words to its status.
 
-ghost use Rattle.std.specs.Prelude.{◌≡◌, ◌≢◌, ◌≤◌, ℕ, List, true, false, IsTrue, None, Some};
+ghost use Rattle.std.specs.Prelude.{◌≡◌, ◌≤◌, ℕ, List, true, false, IsTrue, None, Some};
 ghost use Rattle.sd_course.specs.Course.{course};
 ghost use Rattle.sd_words.specs.Order.{order_of};
 ghost use Rattle.sd_words.specs.declared.options.Options.{Options};
 ghost use Rattle.sd_replace.specs.Replacement.{Replacement, Changes};
 ghost use Rattle.sd_replace.specs.Replacer.{replacement_of};
-ghost use Rattle.sd_core.specs.Asked.{IsReplacerOf, RefusesReplacer};
+ghost use Rattle.sd_core.specs.Asked.{IsReplacerOf};
 ghost use Rattle.sd_core.specs.Mode as mode;
 ghost use Rattle.sd_core.specs.Mode.{IsPlan, mode_of};
 ghost use Rattle.sd_core.specs.CarryingOut.{CarriesOut};
 ghost use Rattle.sd_core.specs.Run as form;
-ghost use Rattle.sd_core.specs.Run.{Asks, Begins, CallsNoDisk, IsOrMemory, IsRefusedFirst, ReadsNoInput, WritesNoOutput};
+ghost use Rattle.sd_core.specs.Run.{Asks, CallsNoDisk, IsOrMemory, ReadsNoInput, WritesNoOutput};
 ghost use Rattle.sd_core.specs.TreeCommand.{DoesTreeCommand, TreeCommand};
 ghost use Rattle.sd_core.specs.DemoCommand.{DemoCommand};
 ghost use Rattle.sd_core.specs.InputCommand.{InputCommand};
 ghost use Rattle.sd_core.specs.NamedCommands.{FilesCommand, PreviewCommand};
-ghost use Rattle.sd_core.specs.declared.error.Error.{Error};
 
 use crate::asking::replacer_of;
 use crate::commands::{demo_command, tree_command, words_command};
@@ -52,30 +51,9 @@ pub fn run<D: Disk, S: Source, O: Sink, E: Sink>(
     ensures status { result.status ≡ form.status_of result.why }
     ensures usage { result.why ≡ Why.Usage → order_of words.now ≡ None }
     ensures no_order { order_of words.now ≡ None → IsOrMemory Why.Usage result.why × (disk.new ≡ disk.old) × (input.new ≡ input.old) × (out.new ≡ out.old) }
-    ensures not_yet { (order : Options) (root : List ℕ) → Asks words.now order (mode.plan root) → IsOrMemory Why.NotYet result.why }
-    ensures replacer { (order : Options) → order_of words.now ≡ Some order → result.why ≢ Why.NotYet
-        → (error : Error) → RefusesReplacer order error → IsRefusedFirst order result.why }
-    ensures tree { (order : Options) (root : List ℕ) → Asks words.now order (mode.tree root)
-        → Begins order ((disk.new ≡ disk.old) × (input.new ≡ input.old) × (out.new ≡ out.old)) result.why
-        (λ change. TreeCommand change root order.words (course D.tells (D.state disk.old) (D.state disk.new))
-        (course O.tells (O.state out.old) (O.state out.new)) result.why) }
-    ensures demo { (order : Options) (n : ℕ) → Asks words.now order (mode.demo n)
-        → Begins order ((disk.new ≡ disk.old) × (input.new ≡ input.old) × (out.new ≡ out.old)) result.why
-        (λ change. DemoCommand change n order.words (course O.tells (O.state out.old) (O.state out.new)) result.why) }
-    ensures standard_input { (order : Options) → Asks words.now order mode.stream
-        → Begins order ((disk.new ≡ disk.old) × (input.new ≡ input.old) × (out.new ≡ out.old)) result.why
-        (λ change. InputCommand change (course S.tells (S.state input.old) (S.state input.new))
-        (course O.tells (O.state out.old) (O.state out.new)) result.why) }
-    ensures files { (order : Options) → Asks words.now order mode.files
-        → Begins order ((disk.new ≡ disk.old) × (input.new ≡ input.old) × (out.new ≡ out.old)) result.why
-        (λ change. FilesCommand change order.words (course D.tells (D.state disk.old) (D.state disk.new)) result.why) }
-    ensures preview { (order : Options) → Asks words.now order mode.preview
-        → Begins order ((disk.new ≡ disk.old) × (input.new ≡ input.old) × (out.new ≡ out.old)) result.why
-        (λ change. PreviewCommand change order.words (course D.tells (D.state disk.old) (D.state disk.new))
-        (course O.tells (O.state out.old) (O.state out.new)) result.why) }
-    ensures disk_kept { (order : Options) → order_of words.now ≡ Some order → CallsNoDisk (mode_of order) result.why → disk.new ≡ disk.old }
-    ensures input_kept { (order : Options) → order_of words.now ≡ Some order → ReadsNoInput (mode_of order) → input.new ≡ input.old }
-    ensures out_kept { (order : Options) → order_of words.now ≡ Some order → WritesNoOutput (mode_of order) result.why → out.new ≡ out.old }
+    ensures carries { (order : Options) → order_of words.now ≡ Some order → CarriesOut order (disk.new ≡ disk.old) (input.new ≡ input.old) (out.new ≡ out.old)
+        (course D.tells (D.state disk.old) (D.state disk.new)) (course S.tells (S.state input.old) (S.state input.new))
+        (course O.tells (O.state out.old) (O.state out.new)) result.why }
     ensures err_kept { result.why ≡ Why.Done → err.new ≡ err.old }
 {
     match Options::read(alloc, words) {
@@ -177,9 +155,6 @@ fn begin<D: Disk, S: Source, O: Sink>(
 ) -> Why
     requires no_plan { IsPlan (mode_of options.now) → ⊥ }
     requires few { (n : ℕ) → options.now.demo ≡ Some n → n ≤ 100000 }
-    ensures headline { IsTrue D.tells → (root : List ℕ) → mode_of options.now ≡ mode.tree root → result ≡ Why.Done
-        → DoesTreeCommand (Changes (replacement_of replacer.now)) root options.now.words (D.state disk.old) (D.state disk.new)
-        (course O.tells (O.state out.old) (O.state out.new)) }
     ensures tree { (root : List ℕ) → mode_of options.now ≡ mode.tree root → TreeCommand (Changes (replacement_of replacer.now)) root options.now.words
         (course D.tells (D.state disk.old) (D.state disk.new)) (course O.tells (O.state out.old) (O.state out.new)) result }
     ensures demo { (n : ℕ) → mode_of options.now ≡ mode.demo n

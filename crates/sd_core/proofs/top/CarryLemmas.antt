@@ -1,6 +1,5 @@
 -- What is carried out, from the parts of it.
 use Rattle.std.proofs.Common.{◌≡◌, ℕ, ap, subst, sym, refl, inl, inr, List, arith}
-use Rattle.std.specs.Prelude.{IsTrue}
 use Rattle.sd_io.specs.Disk.{DiskState}
 use Rattle.sd_io.specs.Streams.{SourceState, SinkState}
 use Rattle.sd_course.specs.Course.{Course}
@@ -14,7 +13,7 @@ use Rattle.sd_core.specs.Errors.{of_replacer}
 use Rattle.sd_core.specs.Mode as mode
 use Rattle.sd_core.specs.Mode.{IsPlan, Mode, mode_of}
 use Rattle.sd_core.specs.Run.{CallsNoDisk, IsRefusedFirst, ReadsNoInput, WritesNoOutput, status_of}
-use Rattle.sd_core.specs.TreeCommand.{DoesTreeCommand, TreeCommand, TreeEnds}
+use Rattle.sd_core.specs.TreeCommand.{TreeCommand, TreeEnds}
 use Rattle.sd_core.specs.DemoCommand.{DemoCommand, DemoEnds}
 use Rattle.sd_core.specs.InputCommand.{InputCommand, InputEnds}
 use Rattle.sd_core.specs.NamedCommands.{FilesCommand, FilesEnd, PreviewCommand, PreviewEnds}
@@ -27,9 +26,8 @@ module _ (options : Options) (same_disk same_input same_out : Type 0) (d : Cours
   pub planned : IsPlan (mode_of options) → same_disk → same_input → same_out → CarriesOut options same_disk same_input same_out d input out why.NotYet
   planned plan s t u = record {
     ordered = λ e. (let f : 1 ≡ 2 = ap status_of e in omega (arith, f));
-    not_yet = λ root e. refl;
+    not_yet = λ root e. inl refl;
     replacer = λ no error refuses. absurd (no refl);
-    headline = λ told root e done. (let f : 1 ≡ 0 = ap status_of done in absurd (omega (arith, f)));
     tree = λ root e. absurd (subst IsPlan e plan);
     demo = λ n e. absurd (subst IsPlan e plan);
     standard_input = λ e. absurd (subst IsPlan e plan);
@@ -48,7 +46,6 @@ module _ (options : Options) (same_disk same_input same_out : Type 0) (d : Cours
         ordered = λ e. (let f : 1 ≡ 2 = ap status_of e in omega (arith, f));
         not_yet = λ root e. absurd (no_plan (subst IsPlan (sym e) tt));
         replacer = λ no error refuses. first;
-        headline = λ told root e done. (let f : 1 ≡ 0 = ap status_of done in absurd (omega (arith, f)));
         tree = λ root e. inl ((s, t, u), first);
         demo = λ n e. inl ((s, t, u), first);
         standard_input = λ e. inl ((s, t, u), first);
@@ -60,7 +57,6 @@ module _ (options : Options) (same_disk same_input same_out : Type 0) (d : Cours
       }
 
   module _ (no_plan : IsPlan (mode_of options) → ⊥) (replacement : Replacement) (asked : IsReplacerOf options replacement) (readable : AnAskedReplacementIsReadable) (came : Why)
-      (headline : IsTrue d.tells → (root : List ℕ) → mode_of options ≡ mode.tree root → came ≡ why.Done → DoesTreeCommand (Changes replacement) root options.words d.old d.new out)
       (tree : (root : List ℕ) → mode_of options ≡ mode.tree root → TreeCommand (Changes replacement) root options.words d out came)
       (demo : (n : ℕ) → mode_of options ≡ mode.demo n → DemoCommand (Changes replacement) n options.words out came)
       (standard_input : mode_of options ≡ mode.stream → InputCommand (Changes replacement) input out came)
@@ -81,7 +77,6 @@ module _ (options : Options) (same_disk same_input same_out : Type 0) (d : Cours
       ordered = ordered_by (mode_of options) refl;
       not_yet = λ root e. absurd (no_plan (subst IsPlan (sym e) tt));
       replacer = λ no error refuses. absurd (not_refused readable options replacement error asked refuses);
-      headline = λ told root e done. (replacement, asked, headline told root e done);
       tree = λ root e. inr (replacement, asked, tree root e);
       demo = λ n e. inr (replacement, asked, demo n e);
       standard_input = λ e. inr (replacement, asked, standard_input e);

@@ -13,3 +13,9 @@ returns-in-Err-print_report-clause-tree g c =
     let p = c.in-Err-print_report.ensures in
     done _ _ _ _ _ c.in-Ok.report _ e.sweeps (λ place invalid. (e.bad_glob place invalid).1)
     (p.cause refl, e.sweeps.few, λ told. record { report = c.in-Ok.report; rewrites = e.sweeps.rewritten told; appended = p.refused }) (λ no. absurd (no (p.cause refl)))
+
+pub returns-in-Ok-print_report-clause-tree : goal.returns-in-Ok-print_report-clause-tree
+returns-in-Ok-print_report-clause-tree g c =
+    let e = c.in-Ok.ensures in
+    done _ _ _ _ _ c.in-Ok.report _ e.sweeps (λ place invalid. (e.bad_glob place invalid).1)
+    (e.sweeps.few, λ told. record { report = c.in-Ok.report; rewrites = e.sweeps.rewritten told; printed = λ tells. c.in-Ok-print_report.ensures.printed tells }) (λ no. tt)

@@ -12,4 +12,4 @@ pub returns-in-Ok : goal.returns-in-Ok
 returns-in-Ok g c =
     let b = c.begin-why.ensures in
     begun _ _ _ _ _ _ _ (c.is_plan.ensures.no_plan c.if-is_plan.false) _ c.in-Ok.ensures.made c.an_asked_replacement_is_readable.ensures c.begin-why.result
-    b.headline b.tree b.demo b.standard_input b.files b.preview b.disk_kept b.input_kept b.out_kept
+    b.tree b.demo b.standard_input b.files b.preview b.disk_kept b.input_kept b.out_kept
