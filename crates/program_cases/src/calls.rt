@@ -6,7 +6,8 @@
 //! - `kind PATH` and `link_kind PATH` answer what stands there, a link at the end followed or not; `len PATH` how many bytes it has,
 //!   `dev PATH` the number of its device, `node PATH` that and its own number, `same PATH PATH` `yes` where both are one node, `place PATH`
 //!   the path that it leads to, and `read PATH` bytes;
-//! - `list PATH` answers all entries, each with its kind, and `first PATH` the first of them; its list stays open. `open PATH` opens one;
+//! - `list PATH` answers the first three entries, each with its kind, and `and more` where there are; `first PATH` answers the first, and its
+//!   list stays open. `open PATH` opens one;
 //! - `create PATH LIKE`, `write PATH BYTES`, `sync PATH`, `rename PATH PATH`, `remove PATH`, `sync_names PATH` and `set_dev PATH NUMBER`
 //!   answer `done`, as do `dir`, `file`, `link` and `other` with the fields that a section has, and `fail CALL` and `stop CALL`;
 //! - `calls`, `faults` and `lists` answer how many there were, `mode PATH` a file's mode or `%none`, `held PATH` its bytes or `%none`.
@@ -19,7 +20,7 @@ use crate::tree::{add, disk_of};
 use anyhow::Error;
 use case_reader::{Case, CaseFault, Line};
 use mem_io::{BuildFault, MemDisk};
-use sd_io::{Disk, DiskFault, Ident, Kind, ListId, Meta, RawEntry};
+use sd_io::{Disk, DiskFault, Ident, Kind, Meta, RawEntry};
 use std::alloc::Global;
 
 /// An answer: bytes, or nothing.
@@ -283,34 +284,59 @@ fn read(alloc: Global, disk: &mut MemDisk, path: &str) -> Answer {
     }
 }
 
-/// The entries of a folder.
+/// The entries of a folder, of which the first three are told, and whether there are more.
 fn list(alloc: Global, disk: &mut MemDisk, path: &str) -> Answer {
-    match disk.open_dir(path) {
-        Ok(list) => entries(alloc, disk, list),
+    match entries(alloc, disk, path) {
+        Ok(entries) => text(alloc, names_of(alloc, &entries)?.trim_start()),
         Err(fault) => refused(alloc, fault),
     }
 }
 
-/// The entries of an open list, which is closed then.
-fn entries(alloc: Global, disk: &mut MemDisk, list: ListId) -> Answer {
-    let mut names = String::new(alloc);
-    for _ in 0..u64::MAX {
-        match disk.next_entry(alloc, list) {
-            Ok(None) => break,
-            Ok(Some(entry)) => push_entry(&mut names, &entry)?,
-            Err(fault) => return refused(alloc, fault),
-        }
-    }
+/// What a list gives in turn.
+#[derive(Drop)]
+struct Entries {
+    first: Option<RawEntry>,
+    second: Option<RawEntry>,
+    third: Option<RawEntry>,
+    fourth: Option<RawEntry>,
+}
+
+/// What a list of a folder gives in turn; it is closed then.
+fn entries(alloc: Global, disk: &mut MemDisk, path: &str) -> Result<Entries, DiskFault> {
+    let list = disk.open_dir(path)?;
+    let first = disk.next_entry(alloc, list)?;
+    let second = disk.next_entry(alloc, list)?;
+    let third = disk.next_entry(alloc, list)?;
+    let fourth = disk.next_entry(alloc, list)?;
     disk.close_dir(list);
-    text(alloc, names.trim_start())
+    Ok(Entries {
+        first,
+        second,
+        third,
+        fourth,
+    })
+}
+
+/// The names and kinds of entries, each behind a space.
+fn names_of(alloc: Global, entries: &Entries) -> Result<String, Error> {
+    let mut names = String::new(alloc);
+    push_entry(&mut names, &entries.first)?;
+    push_entry(&mut names, &entries.second)?;
+    push_entry(&mut names, &entries.third)?;
+    if entries.fourth.is_some() {
+        names.push_str(" and more")?;
+    }
+    Ok(names)
 }
 
 /// Adds an entry to others: its name and its kind.
-fn push_entry(names: &mut String, entry: &RawEntry) -> Result<(), Error> {
-    names.push(' ')?;
-    names.push_str(entry.name.as_str())?;
-    names.push(' ')?;
-    names.push_str(kind_name(entry.kind))?;
+fn push_entry(names: &mut String, entry: &Option<RawEntry>) -> Result<(), Error> {
+    if let Some(entry) = entry {
+        names.push(' ')?;
+        names.push_str(entry.name.as_str())?;
+        names.push(' ')?;
+        names.push_str(kind_name(entry.kind))?;
+    }
     Ok(())
 }
 
