@@ -294,7 +294,7 @@ fn list(alloc: Global, disk: &mut MemDisk, path: &str) -> Answer {
 
 /// What a list gives in turn.
 #[derive(Drop)]
-struct Entries {
+struct Listed {
     first: Option<RawEntry>,
     second: Option<RawEntry>,
     third: Option<RawEntry>,
@@ -302,14 +302,14 @@ struct Entries {
 }
 
 /// What a list of a folder gives in turn; it is closed then.
-fn entries(alloc: Global, disk: &mut MemDisk, path: &str) -> Result<Entries, DiskFault> {
+fn entries(alloc: Global, disk: &mut MemDisk, path: &str) -> Result<Listed, DiskFault> {
     let list = disk.open_dir(path)?;
     let first = disk.next_entry(alloc, list)?;
     let second = disk.next_entry(alloc, list)?;
     let third = disk.next_entry(alloc, list)?;
     let fourth = disk.next_entry(alloc, list)?;
     disk.close_dir(list);
-    Ok(Entries {
+    Ok(Listed {
         first,
         second,
         third,
@@ -318,7 +318,7 @@ fn entries(alloc: Global, disk: &mut MemDisk, path: &str) -> Result<Entries, Dis
 }
 
 /// The names and kinds of entries, each behind a space.
-fn names_of(alloc: Global, entries: &Entries) -> Result<String, Error> {
+fn names_of(alloc: Global, entries: &Listed) -> Result<String, Error> {
     let mut names = String::new(alloc);
     push_entry(&mut names, &entries.first)?;
     push_entry(&mut names, &entries.second)?;
