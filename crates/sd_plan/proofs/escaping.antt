@@ -1,0 +1,2 @@
+-- What the escaping of paths uses.
+pub mod EscapeLemmas

@@ -1,0 +1,2 @@
+-- What the laws of plans use.
+pub mod Utf8Lemmas

@@ -1,0 +1,4 @@
+-- What the reading of a plan uses.
+pub mod LineLemmas
+pub mod TextLemmas
+pub mod ReadLemmas

@@ -1,0 +1,2 @@
+-- What the writing of a plan uses.
+pub mod WrittenLemmas
