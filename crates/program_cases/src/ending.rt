@@ -34,7 +34,8 @@ fn jobs_of(why: &Why) -> usize {
     }
 }
 
-/// What an error carries: a text with the place and the digits of a name in it, the path and the fault of its only job, or a path.
+/// What an error carries: a text with the place and the digits of a name in it, the path and the fault of its only job, a path with
+/// two digests, or a path.
 fn carried_of(alloc: Global, why: &Why) -> Result<String, Error> {
     match why {
         Why::Fault(Fault::InvalidReplaceCapture(capture)) => {
@@ -46,6 +47,18 @@ fn carried_of(alloc: Global, why: &Why) -> Result<String, Error> {
             let (path, fault) = jobs.get(0);
             Ok(format!(in alloc; "{path} {}", job_name(fault))?)
         }
+        Why::Fault(
+            Fault::Stale {
+                path,
+                planned,
+                found,
+            }
+            | Fault::Differs {
+                path,
+                planned,
+                found,
+            },
+        ) => Ok(format!(in alloc; "{} {planned} {found}", path.as_str())?),
         Why::Fault(Fault::InvalidPath(path)) => Ok(format!(in alloc; "{}", path.as_str())?),
         _ => Ok(String::new(alloc)),
     }
@@ -66,7 +79,6 @@ fn cause_of(why: &Why) -> &'static str {
         Why::Done => "Done",
         Why::Usage => "Usage",
         Why::Print => "Print",
-        Why::NotYet => "NotYet",
         Why::Fault(fault) => name_of(fault),
     }
 }
@@ -84,6 +96,9 @@ fn name_of(fault: &Fault) -> &'static str {
         Fault::Walk(_) => "Walk",
         Fault::TooMany => "TooMany",
         Fault::InputTooLong => "InputTooLong",
+        Fault::Stale { .. } => "Stale",
+        Fault::Differs { .. } => "Differs",
+        Fault::NotAPlan => "NotAPlan",
         Fault::NoMemory => "NoMemory",
     }
 }

@@ -2,12 +2,11 @@
 
 use crate::running::{check_files, listed, two_files};
 use mem_io::{MemDisk, MemSink, MemSource};
-use sd_core::{App, AppSource};
+use sd_core::{App, AppSource, Error, replace_stream};
 use sd_replace::{Replacer, ReplacerFault};
 use std::alloc::Global;
 use std::process::Abort;
 use std::test::Fail;
-use stream_rewrite::{StreamFault, replace_stream};
 
 /// Replaces `one` by `1`.
 fn one_by_1(alloc: Global) -> Result<Replacer, ReplacerFault> {
@@ -20,15 +19,15 @@ fn stream_under(
     source: &mut MemSource,
     sink: &mut MemSink,
     replacer: &Replacer,
-) -> Result<(), StreamFault> {
+) -> Result<(), Error> {
     replace_stream(alloc, source, sink, replacer, 8)
 }
 
 /// Whether an input was too long.
-fn was_too_long(answer: Result<(), StreamFault>) -> Result<bool, Fail> {
+fn was_too_long(answer: Result<(), Error>) -> Result<bool, Fail> {
     match answer {
         Ok(()) => Ok(false),
-        Err(StreamFault::InputTooLong) => Ok(true),
+        Err(Error::InputTooLong) => Ok(true),
         Err(_) => Err("another fault")?,
     }
 }

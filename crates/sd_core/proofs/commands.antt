@@ -1,3 +1,3 @@
 -- What the proofs about commands use.
 pub mod TreeLemmas
-pub mod DemoLemmas
+pub mod WordsLemmas

@@ -1,2 +1,3 @@
 -- What the laws use.
 pub mod CrashLemmas
+pub mod PlanLemmas

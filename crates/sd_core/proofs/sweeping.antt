@@ -1,3 +1,2 @@
 -- What a sweep uses.
-pub mod NamedLemmas
 pub mod SweepLemmas

@@ -1,12 +1,13 @@
 -- How a tree command on the tree of a demo ends.
-use Rattle.std.specs.Prelude.{◌≢◌, ℕ, List, [], ⊤}
+use Rattle.std.specs.Prelude.{◌≢◌, ℕ, List, [], All, Result, IfOk, IfErr, ⊤}
 use Rattle.sd_io.specs.Tree.{NameList, Tree}
 use Rattle.sd_change.specs.Change.{Change}
-use Rattle.chosen_files.specs.Globs.{IsFirstInvalid}
+use Rattle.chosen_files.specs.Globs.{IsValid, IsFirstInvalid}
 use Rattle.chosen_files.specs.Chosen.{Chosen}
 use Rattle.many_files.specs.Counts.{Counts}
 use Rattle.many_files.specs.Jobs.{WantMemory}
 use Rattle.many_files.specs.declared.report.Report.{Report}
+use Rattle.sd_core.specs.Sweep.{IsErrOrMemory}
 use Rattle.sd_core.specs.declared.error.Error.{Error}
 use Rattle.sd_core.specs.declared.error.Error.TheVariants as error
 use Rattle.demo_tree.specs.Demo.{IsDemo, demo_place}
@@ -31,3 +32,10 @@ DemoFails n globs (error.BadGlob place) = IsFirstInvalid globs place
 DemoFails n globs (error.FailedProcessing jobs) = DemoWantsMemory n (error.FailedProcessing jobs)
 DemoFails n globs error.NoMemory = ⊤
 DemoFails n globs _ = ⊥
+
+-- What a sweep of a demo promises at each of its ends.
+pub record SweepsDemo (change : Change) (n : ℕ) (globs : List (List ℕ)) (result : Result Report Error) : Type 0 where
+  pub counted : IfOk result (CountsDemo change n globs)
+  pub fails : IfErr result (DemoFails n globs)
+  pub bad_glob : (place : ℕ) → IsFirstInvalid globs place → IsErrOrMemory (error.BadGlob place) result
+  pub complete : All IsValid globs → IfErr result (DemoWantsMemory n)

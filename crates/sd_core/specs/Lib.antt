@@ -1,5 +1,7 @@
+pub mod Apply
+pub mod ApplyCommand
 pub mod Asked
-pub mod CarryingOut
+pub mod Command
 pub mod Crash
 pub mod Demo
 pub mod DemoCommand
@@ -8,7 +10,12 @@ pub mod Examples
 pub mod InputCommand
 pub mod Mode
 pub mod NamedCommands
+pub mod Outside
+pub mod Plan
+pub mod PlanCommand
+pub mod Printing
 pub mod Report
 pub mod Run
+pub mod Selection
 pub mod Sweep
 pub mod TreeCommand

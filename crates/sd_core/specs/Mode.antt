@@ -1,12 +1,16 @@
 -- What a command works on.
-use Rattle.std.specs.Prelude.{ℕ, Bool, true, false, List, [], ◌∷◌, Option, Some, None, ⊤}
+use Rattle.std.specs.Prelude.{◌≡◌, ℕ, Bool, true, false, List, [], ◌∷◌, Option, Some, None}
 use Rattle.sd_words.specs.declared.options.Options.{Options}
+use Rattle.sd_core.specs.declared.app.AppSource.{AppSource}
+use Rattle.sd_core.specs.declared.app.AppSource.TheVariants.{Stdin, Files}
 
 pub data Mode : Type 0 where
   -- the files below a root
   tree : List ℕ → Mode
-  -- the same, to be planned alone: not built yet
+  -- the same, whose plan is written and nothing is changed
   plan : List ℕ → Mode
+  -- the files of the plan that a file holds
+  apply : List ℕ → Mode
   -- a tree in memory, made from a number
   demo : ℕ → Mode
   -- standard input
@@ -28,20 +32,28 @@ abbrev pub words_mode : Bool → List (List ℕ) → Mode
 words_mode previews [] = stream
 words_mode previews (word ∷ words) = files_mode previews
 
--- a root comes before a demo, and that before the words
-abbrev pub mode_by : Option (List ℕ) → Option ℕ → Bool → List (List ℕ) → Mode
-mode_by (Some root) number previews words = tree_mode previews root
-mode_by None (Some n) previews words = demo n
-mode_by None None previews words = words_mode previews words
+-- a root comes before a plan's file, that before a demo, and that before the words
+abbrev pub mode_by : Option (List ℕ) → Option (List ℕ) → Option ℕ → Bool → List (List ℕ) → Mode
+mode_by (Some root) path number previews words = tree_mode previews root
+mode_by None (Some path) number previews words = apply path
+mode_by None None (Some n) previews words = demo n
+mode_by None None None previews words = words_mode previews words
 
 abbrev pub mode_of : Options → Mode
-mode_of options = mode_by options.root options.demo options.preview options.words
+mode_of options = mode_by options.root options.apply options.demo options.preview options.words
 
--- a tree is to be planned alone
-abbrev pub IsPlan : Mode → Type 0
-IsPlan (plan root) = ⊤
-IsPlan (tree root) = ⊥
-IsPlan (demo n) = ⊥
-IsPlan stream = ⊥
-IsPlan files = ⊥
-IsPlan preview = ⊥
+-- ---- of an app
+
+abbrev pub app_mode : AppSource → Bool → Mode
+app_mode Stdin previews = stream
+app_mode (Files paths) previews = files_mode previews
+
+-- the paths of its files
+abbrev pub app_words : AppSource → List (List ℕ)
+app_words Stdin = []
+app_words (Files paths) = paths
+
+-- it works on what these words name
+pub record IsSourceOf (words : List (List ℕ)) (source : AppSource) : Type 0 where
+  pub words_are : app_words source ≡ words
+  pub mode_is : (previews : Bool) → app_mode source previews ≡ words_mode previews words

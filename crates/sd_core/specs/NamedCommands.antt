@@ -1,5 +1,6 @@
 -- What a command on named files promises, and a preview of them.
-use Rattle.std.specs.Prelude.{◌≡◌, ◌⊎◌, ℕ, IsTrue, List}
+use Rattle.std.specs.Prelude.{◌≡◌, ◌⊎◌, ℕ, IsTrue, List, ⊤}
+use Rattle.sd_io.specs.Tree.{Tree}
 use Rattle.sd_io.specs.Disk.{DiskState, SameTree, SameLists}
 use Rattle.sd_io.specs.Streams.{SinkState}
 use Rattle.sd_io.specs.declared.fault.DiskFault.TheVariants as disk
@@ -14,7 +15,7 @@ use Rattle.many_files.specs.declared.fault.FilesFault.TheVariants as files
 use Rattle.named_files.specs.Clear.{IsFirstUnshown, IsPreviewClear}
 use Rattle.named_files.specs.Preview.{DoesPreview, PreviewFails}
 use Rattle.named_files.specs.declared.fault.PreviewFault.TheVariants as preview
-use Rattle.sd_core.specs.TreeCommand.{IsDoneOrForMemory}
+use Rattle.sd_core.specs.Sweep.{IsForMemory}
 use Rattle.sd_core.specs.declared.error.Error.{Error}
 use Rattle.sd_core.specs.declared.error.Error.TheVariants as error
 use Rattle.sd_core.specs.declared.ended.Why.{Why}
@@ -32,6 +33,12 @@ abbrev pub FilesEnd : Change → List (List ℕ) → Course DiskState → Why �
 FilesEnd change paths d why.Done = (report : Report) × DoesFiles change paths report d
 FilesEnd change paths d (why.Fault failed) = FilesFail change paths d failed
 FilesEnd change paths d _ = ⊥
+
+-- it is done, or want of memory is the one reason why not
+abbrev pub IsDoneOrForMemory : Tree → Why → Type 0
+IsDoneOrForMemory tree why.Done = ⊤
+IsDoneOrForMemory tree (why.Fault failed) = IsForMemory tree failed
+IsDoneOrForMemory tree _ = ⊥
 
 -- What a command on named files promises at each of its ends.
 pub record FilesCommand (change : Change) (paths : List (List ℕ)) (d : Course DiskState) (ended : Why) : Type 0 where

@@ -7,8 +7,8 @@ use Rattle.sd_words.specs.declared.fault.OptionsFault.{OptionsFault}
 use Rattle.sd_words.specs.declared.fault.OptionsFault.TheVariants as words_fault
 use Rattle.sd_replace.specs.Replacement.{Replacement, Changes}
 use Rattle.sd_core.specs.Asked.{IsReplacerOf, RefusesReplacer}
-use Rattle.sd_core.specs.Mode as mode
 use Rattle.sd_core.specs.Mode.{Mode, mode_of}
+use Rattle.sd_core.specs.Outside.{Outside, Untouched}
 use Rattle.sd_core.specs.declared.error.Error.{Error}
 use Rattle.sd_core.specs.declared.error.Error.TheVariants as error
 use Rattle.sd_core.specs.declared.ended.Why.{Why}
@@ -22,7 +22,6 @@ status_of why.Done = 0
 status_of why.Usage = 2
 status_of (why.Fault failed) = 1
 status_of why.Print = 1
-status_of why.NotYet = 1
 
 -- why a run ends whose words ask for nothing
 abbrev pub of_words : OptionsFault → Why
@@ -44,41 +43,13 @@ abbrev pub IsRefusedFirst : Options → Why → Type 0
 IsRefusedFirst options ended = (ended ≡ why.Fault error.NoMemory) ⊎ ((failed : Error) × (ended ≡ why.Fault failed) × RefusesReplacer options failed)
 
 -- A command begins: there is its replacement, and this is promised of what that does to bytes. Or it is refused before that, with nothing touched.
-abbrev pub Begins : Options → Type 0 → Why → (Change → Type 0) → Type 0
-Begins options untouched ended promise =
-    (untouched × IsRefusedFirst options ended) ⊎ ((replacement : Replacement) × IsReplacerOf options replacement × promise (Changes replacement))
+abbrev pub Begins : Options → Outside → Why → (Change → Type 0) → Type 0
+Begins options o ended promise =
+    (Untouched o × IsRefusedFirst options ended) ⊎ ((replacement : Replacement) × IsReplacerOf options replacement × promise (Changes replacement))
 
--- ---- what is called at all
-
+-- a command was refused
 abbrev pub IsFault : Why → Type 0
 IsFault ended = (failed : Error) × (ended ≡ why.Fault failed)
-
--- the disk isn't called: for a tree command only at an invalid glob
-abbrev pub CallsNoDisk : Mode → Why → Type 0
-CallsNoDisk (mode.tree root) ended = (place : ℕ) × (ended ≡ why.Fault (error.BadGlob place))
-CallsNoDisk (mode.plan root) ended = ⊤
-CallsNoDisk (mode.demo n) ended = ⊤
-CallsNoDisk mode.stream ended = ⊤
-CallsNoDisk mode.files ended = ⊥
-CallsNoDisk mode.preview ended = ⊥
-
--- the input isn't read
-abbrev pub ReadsNoInput : Mode → Type 0
-ReadsNoInput (mode.tree root) = ⊤
-ReadsNoInput (mode.plan root) = ⊤
-ReadsNoInput (mode.demo n) = ⊤
-ReadsNoInput mode.stream = ⊥
-ReadsNoInput mode.files = ⊤
-ReadsNoInput mode.preview = ⊤
-
--- the output isn't written to
-abbrev pub WritesNoOutput : Mode → Why → Type 0
-WritesNoOutput (mode.tree root) ended = IsFault ended
-WritesNoOutput (mode.plan root) ended = ⊤
-WritesNoOutput (mode.demo n) ended = IsFault ended
-WritesNoOutput mode.stream ended = ⊥
-WritesNoOutput mode.files ended = ⊤
-WritesNoOutput mode.preview ended = ⊥
 
 -- ---- an answer as an end
 

@@ -1,21 +1,25 @@
 //! The replacing of standard input and of named files.
 
-ghost use Rattle.std.specs.Prelude.{◌≡◌, ◌≤◌, ℕ, List, true, false, IfOk};
+ghost use Rattle.std.specs.Prelude.{◌≡◌, IfOk};
 ghost use Rattle.sd_course.specs.Course.{course};
 ghost use Rattle.sd_replace.specs.Replacement.{Changes};
 ghost use Rattle.sd_replace.specs.Replacer.{replacement_of};
-ghost use Rattle.sd_core.specs.Run.{end_of};
+ghost use Rattle.sd_core.specs.Command.{Command};
 ghost use Rattle.sd_core.specs.InputCommand.{InputCommand};
+ghost use Rattle.sd_core.specs.Mode.{app_mode, app_words};
 ghost use Rattle.sd_core.specs.NamedCommands.{FilesCommand, PreviewCommand};
+ghost use Rattle.sd_core.specs.Outside.{outside};
+ghost use Rattle.sd_core.specs.Run.{end_of};
 
 use crate::Result;
+use crate::error::{of_files, of_preview, of_stream};
 use many_files::rewrite_each;
 use named_files::preview_named;
 use sd_base::{NoMemory, Text, Words};
+use sd_change::Replaces;
 use sd_io::{Disk, Sink, Source};
 use sd_replace::Replacer;
 use std::alloc::Global;
-use stream_rewrite::replace_stream;
 
 /// What an [`App`] works on.
 #[derive(Drop)]
@@ -59,19 +63,12 @@ impl App {
         input: &mut S,
         out: &mut O,
     ) -> Result<()>
-        ensures standard_input { self.now.source ≡ AppSource.Stdin → InputCommand (Changes (replacement_of self.now.replacer))
-            (course S.tells (S.state input.old) (S.state input.new)) (course O.tells (O.state out.old) (O.state out.new)) (end_of result) }
-        ensures files { (paths : List (List ℕ)) → self.now.source ≡ AppSource.Files paths → preview ≡ false
-            → FilesCommand (Changes (replacement_of self.now.replacer)) paths (course D.tells (D.state disk.old) (D.state disk.new)) (end_of result) }
-        ensures preview { (paths : List (List ℕ)) → self.now.source ≡ AppSource.Files paths → preview ≡ true
-            → PreviewCommand (Changes (replacement_of self.now.replacer)) paths (course D.tells (D.state disk.old) (D.state disk.new))
-            (course O.tells (O.state out.old) (O.state out.new)) (end_of result) }
-        ensures disk_kept { self.now.source ≡ AppSource.Stdin → disk.new ≡ disk.old }
-        ensures input_kept { (paths : List (List ℕ)) → self.now.source ≡ AppSource.Files paths → input.new ≡ input.old }
-        ensures out_kept { (paths : List (List ℕ)) → self.now.source ≡ AppSource.Files paths → preview ≡ false → out.new ≡ out.old }
+        ensures { Command (app_mode self.now.source preview) (Changes (replacement_of self.now.replacer)) (app_words self.now.source)
+            (outside (disk.new ≡ disk.old) (input.new ≡ input.old) (out.new ≡ out.old) (course D.tells (D.state disk.old) (D.state disk.new))
+            (course S.tells (S.state input.old) (S.state input.new)) (course O.tells (O.state out.old) (O.state out.new))) (end_of result) }
     {
         match &self.source {
-            AppSource::Stdin => replace_input(alloc, input, out, &self.replacer),
+            AppSource::Stdin => replace_stream(alloc, input, out, &self.replacer, INPUT_CAP),
             AppSource::Files(words) if preview => preview_files(
                 alloc,
                 disk,
@@ -84,22 +81,26 @@ impl App {
     }
 }
 
-/// Replaces standard input.
-pub(crate) fn replace_input<S: Source, O: Sink>(
+/// Reads what is left in a source, which may be `cap` bytes at most, and then writes what it becomes to a sink.
+///
+/// Refuses `File` with a counted fault: of the source, before anything is written, or of the sink, after a prefix of the new
+/// bytes; `InputTooLong` where more than the cap were left, and for want of memory, both before anything is written.
+pub fn replace_stream<S: Source, O: Sink, R: Replaces>(
     alloc: Global,
     input: &mut S,
     out: &mut O,
-    replacer: &Replacer,
+    replacer: &R,
+    cap: u64,
 ) -> Result<()>
-    ensures { InputCommand (Changes (replacement_of replacer.now))
+    ensures { InputCommand (R.change replacer.now) cap
         (course S.tells (S.state input.old) (S.state input.new)) (course O.tells (O.state out.old) (O.state out.new)) (end_of result) }
 {
-    replace_stream(alloc, input, out, replacer, INPUT_CAP)?;
+    stream_rewrite::replace_stream(alloc, input, out, replacer, cap).map_err(of_stream)?;
     Ok(())
 }
 
 /// Rewrites each named file.
-pub(crate) fn rewrite_files<D: Disk>(
+fn rewrite_files<D: Disk>(
     alloc: Global,
     disk: &mut D,
     words: &Words,
@@ -108,12 +109,14 @@ pub(crate) fn rewrite_files<D: Disk>(
     ensures { FilesCommand (Changes (replacement_of replacer.now)) words.now (course D.tells (D.state disk.old) (D.state disk.new)) (end_of result) }
 {
     let paths = copies(alloc, words)?;
-    rewrite_each(alloc, disk, paths, replacer)?;
-    Ok(())
+    match rewrite_each(alloc, disk, paths, replacer) {
+        Ok(_) => Ok(()),
+        Err(fault) => Err(of_files(fault)),
+    }
 }
 
 /// Writes what each named file would become.
-pub(crate) fn preview_files<D: Disk, O: Sink>(
+fn preview_files<D: Disk, O: Sink>(
     alloc: Global,
     disk: &mut D,
     out: &mut O,
@@ -124,8 +127,10 @@ pub(crate) fn preview_files<D: Disk, O: Sink>(
         (course O.tells (O.state out.old) (O.state out.new)) (end_of result) }
 {
     let paths = copies(alloc, words)?;
-    preview_named(alloc, disk, out, paths, replacer)?;
-    Ok(())
+    match preview_named(alloc, disk, out, paths, replacer) {
+        Ok(()) => Ok(()),
+        Err(fault) => Err(of_preview(fault)),
+    }
 }
 
 /// Copies of the words. Refuses for want of memory alone.

@@ -1,8 +1,7 @@
 //! A tree command on the tree of a demo.
 
-ghost use Rattle.std.specs.Prelude.{◌≡◌, ◌≤◌, ◌⊎◌, ℕ, All, IfOk, IfErr, Err};
-ghost use Rattle.chosen_files.specs.Globs.{IsValid, IsFirstInvalid};
-ghost use Rattle.sd_core.specs.Demo.{CountsDemo, DemoFails, DemoWantsMemory};
+ghost use Rattle.std.specs.Prelude.{◌≤◌};
+ghost use Rattle.sd_core.specs.Demo.{SweepsDemo};
 
 use crate::{Error, Report, Result, sweep};
 use demo_tree::{FaultlessDisk, demo_disk};
@@ -17,11 +16,7 @@ use std::alloc::Global;
 /// `FailedProcessing` with the files that it kept from being rewritten.
 pub fn sweep_demo<R: Replaces>(alloc: Global, n: u64, globs: &Globs, replacer: &R) -> Result<Report>
     requires { n ≤ 100000 }
-    ensures counted { IfOk result (CountsDemo (R.change replacer.now) n globs.now) }
-    ensures fails { IfErr result (DemoFails n globs.now) }
-    ensures bad_glob { (place : ℕ) → IsFirstInvalid globs.now place
-        → (result ≡ Err (Error.BadGlob place)) ⊎ (result ≡ Err Error.NoMemory) }
-    ensures complete { All IsValid globs.now → IfErr result (DemoWantsMemory n) }
+    ensures { SweepsDemo (R.change replacer.now) n globs.now result }
 {
     let Ok(disk) = demo_disk(alloc, n) else {
         return Err(Error::NoMemory);

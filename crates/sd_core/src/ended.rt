@@ -25,8 +25,6 @@ pub enum Why {
     Fault(Error),
     /// All was done, and the report could not be written.
     Print,
-    /// The words are of a form that isn't built yet.
-    NotYet,
 }
 
 impl Why {
@@ -37,7 +35,7 @@ impl Why {
         match self {
             Why::Done => 0,
             Why::Usage => 2,
-            Why::Fault(_) | Why::Print | Why::NotYet => 1,
+            Why::Fault(_) | Why::Print => 1,
         }
     }
 }

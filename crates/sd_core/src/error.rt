@@ -1,14 +1,16 @@
 //! Why a command fails.
 
 ghost use Rattle.std.specs.Prelude.{◌≡◌};
-ghost use Rattle.sd_core.specs.Errors.{of_replacer, of_globs, of_choice, of_files, of_stream, of_preview};
+ghost use Rattle.sd_core.specs.Errors as form;
 ghost use Rattle.sd_core.specs.declared.error.Error.TheVariants as error;
 
 use chosen_files::{ChoiceFault, GlobsError};
 use many_files::{FailedJobs, FilesFault};
 use named_files::PreviewFault;
+use planned_files::ApplyFault;
 use sd_base::{NoMemory, Text};
 use sd_io::DiskFault;
+use sd_plan::{Digest, PlanFault};
 use sd_replace::{InvalidReplaceCapture, ReplacerFault};
 use std::fmt;
 use stream_rewrite::StreamFault;
@@ -47,6 +49,29 @@ pub enum Error {
     /// More than 2^40 bytes were left in the input.
     #[error("input too long")]
     InputTooLong,
+    /// The file at this path of a plan isn't what it was when the plan was made. Nothing was written.
+    #[error("{} has changed since the plan: planned {planned}, found {found}", .path.as_str())]
+    Stale {
+        /// The path.
+        path: Text,
+        /// The digest that the plan has of its bytes.
+        planned: Digest,
+        /// The digest of its bytes.
+        found: Digest,
+    },
+    /// The file at this path of a plan would become something else than was planned. Nothing was written.
+    #[error("{} would not become what was planned: planned {planned}, found {found}", .path.as_str())]
+    Differs {
+        /// The path.
+        path: Text,
+        /// The digest that the plan has of its new bytes.
+        planned: Digest,
+        /// The digest of its new bytes.
+        found: Digest,
+    },
+    /// The text of a file is the text of no plan.
+    #[error("not a plan")]
+    NotAPlan,
     /// There is no memory left.
     #[error("out of memory")]
     NoMemory,
@@ -70,73 +95,116 @@ impl From<NoMemory> for Error {
     }
 }
 
-impl From<ReplacerFault> for Error {
-    ghost from_gives = { λ fault made. made ≡ of_replacer fault };
-
-    fn from(fault: ReplacerFault) -> Error {
-        match fault {
-            ReplacerFault::InvalidReplaceCapture(capture) => Error::InvalidReplaceCapture(capture),
-            ReplacerFault::Regex(refused) => Error::Regex(refused),
-            ReplacerFault::NoMemory => Error::NoMemory,
-        }
+/// The fault of a replacer that isn't made.
+pub(crate) fn of_replacer(fault: ReplacerFault) -> Error
+    ensures { result ≡ form.of_replacer fault }
+{
+    match fault {
+        ReplacerFault::InvalidReplaceCapture(capture) => Error::InvalidReplaceCapture(capture),
+        ReplacerFault::Regex(refused) => Error::Regex(refused),
+        ReplacerFault::NoMemory => Error::NoMemory,
     }
 }
 
-impl From<GlobsError> for Error {
-    ghost from_gives = { λ fault made. made ≡ of_globs fault };
-
-    fn from(fault: GlobsError) -> Error {
-        match fault {
-            GlobsError::Invalid(place) => Error::BadGlob(place),
-            GlobsError::NoMemory => Error::NoMemory,
-        }
+/// The fault of globs that aren't read.
+pub(crate) fn of_globs(fault: GlobsError) -> Error
+    ensures { result ≡ form.of_globs fault }
+{
+    match fault {
+        GlobsError::Invalid(place) => Error::BadGlob(place),
+        GlobsError::NoMemory => Error::NoMemory,
     }
 }
 
-impl From<ChoiceFault> for Error {
-    ghost from_gives = { λ fault made. made ≡ of_choice fault };
-
-    fn from(fault: ChoiceFault) -> Error {
-        match fault {
-            ChoiceFault::RootMissing => Error::RootMissing,
-            ChoiceFault::Walk(failed) => Error::Walk(failed),
-            ChoiceFault::TooMany => Error::TooMany,
-            ChoiceFault::NoMemory => Error::NoMemory,
-        }
+/// The fault of a choice of files.
+pub(crate) fn of_choice(fault: ChoiceFault) -> Error
+    ensures { result ≡ form.of_choice fault }
+{
+    match fault {
+        ChoiceFault::RootMissing => Error::RootMissing,
+        ChoiceFault::Walk(failed) => Error::Walk(failed),
+        ChoiceFault::TooMany => Error::TooMany,
+        ChoiceFault::NoMemory => Error::NoMemory,
     }
 }
 
-impl From<FilesFault> for Error {
-    ghost from_gives = { λ fault made. made ≡ of_files fault };
-
-    fn from(fault: FilesFault) -> Error {
-        match fault {
-            FilesFault::Failed(jobs) => Error::FailedProcessing(jobs),
-            FilesFault::NoMemory => Error::NoMemory,
-        }
+/// The fault of files that are rewritten.
+pub(crate) fn of_files(fault: FilesFault) -> Error
+    ensures { result ≡ form.of_files fault }
+{
+    match fault {
+        FilesFault::Failed(jobs) => Error::FailedProcessing(jobs),
+        FilesFault::NoMemory => Error::NoMemory,
     }
 }
 
-impl From<StreamFault> for Error {
-    ghost from_gives = { λ fault made. made ≡ of_stream fault };
-
-    fn from(fault: StreamFault) -> Error {
-        match fault {
-            StreamFault::Failed => Error::File(DiskFault::Failed),
-            StreamFault::InputTooLong => Error::InputTooLong,
-            StreamFault::NoMemory => Error::NoMemory,
-        }
+/// The fault of a stream.
+pub(crate) fn of_stream(fault: StreamFault) -> Error
+    ensures { result ≡ form.of_stream fault }
+{
+    match fault {
+        StreamFault::Failed => Error::File(DiskFault::Failed),
+        StreamFault::InputTooLong => Error::InputTooLong,
+        StreamFault::NoMemory => Error::NoMemory,
     }
 }
 
-impl From<PreviewFault> for Error {
-    ghost from_gives = { λ fault made. made ≡ of_preview fault };
+/// The fault of a preview.
+pub(crate) fn of_preview(fault: PreviewFault) -> Error
+    ensures { result ≡ form.of_preview fault }
+{
+    match fault {
+        PreviewFault::File(fault) => Error::File(fault),
+        PreviewFault::InvalidPath(path) => Error::InvalidPath(path),
+        PreviewFault::NoMemory => Error::NoMemory,
+    }
+}
 
-    fn from(fault: PreviewFault) -> Error {
-        match fault {
-            PreviewFault::File(fault) => Error::File(fault),
-            PreviewFault::InvalidPath(path) => Error::InvalidPath(path),
-            PreviewFault::NoMemory => Error::NoMemory,
-        }
+/// The fault of a file that isn't read.
+pub(crate) fn of_disk(fault: DiskFault) -> Error
+    ensures { result ≡ form.of_disk fault }
+{
+    match fault {
+        DiskFault::NoMemory => Error::NoMemory,
+        fault => Error::File(fault),
+    }
+}
+
+/// The fault of a text that is no plan.
+pub(crate) fn of_plan(fault: PlanFault) -> Error
+    ensures { result ≡ form.of_plan fault }
+{
+    match fault {
+        PlanFault::NotAPlan => Error::NotAPlan,
+        PlanFault::NoMemory => Error::NoMemory,
+    }
+}
+
+/// The fault of a plan that is applied.
+pub(crate) fn of_apply(fault: ApplyFault) -> Error
+    ensures { result ≡ form.of_apply fault }
+{
+    match fault {
+        ApplyFault::File(fault) => Error::File(fault),
+        ApplyFault::Stale {
+            path,
+            planned,
+            found,
+        } => Error::Stale {
+            path,
+            planned,
+            found,
+        },
+        ApplyFault::Differs {
+            path,
+            planned,
+            found,
+        } => Error::Differs {
+            path,
+            planned,
+            found,
+        },
+        ApplyFault::Failed(jobs) => Error::FailedProcessing(jobs),
+        ApplyFault::NoMemory => Error::NoMemory,
     }
 }

@@ -7,6 +7,7 @@
 #![tactic(auto)]
 
 mod app;
+mod applying;
 mod asking;
 mod commands;
 mod demo;
@@ -14,19 +15,26 @@ mod ended;
 mod error;
 mod examples;
 mod laws;
+mod planning;
 mod printing;
+mod selecting;
 mod sweeping;
 mod top;
 
-pub use app::{App, AppSource};
+pub use app::{App, AppSource, replace_stream};
+pub use applying::apply_plan;
 pub use demo::sweep_demo;
 pub use ended::{Ended, Why};
 pub use error::{Error, Result};
 pub use examples::{sweeps_fail_as_in_the_examples, trees_are_rewritten_as_in_the_examples};
 pub use file_rewrite::{JobFault, Rewrite, replace_file};
-pub use laws::{a_crash_leaves_chosen_files_old_or_new, a_crash_leaves_rewritten_files_new};
+pub use laws::{
+    a_crash_leaves_chosen_files_old_or_new, a_crash_leaves_rewritten_files_new,
+    a_plan_ends_with_the_report, a_plan_of_a_tree_leads_apart,
+};
 pub use many_files::{FailedJobs, Report};
+pub use planning::plan;
+pub use sd_plan::{Digest, Plan, PlanFault, PlanLine, read_plan, write_plan};
 pub use sd_words::{Options, OptionsFault};
-pub use stream_rewrite::{StreamFault, replace_stream};
 pub use sweeping::{sweep, sweep_capped};
 pub use top::run;

@@ -1,23 +1,20 @@
 //! A tree command on a disk.
 
-ghost use Rattle.std.specs.Prelude.{◌≡◌, ◌<◌, ◌⊎◌, ℕ, List, All, Err};
+ghost use Rattle.std.specs.Prelude.{◌≡◌, ◌<◌};
 ghost use Rattle.sd_course.specs.Course.{course};
-ghost use Rattle.file_rewrite.specs.Paths.{IsNoPath};
-ghost use Rattle.chosen_files.specs.Globs.{IsFirstInvalid};
-ghost use Rattle.chosen_files.specs.Chosen.{IsPathBelow};
-ghost use Rattle.sd_core.specs.Sweep.{Sweeps, sweep_cap, may_name_file};
+ghost use Rattle.sd_core.specs.Selection.{by_globs};
+ghost use Rattle.sd_core.specs.Sweep.{Sweeps, sweep_cap};
 
-use crate::{Error, Report, Result};
-use chosen_files::{choose_capped, read_globs};
-use file_rewrite::is_no_path;
+use crate::error::of_files;
+use crate::selecting::select;
+use crate::{Report, Result};
 use many_files::rewrite_each;
-use sd_base::Text;
 use sd_change::Replaces;
 use sd_io::{Disk, Globs};
 use std::alloc::Global;
 
 /// As many entries below a root as this, or more, are too many for [`sweep`].
-const SWEEP_CAP: u64 = 1 << 32;
+pub(crate) const SWEEP_CAP: u64 = 1 << 32;
 
 /// Rewrites each chosen file below a root, where fewer than `cap` entries lie there: each regular nonempty file whose path from
 /// the root fits a glob, in the order of names. The tree is listed whole before the first write. A file that fails is a job,
@@ -41,15 +38,10 @@ pub fn sweep_capped<D: Disk, R: Replaces>(
     cap: u64,
 ) -> Result<Report>
     requires { 0 < cap }
-    ensures sweeps { Sweeps (R.change replacer.now) root.now globs.now cap result (course D.tells (D.state disk.old) (D.state disk.new)) }
-    ensures bad_glob { (place : ℕ) → IsFirstInvalid globs.now place
-        → (disk.new ≡ disk.old) × ((result ≡ Err (Error.BadGlob place)) ⊎ (result ≡ Err Error.NoMemory)) }
+    ensures { Sweeps (R.change replacer.now) (by_globs root.now globs.now) cap (disk.new ≡ disk.old) result (course D.tells (D.state disk.old) (D.state disk.new)) }
 {
-    let globs = read_globs(alloc, globs)?;
-    let choice = choose_capped(alloc, disk, root, &globs, cap)?;
-    let paths = keep_named(choice.paths);
-    let report = rewrite_each(alloc, disk, paths, replacer)?;
-    Ok(report)
+    let paths = select(alloc, disk, root, globs, cap)?;
+    rewrite_each(alloc, disk, paths, replacer).map_err(of_files)
 }
 
 /// [`sweep_capped`] for trees with fewer than 2^32 entries below the root.
@@ -60,26 +52,7 @@ pub fn sweep<D: Disk, R: Replaces>(
     globs: &Globs,
     replacer: &R,
 ) -> Result<Report>
-    ensures sweeps { Sweeps (R.change replacer.now) root.now globs.now sweep_cap result (course D.tells (D.state disk.old) (D.state disk.new)) }
-    ensures bad_glob { (place : ℕ) → IsFirstInvalid globs.now place
-        → (disk.new ≡ disk.old) × ((result ≡ Err (Error.BadGlob place)) ⊎ (result ≡ Err Error.NoMemory)) }
+    ensures { Sweeps (R.change replacer.now) (by_globs root.now globs.now) sweep_cap (disk.new ≡ disk.old) result (course D.tells (D.state disk.old) (D.state disk.new)) }
 {
     sweep_capped(alloc, disk, root, globs, replacer, SWEEP_CAP)
-}
-
-/// The paths that name a file. On a disk that tells its tree all paths of chosen files do.
-fn keep_named(mut paths: Vec<Text>) -> Vec<Text>
-    ensures named { All (λ path. IsNoPath path → ⊥) result.items }
-    ensures all { All (λ path. IsNoPath path → ⊥) paths.items → result.items ≡ paths.items }
-    ensures below { (root : List ℕ) → All (IsPathBelow root) paths.items → All (IsPathBelow root) result.items }
-{
-    paths.retain(|path| names_file(path.as_str()));
-    paths
-}
-
-/// Whether a path isn't empty, nor nothing but `/`.
-fn names_file(path: &str) -> bool
-    ensures { result ≡ may_name_file path.now }
-{
-    !is_no_path(path)
 }

@@ -1,24 +1,24 @@
 //! The program, from its words to its status.
 
-ghost use Rattle.std.specs.Prelude.{◌≡◌, ◌≤◌, ℕ, List, true, false, IsTrue, None, Some};
+ghost use Rattle.std.specs.Prelude.{◌≡◌, ◌≤◌, ℕ, List, IsTrue, None, Some};
 ghost use Rattle.sd_course.specs.Course.{course};
 ghost use Rattle.sd_words.specs.Order.{order_of};
 ghost use Rattle.sd_words.specs.declared.options.Options.{Options};
 ghost use Rattle.sd_replace.specs.Replacement.{Replacement, Changes};
 ghost use Rattle.sd_replace.specs.Replacer.{replacement_of};
 ghost use Rattle.sd_core.specs.Asked.{IsReplacerOf};
+ghost use Rattle.sd_core.specs.Command.{CarriesOut, Command};
 ghost use Rattle.sd_core.specs.Mode as mode;
-ghost use Rattle.sd_core.specs.Mode.{IsPlan, mode_of};
-ghost use Rattle.sd_core.specs.CarryingOut.{CarriesOut};
+ghost use Rattle.sd_core.specs.Mode.{mode_of};
+ghost use Rattle.sd_core.specs.Outside.{outside};
 ghost use Rattle.sd_core.specs.Run as form;
-ghost use Rattle.sd_core.specs.Run.{Asks, CallsNoDisk, IsOrMemory, ReadsNoInput, WritesNoOutput};
-ghost use Rattle.sd_core.specs.TreeCommand.{DoesTreeCommand, TreeCommand};
-ghost use Rattle.sd_core.specs.DemoCommand.{DemoCommand};
-ghost use Rattle.sd_core.specs.InputCommand.{InputCommand};
-ghost use Rattle.sd_core.specs.NamedCommands.{FilesCommand, PreviewCommand};
+ghost use Rattle.sd_core.specs.Run.{Asks, IsOrMemory};
+ghost use Rattle.sd_core.specs.Selection.{by_globs};
+ghost use Rattle.sd_core.specs.TreeCommand.{DoesTreeCommand};
 
 use crate::asking::replacer_of;
-use crate::commands::{demo_command, tree_command, words_command};
+use crate::commands::{apply_command, demo_command, plan_command, tree_command, words_command};
+use crate::error::of_replacer;
 use crate::printing::print_error;
 use crate::{Ended, Error, Why};
 use sd_base::Words;
@@ -47,13 +47,13 @@ pub fn run<D: Disk, S: Source, O: Sink, E: Sink>(
 ) -> Ended
     ensures headline { IsTrue D.tells → (order : Options) (root : List ℕ) → Asks words.now order (mode.tree root) → result.status ≡ 0
         → (replacement : Replacement) × IsReplacerOf order replacement
-        × DoesTreeCommand (Changes replacement) root order.words (D.state disk.old) (D.state disk.new) (course O.tells (O.state out.old) (O.state out.new)) }
+        × DoesTreeCommand (Changes replacement) (by_globs root order.words) (D.state disk.old) (D.state disk.new) (course O.tells (O.state out.old) (O.state out.new)) }
     ensures status { result.status ≡ form.status_of result.why }
     ensures usage { result.why ≡ Why.Usage → order_of words.now ≡ None }
     ensures no_order { order_of words.now ≡ None → IsOrMemory Why.Usage result.why × (disk.new ≡ disk.old) × (input.new ≡ input.old) × (out.new ≡ out.old) }
-    ensures carries { (order : Options) → order_of words.now ≡ Some order → CarriesOut order (disk.new ≡ disk.old) (input.new ≡ input.old) (out.new ≡ out.old)
+    ensures carries { (order : Options) → order_of words.now ≡ Some order → CarriesOut order (outside (disk.new ≡ disk.old) (input.new ≡ input.old) (out.new ≡ out.old)
         (course D.tells (D.state disk.old) (D.state disk.new)) (course S.tells (S.state input.old) (S.state input.new))
-        (course O.tells (O.state out.old) (O.state out.new)) result.why }
+        (course O.tells (O.state out.old) (O.state out.new))) result.why }
     ensures err_kept { result.why ≡ Why.Done → err.new ≡ err.old }
 {
     match Options::read(alloc, words) {
@@ -103,7 +103,6 @@ fn print_why<E: Sink>(err: &mut E, why: &Why)
         Why::Usage => print_error(err, &"not a valid command line"),
         Why::Fault(error) => print_error(err, error),
         Why::Print => print_error(err, &"the report could not be written"),
-        Why::NotYet => print_error(err, &"not built yet"),
     }
 }
 
@@ -116,70 +115,58 @@ fn carry_out<D: Disk, S: Source, O: Sink>(
     out: &mut O,
 ) -> Why
     requires few { (n : ℕ) → options.now.demo ≡ Some n → n ≤ 100000 }
-    ensures { CarriesOut options.now (disk.new ≡ disk.old) (input.new ≡ input.old) (out.new ≡ out.old) (course D.tells (D.state disk.old) (D.state disk.new))
-        (course S.tells (S.state input.old) (S.state input.new)) (course O.tells (O.state out.old) (O.state out.new)) result }
+    ensures { CarriesOut options.now (outside (disk.new ≡ disk.old) (input.new ≡ input.old) (out.new ≡ out.old)
+        (course D.tells (D.state disk.old) (D.state disk.new)) (course S.tells (S.state input.old) (S.state input.new))
+        (course O.tells (O.state out.old) (O.state out.new))) result }
 {
-    if is_plan(options) {
-        return Why::NotYet;
-    }
     match replacer_of(alloc, options) {
-        Err(fault) => Why::Fault(Error::from(fault)),
+        Err(fault) => Why::Fault(of_replacer(fault)),
         Ok(replacer) => {
             an_asked_replacement_is_readable();
-            let why = begin(alloc, options, &replacer, disk, input, out);
-            drop(replacer);
-            why
+            begin(alloc, options, replacer, disk, input, out)
         }
     }
 }
 
-/// Whether a plan of a tree is asked for, which isn't built yet.
-fn is_plan(options: &Options) -> bool
-    ensures plan { result ≡ true → IsPlan (mode_of options.now) }
-    ensures no_plan { result ≡ false → IsPlan (mode_of options.now) → ⊥ }
-{
-    match &options.root {
-        Some(_) => options.preview,
-        None => false,
-    }
-}
-
-/// Begins the command of the options' mode, which is no plan.
+/// Begins the command of the options' mode.
 fn begin<D: Disk, S: Source, O: Sink>(
     alloc: Global,
     options: &Options,
-    replacer: &Replacer,
+    replacer: Replacer,
     disk: &mut D,
     input: &mut S,
     out: &mut O,
 ) -> Why
-    requires no_plan { IsPlan (mode_of options.now) → ⊥ }
     requires few { (n : ℕ) → options.now.demo ≡ Some n → n ≤ 100000 }
-    ensures tree { (root : List ℕ) → mode_of options.now ≡ mode.tree root → TreeCommand (Changes (replacement_of replacer.now)) root options.now.words
-        (course D.tells (D.state disk.old) (D.state disk.new)) (course O.tells (O.state out.old) (O.state out.new)) result }
-    ensures demo { (n : ℕ) → mode_of options.now ≡ mode.demo n
-        → DemoCommand (Changes (replacement_of replacer.now)) n options.now.words (course O.tells (O.state out.old) (O.state out.new)) result }
-    ensures standard_input { mode_of options.now ≡ mode.stream → InputCommand (Changes (replacement_of replacer.now))
-        (course S.tells (S.state input.old) (S.state input.new)) (course O.tells (O.state out.old) (O.state out.new)) result }
-    ensures files { mode_of options.now ≡ mode.files
-        → FilesCommand (Changes (replacement_of replacer.now)) options.now.words (course D.tells (D.state disk.old) (D.state disk.new)) result }
-    ensures preview { mode_of options.now ≡ mode.preview → PreviewCommand (Changes (replacement_of replacer.now)) options.now.words
-        (course D.tells (D.state disk.old) (D.state disk.new)) (course O.tells (O.state out.old) (O.state out.new)) result }
-    ensures disk_kept { CallsNoDisk (mode_of options.now) result → disk.new ≡ disk.old }
-    ensures input_kept { ReadsNoInput (mode_of options.now) → input.new ≡ input.old }
-    ensures out_kept { WritesNoOutput (mode_of options.now) result → out.new ≡ out.old }
+    ensures { Command (mode_of options.now) (Changes (replacement_of replacer)) options.now.words (outside (disk.new ≡ disk.old) (input.new ≡ input.old) (out.new ≡ out.old)
+        (course D.tells (D.state disk.old) (D.state disk.new)) (course S.tells (S.state input.old) (S.state input.new))
+        (course O.tells (O.state out.old) (O.state out.new))) result }
 {
-    match (&options.root, options.demo) {
-        (Some(root), _) => tree_command(alloc, disk, out, root.as_str(), &options.words, replacer),
-        (None, Some(n)) => demo_command(alloc, out, n, &options.words, replacer),
-        (None, None) => words_command(
+    let words = &options.words;
+    let why = match (&options.root, &options.apply, options.demo) {
+        (Some(root), _, _) if options.preview => plan_command(
             alloc,
-            options.preview,
-            &options.words,
-            replacer,
             disk,
-            input,
             out,
+            root.as_str(),
+            words,
+            &replacer,
         ),
-    }
+        (Some(root), _, _) => tree_command(alloc, disk, out, root.as_str(), words, &replacer),
+        (None, Some(path), _) => apply_command(alloc, disk, out, path.as_str(), &replacer),
+        (None, None, Some(n)) => demo_command(alloc, out, n, words, &replacer),
+        (None, None, None) => {
+            return words_command(
+                alloc,
+                options.preview,
+                words,
+                replacer,
+                disk,
+                input,
+                out,
+            );
+        }
+    };
+    drop(replacer);
+    why
 }

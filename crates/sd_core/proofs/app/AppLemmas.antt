@@ -24,11 +24,11 @@ use Rattle.sd_core.specs.Sweep.{IsForMemory}
 use Rattle.sd_core.specs.declared.error.Error.TheVariants as error
 use Rattle.sd_core.specs.declared.ended.Why.TheVariants as why
 
-pub input_fails : (change : Change) (input : Course SourceState) (out : Course SinkState) (fault : StreamFault)
-    → StreamFails change (2 ^ 40) input out fault → InputFails change input out (of_stream fault)
-input_fails change input out stream.Failed h = h
-input_fails change input out stream.InputTooLong h = h
-input_fails change input out stream.NoMemory h = h
+pub input_fails : (change : Change) (cap : ℕ) (input : Course SourceState) (out : Course SinkState) (fault : StreamFault)
+    → StreamFails change cap input out fault → InputFails change cap input out (of_stream fault)
+input_fails change cap input out stream.Failed h = h
+input_fails change cap input out stream.InputTooLong h = h
+input_fails change cap input out stream.NoMemory h = h
 
 pub too_long : (input : Course SourceState) (fault : StreamFault) → IsTooLongFor input fault → IsTooLong input (why.Fault (of_stream fault))
 too_long input fault (inl e) = inl (ap (λ f. why.Fault (of_stream f)) e)

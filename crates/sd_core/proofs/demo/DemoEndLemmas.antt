@@ -23,7 +23,8 @@ use Rattle.chosen_files.proofs.PlaceLemmas.{In, in_from_contains, in_left, in_ri
 use Rattle.many_files.specs.Rewritten.{LeavesEach}
 use Rattle.many_files.specs.Jobs.{Job, failed_of, is_in_folder, WantMemory}
 use Rattle.many_files.specs.Turns.{path_of, fault_of}
-use Rattle.sd_core.specs.Sweep.{IsChosenBelow, RewritesTree, FailsTree, SweepFails, IsClear, IsForMemory}
+use Rattle.sd_core.specs.Selection.{IsChosenBelow, by_globs}
+use Rattle.sd_core.specs.Sweep.{RewritesTree, FailsTree, SweepFails, IsClear, IsForMemory}
 use Rattle.many_files.specs.declared.report.Report.{Report}
 use Rattle.sd_core.specs.declared.error.Error.{Error}
 use Rattle.sd_core.specs.declared.error.Error.TheVariants as error
@@ -32,7 +33,6 @@ use Rattle.demo_tree.specs.Demo.{demo_place, IsDemo}
 use Rattle.sd_core.specs.Demo.{CountsDemo, DemoWantsMemory, DemoFails}
 use Rattle.sd_core.proofs.demo.StandingLemmas.{demo_leads}
 use Rattle.sd_core.proofs.demo.BelowLemmas.{demo_is_small}
-use Rattle.sd_core.proofs.demo.RoomLemmas.{demo_has_room}
 
 -- ---- globs
 
@@ -64,17 +64,20 @@ in_failed (path ∷ paths) (Some fault ∷ ends) failed (inr i) = inr (in_failed
 
 module _ (change : Change) (n : ℕ) (globs : List (List ℕ)) (old new : DiskState) (demo : IsDemo n old.tree) (small : n ≤ 100000) where
   -- the report counts the chosen files
-  pub counts_demo : (report : Report) → RewritesTree change (path_text demo_place) globs report old new → CountsDemo change n globs report
-  counts_demo report r = record {
-    tree = old.tree;
-    is_demo = demo;
-    places = r.chosen.places;
-    chosen =
-        subst (λ (top : NameList). Chosen old.tree top globs r.chosen.places) (same_Some r.chosen.top demo_place (sym r.chosen.leads ∙ demo_leads n old.tree demo)) r.chosen.chosen;
-    counts = r.files.counts;
-  }
+  pub counts_demo : (report : Report) → RewritesTree change (by_globs (path_text demo_place) globs) report old new → CountsDemo change n globs report
+  counts_demo report r =
+      let (chosen, listed) = r.selected in
+      record {
+        tree = old.tree;
+        is_demo = demo;
+        places = r.places;
+        chosen =
+            subst (λ (places : List NameList). Chosen old.tree demo_place globs places) (sym listed)
+            (subst (λ (top : NameList). Chosen old.tree top globs chosen.places) (same_Some chosen.top demo_place (sym chosen.leads ∙ demo_leads n old.tree demo)) chosen.chosen);
+        counts = r.files.counts;
+      }
 
-  pub reports_demo : (result : Result Report Error) → IfOk result (λ report. RewritesTree change (path_text demo_place) globs report old new) → IfOk result (CountsDemo change n globs)
+  pub reports_demo : (result : Result Report Error) → IfOk result (λ report. RewritesTree change (by_globs (path_text demo_place) globs) report old new) → IfOk result (CountsDemo change n globs)
   reports_demo (Ok report) r = counts_demo report r
   reports_demo (Err fault) r = tt
 
@@ -84,13 +87,12 @@ module _ (change : Change) (n : ℕ) (globs : List (List ℕ)) (old new : DiskSt
     none_failed (inr last) = absurd (omega arith)
 
     -- nothing stands in its way but an invalid glob
-    pub is_clear : All IsValid globs → IsClear (path_text demo_place) globs (2 ^ 32) (course true old new)
+    pub is_clear : All IsValid globs → IsClear (by_globs (path_text demo_place) globs) (2 ^ 32) (course true old new)
     is_clear valid = record {
       told = refl;
       valid = valid;
       leads = ap is_some (demo_leads n old.tree demo);
       few = demo_is_small n old.tree small demo;
-      room = demo_has_room n old.tree (path_text demo_place) globs demo;
       no_fault = none_failed;
     }
 
@@ -117,20 +119,20 @@ module _ (change : Change) (n : ℕ) (globs : List (List ℕ)) (old new : DiskSt
         → reached new.tree path true ≡ reached old.tree path true
     same_lead path q f is led = still_leads keeps_ways path true q led (still_stands q f is) ∙ sym led
 
-    module _ (jobs : List Job) (fails : FailsTree change (path_text demo_place) globs jobs old new) where
+    module _ (jobs : List Job) (fails : FailsTree change (by_globs (path_text demo_place) globs) jobs old new) where
       -- the path of a job leads where it led
       job_leads : (failed : Job) → In failed jobs → reached new.tree failed.0 true ≡ reached old.tree failed.0 true
       job_leads failed i =
           let turns = fails.files.turns in
           let among : In failed.0 (map path_of turns) = in_failed (map path_of turns) (map fault_of turns) failed (subst (λ (js : List Job). In failed js) fails.files.jobs_are i) in
           let root = path_text demo_place in
-          let named : In failed.0 (map (path_from root) fails.chosen.names) =
-          subst (λ (paths : List (List ℕ)). In failed.0 paths) (fails.files.paths_are ∙ fails.chosen.paths_are) among in
-          let (below, there, is) = in_mapped (path_from root) fails.chosen.names failed.0 named in
-          let (some, (byte, bytes, mode, held)) = chosen_names old.tree demo.is_tree root globs fails.paths fails.chosen below there in
-          let led = file_leads old.tree demo.is_tree root fails.chosen.top below fails.chosen.leads some (byte, bytes, mode, held) in
+          let named : In failed.0 (map (path_from root) fails.selected.0.names) =
+          subst (λ (paths : List (List ℕ)). In failed.0 paths) (fails.files.paths_are ∙ fails.selected.0.paths_are) among in
+          let (below, there, is) = in_mapped (path_from root) fails.selected.0.names failed.0 named in
+          let (some, (byte, bytes, mode, held)) = chosen_names old.tree demo.is_tree root globs fails.paths fails.selected.0 below there in
+          let led = file_leads old.tree demo.is_tree root fails.selected.0.top below fails.selected.0.leads some (byte, bytes, mode, held) in
           subst (λ (path : List ℕ). reached new.tree path true ≡ reached old.tree path true) is
-          (same_lead (path_from root below) (fails.chosen.top ++ below) (byte ∷ bytes, mode) held led)
+          (same_lead (path_from root below) (fails.selected.0.top ++ below) (byte ∷ bytes, mode) held led)
 
       -- so they wanted memory by the tree before as by the tree after
       pub wanted_memory : WantMemory new.tree jobs → WantMemory old.tree jobs
@@ -164,7 +166,7 @@ module _ (change : Change) (n : ℕ) (globs : List (List ℕ)) (old new : DiskSt
 
     -- ---- why a demo is refused
 
-    pub for_memory : (fault : Error) → SweepFails change (path_text demo_place) globs (2 ^ 32) (course true old new) fault → IsForMemory new.tree fault → DemoWantsMemory n fault
+    pub for_memory : (fault : Error) → SweepFails change (by_globs (path_text demo_place) globs) (2 ^ 32) (course true old new) fault → IsForMemory new.tree fault → DemoWantsMemory n fault
     for_memory (error.FailedProcessing jobs) f want = (f.some, (old.tree, demo, wanted_memory jobs (f.files refl) want))
     for_memory error.NoMemory f want = tt
     for_memory (error.Regex refused) f want = want
@@ -176,8 +178,11 @@ module _ (change : Change) (n : ℕ) (globs : List (List ℕ)) (old new : DiskSt
     for_memory (error.Walk failed) f want = want
     for_memory error.TooMany f want = want
     for_memory error.InputTooLong f want = want
+    for_memory (error.Stale path planned found) f want = want
+    for_memory (error.Differs path planned found) f want = want
+    for_memory error.NotAPlan f want = want
 
-    pub refused_for_memory : (result : Result Report Error) → IfErr result (SweepFails change (path_text demo_place) globs (2 ^ 32) (course true old new)) → IfErr result (IsForMemory new.tree)
+    pub refused_for_memory : (result : Result Report Error) → IfErr result (SweepFails change (by_globs (path_text demo_place) globs) (2 ^ 32) (course true old new)) → IfErr result (IsForMemory new.tree)
         → IfErr result (DemoWantsMemory n)
     refused_for_memory (Ok report) f want = tt
     refused_for_memory (Err fault) f want = for_memory fault f want
@@ -194,6 +199,9 @@ as_refusal n globs error.RootMissing m = m
 as_refusal n globs (error.Walk failed) m = m
 as_refusal n globs error.TooMany m = m
 as_refusal n globs error.InputTooLong m = m
+as_refusal n globs (error.Stale path planned found) m = m
+as_refusal n globs (error.Differs path planned found) m = m
+as_refusal n globs error.NotAPlan m = m
 
 -- by its first invalid glob
 told_so : (n : ℕ) (globs : List (List ℕ)) (place : ℕ) (fault : Error) (result : Result Report Error) → IsFirstInvalid globs place → result ≡ Err fault

@@ -7,7 +7,7 @@ use Rattle.sd_io.specs.Outcomes.{same_place}
 use Rattle.sd_io.specs.Paths.{parent_of}
 use Rattle.file_exchange.specs.Reserved.{reserved_name, Free}
 use Rattle.many_files.specs.Files.{HasRoom}
-use Rattle.sd_core.specs.Sweep.{IsChosenBelow}
+use Rattle.sd_core.specs.Selection.{IsChosenBelow}
 use Rattle.demo_tree.specs.Demo.{demo_folder, demo_file, demo_files, file_or_folder, demo_content, IsDemo}
 use Rattle.demo_tree.proofs.ContentLemmas.{no_file_in, no_folder_in}
 use Rattle.demo_tree.proofs.BuildLemmas.{no_node}

@@ -12,7 +12,7 @@ use Rattle.sd_change.specs.Change.{Change, IsOne}
 use Rattle.file_rewrite.specs.Rewritten.{IsNewFile, IsChangedFile}
 use Rattle.many_files.specs.Files.{IsFreeBeside}
 use Rattle.many_files.specs.Rewritten.{IsNewOne, IsChangedOne}
-use Rattle.sd_core.specs.Sweep.{IsChosenBelow}
+use Rattle.sd_core.specs.Selection.{IsChosenBelow, by_globs}
 use Rattle.sd_core.specs.TreeCommand.{IsOldOrNewImage}
 use Rattle.sd_core.specs.Crash.{IsOnMedium}
 
@@ -34,7 +34,7 @@ module _ (change : Change) (root : List ℕ) (globs : List (List ℕ)) (old : Di
       let is_file = chosen.2.is_file in
       none-some _ (sym (ap file_node free.2.free) ∙ is_file.3)
 
-  pub chosen_old_or_new : IsOldOrNewImage change root globs old image → (place : NameList) → IsChosenBelow old.tree root globs place
+  pub chosen_old_or_new : IsOldOrNewImage change (by_globs root globs) old image → (place : NameList) → IsChosenBelow old.tree root globs place
       → (content_at image place ≡ content_at old.tree place)
       ⊎ ((content : Content) × (content_at image place ≡ Some content) × IsNewOne (IsChosenBelow old.tree root globs) change old.tree place content)
   chosen_old_or_new holds place chosen = elim (holds place) [
@@ -43,7 +43,7 @@ module _ (change : Change) (root : List ℕ) (globs : List (List ℕ)) (old : Di
     | inr (inr free) ↦ absurd (not_free place chosen free)
   ]
 
-  pub others_old : IsOldOrNewImage change root globs old image → (place : NameList) → (IsChosenBelow old.tree root globs place → ⊥)
+  pub others_old : IsOldOrNewImage change (by_globs root globs) old image → (place : NameList) → (IsChosenBelow old.tree root globs place → ⊥)
       → (IsFreeBeside (IsChosenBelow old.tree root globs) old.tree place → ⊥) → content_at image place ≡ content_at old.tree place
   others_old holds place not_chosen not_beside = elim (holds place) [
     | inl stood ↦ medium place (content_at image place) stood

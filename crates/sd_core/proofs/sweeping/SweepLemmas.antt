@@ -1,89 +1,45 @@
 -- A sweep, of its choice and the rewriting of what was chosen.
-use Rattle.std.proofs.Common.{◌≡◌, ◌⊎◌, ℕ, zero, suc, ◌≤◌, Bool, true, List, [], ◌∷◌, refl, sym, ◌∙◌, ap, subst, inl, inr, arith}
-use Rattle.std.specs.Prelude.{Option, Some, None, IsSome, IsTrue, Contains, All, Result, Ok, Err, IsErrAnd, IfErr, sum_by}
-use Rattle.std.proofs.lemmas.Option.{same_Some}
-use Rattle.std.proofs.lemmas.List.Elements.{All-weaker, All-contains, All-head, All-tail}
-use Rattle.sd_io.specs.Tree.{NameList, Content, Tree, node_at, file_at}
-use Rattle.sd_io.specs.Paths.{reached, parent_of}
+use Rattle.std.proofs.Common.{◌≡◌, ℕ, ◌≤◌, Bool, List, ◌∷◌, refl, sym, ◌∙◌, ap, subst, inl, inr, arith}
+use Rattle.std.specs.Prelude.{Option, Some, None, IsTrue, Contains, All, Result, Ok, Err, IfErr, IsErrAnd, MatchResult, sum_by}
+use Rattle.std.proofs.lemmas.List.Elements.{All-weaker, All-contains}
+use Rattle.sd_io.specs.Tree.{NameList, Content, Tree, IsTree, node_at, file_at}
+use Rattle.sd_io.specs.Paths.{parent_of}
 use Rattle.sd_io.specs.Files.{file_of}
 use Rattle.sd_io.specs.Disk.{DiskState, SameTree}
 use Rattle.sd_io.specs.Crashes.{LeavesSince, IsDurable}
 use Rattle.sd_io.specs.declared.fault.DiskFault.TheVariants as disk
 use Rattle.sd_io.proofs.CrashLemmas.{since_same, since_then, since_more}
 use Rattle.sd_change.specs.Change.{Change}
-use Rattle.sd_course.specs.Course.{course, HasRisenBy, DiskFailed}
+use Rattle.sd_course.specs.Course.{Course, course, HasRisenBy}
 use Rattle.file_exchange.specs.Reserved.{Free}
 use Rattle.file_exchange.proofs.CauseLemmas.{risen_since}
+use Rattle.file_rewrite.specs.Paths.{IsNoPath}
 use Rattle.file_rewrite.specs.Rewritten.{IsNew, IsOld, IsLeft, IsNewFile, IsChangedFile}
 use Rattle.file_rewrite.specs.declared.fault.JobFault.{JobFault}
 use Rattle.file_rewrite.specs.declared.fault.JobFault.TheVariants as job
-use Rattle.chosen_files.specs.Chosen.{IsChosen, IsPathBelow, ListsChosen}
-use Rattle.chosen_files.specs.Globs.{IsValid, IsFirstInvalid}
-use Rattle.chosen_files.specs.Below.{HasFewerBelow}
-use Rattle.chosen_files.specs.Choice.{KeepsLists, ChoiceFails}
-use Rattle.chosen_files.specs.declared.fault.ChoiceFault.{ChoiceFault}
-use Rattle.chosen_files.specs.declared.fault.ChoiceFault.TheVariants as choice_fault
-use Rattle.chosen_files.specs.declared.globs.GlobsError.{GlobsError}
-use Rattle.chosen_files.specs.declared.globs.GlobsError.TheVariants as globs_error
+use Rattle.chosen_files.specs.Chosen.{IsPathBelow}
+use Rattle.chosen_files.specs.Globs.{IsFirstInvalid}
+use Rattle.chosen_files.specs.Choice.{KeepsLists}
 use Rattle.many_files.specs.Files.{ListsFiles, IsFreeBeside, HasRoom}
 use Rattle.many_files.specs.Rewritten.{KeepsNode, IsRewritten, LeavesEach, IsNewOne, IsChangedOne}
 use Rattle.many_files.specs.Counts.{Counts, RewritesFiles}
 use Rattle.many_files.specs.Jobs.{Job, faults_needed, HasJobCause, IsCrowdedOut, HaveCauses}
 use Rattle.many_files.specs.Turns.{Turn, faults_of_turn, EndsSo, IsTurn, FailsFiles}
-use Rattle.many_files.specs.InTurn.{FailsSome, FilesFail}
+use Rattle.many_files.specs.InTurn.{FilesFail}
+use Rattle.many_files.specs.InTurn.{FailsSome as FilesFailSome}
 use Rattle.many_files.specs.Clear.{AreFilesClear}
 use Rattle.many_files.specs.Ends.{FailsListed, RewritesListed, IsForMemory as FilesForMemory}
-use Rattle.sd_core.specs.Sweep.{IsChosenBelow, RewritesTree, FailsSomeBelow, SweepFails, IsClear, IsForMemory, Sweeps}
-use Rattle.sd_core.specs.Errors.{of_globs, of_choice, of_files}
 use Rattle.many_files.specs.declared.report.Report.{Report}
 use Rattle.many_files.specs.declared.fault.FilesFault.{FilesFault}
 use Rattle.many_files.specs.declared.fault.FilesFault.TheVariants as files_fault
-use Rattle.sd_core.specs.declared.error.Error.{Error}
-use Rattle.sd_core.specs.declared.error.Error.TheVariants as error
-use Rattle.file_rewrite.specs.Paths.{IsNoPath}
-use Rattle.sd_io.specs.Tree.{IsTree}
 use Rattle.many_files.proofs.TurnLemmas.{left_before}
 use Rattle.many_files.proofs.ListedLemmas.{listed_clear, by_paths, jobs_name_files}
-use Rattle.sd_core.proofs.sweeping.NamedLemmas.{lists_files, all_named}
-
--- ---- faults of steps
-
--- what holds of the fault that is told on
-pub told_on : {T E : Type 0} (P : E → Type 0) (r : Result T E) (e : E) → IsErrAnd r (λ x. x ≡ e) → P e → IfErr r P
-told_on P (Ok x) e is p = tt
-told_on P (Err x) e is p = subst P (sym is) p
-
-pub is_told : {T E : Type 0} (r : Result T E) (e : E) → IsErrAnd r (λ x. x ≡ e) → r ≡ Err e
-is_told (Ok x) e is = absurd is
-is_told (Err x) e is = ap Err is
-
--- there is at most one first invalid glob, and none where all are valid
-pub one_first : (globs : List (List ℕ)) (p q : ℕ) → IsFirstInvalid globs p → IsFirstInvalid globs q → p ≡ q
-one_first [] p q at _ = absurd at
-one_first (glob ∷ globs) zero zero at to = refl
-one_first (glob ∷ globs) zero (suc q) at to = absurd (at to.0)
-one_first (glob ∷ globs) (suc p) zero at to = absurd (to at.0)
-one_first (glob ∷ globs) (suc p) (suc q) at to = ap suc (one_first globs p q at.1 to.1)
-
-pub none_first : (globs : List (List ℕ)) (p : ℕ) → All IsValid globs → IsFirstInvalid globs p → ⊥
-none_first [] p all at = at
-none_first (glob ∷ globs) zero all at = at (All-head IsValid glob globs all)
-none_first (glob ∷ globs) (suc p) all at = none_first globs p (All-tail IsValid glob globs all) at.1
-
-module _ (globs : List (List ℕ)) (why : GlobsError) (first : (place : ℕ) → why ≡ globs_error.Invalid place → IsFirstInvalid globs place) where
-  pub globs_told : (place : ℕ) → IsFirstInvalid globs place → (of_globs why ≡ error.BadGlob place) ⊎ (of_globs why ≡ error.NoMemory)
-  globs_told place at = by why refl
-    where
-      by : (e : GlobsError) → why ≡ e → (of_globs e ≡ error.BadGlob place) ⊎ (of_globs e ≡ error.NoMemory)
-      by (globs_error.Invalid p) e = inl (ap error.BadGlob (one_first globs p place (first p e) at))
-      by globs_error.NoMemory e = inr refl
-
-  pub globs_for_memory : (tree : Tree) → All IsValid globs → IsForMemory tree (of_globs why)
-  globs_for_memory tree valid = by why refl
-    where
-      by : (e : GlobsError) → why ≡ e → IsForMemory tree (of_globs e)
-      by (globs_error.Invalid p) e = absurd (none_first globs p valid (first p e))
-      by globs_error.NoMemory e = tt
+use Rattle.sd_core.specs.Selection.{Selection, ListsSelected}
+use Rattle.sd_core.specs.Sweep.{RewritesTree, FailsSome, SelectingFails, SweepFails, IsClear, HasRoomForAll, IsErrOrMemory, IsForMemory, Sweeps}
+use Rattle.sd_core.specs.Errors.{of_files}
+use Rattle.sd_core.specs.declared.error.Error.{Error}
+use Rattle.sd_core.specs.declared.error.Error.TheVariants as error
+use Rattle.sd_core.proofs.selecting.SelectionLemmas.{IsSelection}
 
 -- ---- from the start on
 
@@ -172,125 +128,111 @@ module _ (change : Change) (s0 s1 s2 : DiskState) (same : SameTree s0 s1) where
       crowded = λ told earlier later path e. crowded_from earlier path (h.crowded told earlier later path e);
     }
 
-  -- ---- the chosen files
+  -- ---- the selected files
 
-  module _ (root : List ℕ) (globs paths : List (List ℕ)) (chosen : ListsChosen s0.tree root globs paths) where
-    chosen_by : (q : NameList) → Contains chosen.places q → IsChosenBelow s0.tree root globs q
-    chosen_by q c = (chosen.top, chosen.leads, (chosen.chosen.these q).0 c)
+  module _ (selection : Selection) (law : IsSelection selection) (paths : List (List ℕ)) (places : List NameList) (selected : selection.Lists s0.tree paths places) where
+    is_one : (q : NameList) → Contains places q → selection.IsOne s0.tree q
+    is_one q = (law.these s0.tree paths places selected q).0
 
-    is_listed : (q : NameList) → IsChosenBelow s0.tree root globs q → Contains chosen.places q
-    is_listed q (top, leads, is) =
-        let one : top ≡ chosen.top = same_Some top chosen.top (sym leads ∙ chosen.leads) in
-        (chosen.chosen.these q).1 (subst (λ (t : NameList). IsChosen s0.tree t globs q) one is)
+    is_listed : (q : NameList) → selection.IsOne s0.tree q → Contains places q
+    is_listed q = (law.these s0.tree paths places selected q).1
 
-    free_from : (q : NameList) → IsFreeBeside (Contains chosen.places) s1.tree q → IsFreeBeside (IsChosenBelow s0.tree root globs) s0.tree q
-    free_from q (place, c, free) = (place, chosen_by place c, subst (λ (t : Tree). Free t (parent_of place) q) same.tree free)
+    free_from : (q : NameList) → IsFreeBeside (Contains places) s1.tree q → IsFreeBeside (selection.IsOne s0.tree) s0.tree q
+    free_from q (place, c, free) = (place, is_one place c, subst (λ (t : Tree). Free t (parent_of place) q) same.tree free)
 
-    new_from : (q : NameList) (content : Content) → IsNewOne (Contains chosen.places) change s1.tree q content → IsNewOne (IsChosenBelow s0.tree root globs) change s0.tree q content
-    new_from q content n = (chosen_by q n.0, subst (λ (t : Tree). IsNewFile change t q content) same.tree n.1)
+    new_from : (q : NameList) (content : Content) → IsNewOne (Contains places) change s1.tree q content → IsNewOne (selection.IsOne s0.tree) change s0.tree q content
+    new_from q content n = (is_one q n.0, subst (λ (t : Tree). IsNewFile change t q content) same.tree n.1)
 
-    changed_from : (q : NameList) (content : Content) → IsChangedOne (Contains chosen.places) change s1.tree q content → IsChangedOne (IsChosenBelow s0.tree root globs) change s0.tree q content
-    changed_from q content n = (chosen_by q n.0, subst (λ (t : Tree). IsChangedFile change t q content) same.tree n.1)
+    changed_from : (q : NameList) (content : Content) → IsChangedOne (Contains places) change s1.tree q content → IsChangedOne (selection.IsOne s0.tree) change s0.tree q content
+    changed_from q content n = (is_one q n.0, subst (λ (t : Tree). IsChangedFile change t q content) same.tree n.1)
 
-    changed_to : (q : NameList) (content : Content) → IsChangedOne (IsChosenBelow s0.tree root globs) change s0.tree q content → IsChangedOne (Contains chosen.places) change s1.tree q content
+    changed_to : (q : NameList) (content : Content) → IsChangedOne (selection.IsOne s0.tree) change s0.tree q content → IsChangedOne (Contains places) change s1.tree q content
     changed_to q content n = (is_listed q n.0, subst (λ (t : Tree). IsChangedFile change t q content) (sym same.tree) n.1)
 
-    pub rewrites_tree : (report : Report) → RewritesFiles change chosen.places report s1 s2 → RewritesTree change root globs report s0 s2
-    rewrites_tree report r = record { paths = paths; chosen = chosen; files = files_from chosen.places report r }
+    pub rewrites_tree : (report : Report) → RewritesFiles change places report s1 s2 → RewritesTree change selection report s0 s2
+    rewrites_tree report r = record { paths = paths; places = places; selected = selected; files = files_from places report r }
 
-    pub left_from : LeavesEach (Contains chosen.places) change s1.tree s2.tree → LeavesEach (IsChosenBelow s0.tree root globs) change s0.tree s2.tree
+    pub left_from : LeavesEach (Contains places) change s1.tree s2.tree → LeavesEach (selection.IsOne s0.tree) change s0.tree s2.tree
     left_from l q = elim (l q) [
       | inl old ↦ inl (subst (λ (t : Tree). IsOld t s2.tree q) same.tree old)
-      | inr (inl (c, new)) ↦ inr (inl (chosen_by q c, subst (λ (t : Tree). IsNew change t s2.tree q) same.tree new))
+      | inr (inl (c, new)) ↦ inr (inl (is_one q c, subst (λ (t : Tree). IsNew change t s2.tree q) same.tree new))
       | inr (inr free) ↦ inr (inr (free_from q free))
     ]
 
-    pub crash_from : LeavesSince (IsNewOne (Contains chosen.places) change s1.tree) (IsFreeBeside (Contains chosen.places) s1.tree) s1 s2
-        → LeavesSince (IsNewOne (IsChosenBelow s0.tree root globs) change s0.tree) (IsFreeBeside (IsChosenBelow s0.tree root globs) s0.tree) s0 s2
+    pub crash_from : LeavesSince (IsNewOne (Contains places) change s1.tree) (IsFreeBeside (Contains places) s1.tree) s1 s2
+        → LeavesSince (IsNewOne (selection.IsOne s0.tree) change s0.tree) (IsFreeBeside (selection.IsOne s0.tree) s0.tree) s0 s2
     crash_from l =
-        since_then _ _ s0 s1 s2 (since_same (IsNewOne (IsChosenBelow s0.tree root globs) change s0.tree) (IsFreeBeside (IsChosenBelow s0.tree root globs) s0.tree) s0 s1 same)
+        since_then _ _ s0 s1 s2 (since_same (IsNewOne (selection.IsOne s0.tree) change s0.tree) (IsFreeBeside (selection.IsOne s0.tree) s0.tree) s0 s1 same)
         (since_more _ _ _ _ s1 s2 new_from free_from l)
 
-    pub durable_from : IsDurable (IsChangedOne (Contains chosen.places) change s1.tree) s1 s2 → IsDurable (IsChangedOne (IsChosenBelow s0.tree root globs) change s0.tree) s0 s2
+    pub durable_from : IsDurable (IsChangedOne (Contains places) change s1.tree) s1 s2 → IsDurable (IsChangedOne (selection.IsOne s0.tree) change s0.tree) s0 s2
     durable_from d = record {
       there = λ q content n found l. d.there q content (changed_to q content n) found l;
       elsewhere = λ q none found l. left_before s0 s1 same q found (d.elsewhere q (λ content n. none content (changed_from q content n)) found l);
     }
 
-    pub room_for : HasRoom (IsChosenBelow s0.tree root globs) s0.tree → HasRoom (Contains chosen.places) s1.tree
-    room_for room place c = let (q, free) = room place (chosen_by place c) in (q, subst (λ (t : Tree). Free t (parent_of place) q) (sym same.tree) free)
-
--- ---- the paths that are handed on
-
-pub chosen_kept : (tree : Tree) (is : IsTree tree) (root : List ℕ) (globs read paths kept : List (List ℕ)) → read ≡ globs → ListsChosen tree root read paths
-    → (All (λ path. IsNoPath path → ⊥) paths → kept ≡ paths) → ListsChosen tree root globs kept
-chosen_kept tree is root globs read paths kept same listed keeps =
-    let one = subst (λ (list : List (List ℕ)). ListsChosen tree root list paths) same listed in
-    subst (ListsChosen tree root globs) (sym (keeps (all_named tree is root globs paths one))) one
-
-pub listed_at : (s0 s1 : DiskState) → SameTree s0 s1 → IsTree s0.tree → (root : List ℕ) (globs paths : List (List ℕ)) (chosen : ListsChosen s0.tree root globs paths) → ListsFiles s1.tree paths chosen.places
-listed_at s0 s1 same is root globs paths chosen = subst (λ (t : Tree). ListsFiles t paths chosen.places) (sym same.tree) (lists_files s0.tree is root globs paths chosen)
+    pub room_for : HasRoomForAll selection s0.tree → HasRoom (Contains places) s1.tree
+    room_for room place c = let (q, free) = room place (is_one place c) in (q, subst (λ (t : Tree). Free t (parent_of place) q) (sym same.tree) free)
 
 -- ---- refused before anything is written
 
-pub refused_early : (change : Change) (s0 s1 : DiskState) (root : List ℕ) (globs : List (List ℕ)) (cap : ℕ) (tells : Bool) (failed : Error) → SameTree s0 s1 → KeepsLists 10 s0 s1 → s0.faults ≤ s1.faults
-    → SweepFails change root globs cap (course tells s0 s1) failed → (IsClear root globs cap (course tells s0 s1) → IsForMemory s1.tree failed) → Sweeps change root globs cap (Err failed) (course tells s0 s1)
-refused_early change s0 s1 root globs cap tells failed same lists low fails complete = record {
+-- a refusal before the first write, whatever it is
+early : (change : Change) (selection : Selection) (cap : ℕ) (d : Course DiskState) (failed : Error) → SameTree d.old d.new → SelectingFails selection cap d failed
+    → SweepFails change selection cap d failed
+early change selection cap d (error.BadGlob place) same f = (same, f)
+early change selection cap d error.RootMissing same f = (same, f)
+early change selection cap d (error.Walk failed) same f = (same, f)
+early change selection cap d error.TooMany same f = (same, f)
+early change selection cap d error.NoMemory same f = (same, f)
+early change selection cap d (error.Regex refused) same f = absurd f
+early change selection cap d (error.File fault) same f = absurd f
+early change selection cap d (error.InvalidPath path) same f = absurd f
+early change selection cap d (error.FailedProcessing jobs) same f = absurd f
+early change selection cap d (error.InvalidReplaceCapture capture) same f = absurd f
+early change selection cap d error.InputTooLong same f = absurd f
+early change selection cap d (error.Stale path planned found) same f = absurd f
+early change selection cap d (error.Differs path planned found) same f = absurd f
+early change selection cap d error.NotAPlan same f = absurd f
+
+pub refused_early : (change : Change) (selection : Selection) (cap : ℕ) (same_disk : Type 0) (tells : Bool) (s0 s1 : DiskState) (failed : Error)
+    → SelectingFails selection cap (course tells s0 s1) failed → ((place : ℕ) → IsFirstInvalid selection.globs place → same_disk × IsErrOrMemory {A = Report} (error.BadGlob place) (Err failed))
+    → SameTree s0 s1 → KeepsLists 10 s0 s1 → s0.faults ≤ s1.faults → (IsClear selection cap (course tells s0 s1) → failed ≡ error.NoMemory)
+    → Sweeps change selection cap same_disk (Err failed) (course tells s0 s1)
+refused_early change selection cap same_disk tells s0 s1 failed fails bad same lists low complete = record {
   rewritten = λ told. tt;
   few = λ told. tt;
-  fails = fails;
+  fails = early change selection cap (course tells s0 s1) failed same fails;
+  bad_glob = bad;
   however = λ told q. inl (ap (λ (t : Tree). node_at t q) same.tree);
-  crash = λ told. since_same (IsNewOne (IsChosenBelow s0.tree root globs) change s0.tree) (IsFreeBeside (IsChosenBelow s0.tree root globs) s0.tree) s0 s1 same;
+  crash = λ told. since_same (IsNewOne (selection.IsOne s0.tree) change s0.tree) (IsFreeBeside (selection.IsOne s0.tree) s0.tree) s0 s1 same;
   durable = λ told. tt;
   lists = lists;
   never_falls = low;
-  complete = complete;
+  complete = λ clear room. subst (IsForMemory s1.tree) (sym (complete clear)) tt;
 }
 
--- nothing changed
-stays : (s : DiskState) → SameTree s s
-stays s = record { tree = refl; clock = refl; outcomes = refl }
-
--- by the globs
-pub globs_refused : (change : Change) (s : DiskState) (root : List ℕ) (globs : List (List ℕ)) (cap : ℕ) (tells : Bool) (why : GlobsError)
-    → ((place : ℕ) → why ≡ globs_error.Invalid place → IsFirstInvalid globs place) → KeepsLists 10 s s → Sweeps change root globs cap (Err (of_globs why)) (course tells s s)
-globs_refused change s root globs cap tells why first lists =
-    refused_early change s s root globs cap tells (of_globs why) (stays s) lists (omega arith) (by why refl) (λ clear. globs_for_memory globs why first s.tree clear.valid)
-  where
-    by : (e : GlobsError) → why ≡ e → SweepFails change root globs cap (course tells s s) (of_globs e)
-    by (globs_error.Invalid p) e = (first p e, refl)
-    by globs_error.NoMemory e = stays s
-
--- by the choice
-pub choice_refused : (change : Change) (s0 s1 : DiskState) (root : List ℕ) (globs : List (List ℕ)) (cap : ℕ) (tells : Bool) (why : ChoiceFault) → SameTree s0 s1 → KeepsLists 10 s0 s1 → s0.faults ≤ s1.faults
-    → ChoiceFails root cap (course tells s0 s1) why
-    → (IsTrue tells → IsSome (reached s0.tree root true) → HasFewerBelow cap s0.tree root → (DiskFailed (course tells s0 s1) → ⊥) → why ≡ choice_fault.NoMemory)
-    → Sweeps change root globs cap (Err (of_choice why)) (course tells s0 s1)
-choice_refused change s0 s1 root globs cap tells why same lists low fails complete =
-    refused_early change s0 s1 root globs cap tells (of_choice why) same lists low (by why fails)
-    (λ clear. subst (λ (w : ChoiceFault). IsForMemory s1.tree (of_choice w)) (sym (complete clear.told clear.leads clear.few clear.no_fault)) tt)
-  where
-    by : (w : ChoiceFault) → ChoiceFails root cap (course tells s0 s1) w → SweepFails change root globs cap (course tells s0 s1) (of_choice w)
-    by choice_fault.RootMissing f = (same, f)
-    by (choice_fault.Walk failed) f = (same, f)
-    by choice_fault.TooMany f = (same, f)
-    by choice_fault.NoMemory f = same
-
--- ---- the chosen files were rewritten, or some failed
+-- ---- the selected files were rewritten, or some failed
 
 -- how a sweep answers what the rewriting answers
 abbrev pub answered : Result Report FilesFault → Result Report Error
 answered (Ok report) = Ok report
 answered (Err fault) = Err (of_files fault)
 
-module _ (change : Change) (s0 s1 s2 : DiskState) (same : SameTree s0 s1) (root : List ℕ) (globs paths : List (List ℕ)) (cap : ℕ) (tells : Bool) (low : s0.faults ≤ s1.faults)
-    (is_tree : IsTrue tells → IsTree s0.tree) (chosen : IsTrue tells → ListsChosen s0.tree root globs paths) (few : IsTrue tells → HasFewerBelow cap s0.tree root)
-    (below : All (IsPathBelow root) paths) (named : All (λ path. IsNoPath path → ⊥) paths) where
-  at_now : (told : IsTrue tells) → ListsFiles s1.tree paths (chosen told).places
-  at_now told = listed_at s0 s1 same (is_tree told) root globs paths (chosen told)
+pub answered_is : (r : Result Report FilesFault) (made : Result Report Error) → MatchResult r (λ x. made ≡ Ok x) (λ fault. IsErrAnd made (λ e. e ≡ of_files fault)) → made ≡ answered r
+answered_is (Ok report) made is = is
+answered_is (Err fault) (Ok report) is = absurd is
+answered_is (Err fault) (Err e) is = ap Err is
 
-  failed_below : (jobs : List Job) → FailsSome change paths (course tells s1 s2) jobs → ((told : IsTrue tells) → FailsFiles change paths (chosen told).places jobs s1 s2)
-      → FailsSomeBelow change root globs cap (course tells s0 s2) jobs
+module _ (change : Change) (selection : Selection) (law : IsSelection selection) (s0 s1 s2 : DiskState) (same : SameTree s0 s1) (paths : List (List ℕ)) (cap : ℕ) (tells : Bool)
+    (low : s0.faults ≤ s1.faults) (is_tree : IsTrue tells → IsTree s0.tree) (selected : IsTrue tells → ListsSelected selection s0.tree paths)
+    (few : IsTrue tells → selection.HasFewer cap s0.tree) (below : All (IsPathBelow selection.root) paths) (named : All (λ path. IsNoPath path → ⊥) paths)
+    (same_disk : Type 0) (valid : (place : ℕ) → IsFirstInvalid selection.globs place → ⊥) where
+  at_now : (told : IsTrue tells) → ListsFiles s1.tree paths (selected told).0
+  at_now told =
+      subst (λ (t : Tree). ListsFiles t paths (selected told).0) (sym same.tree) (law.files s0.tree (is_tree told) paths (selected told).0 (selected told).1)
+
+  failed_below : (jobs : List Job) → FilesFailSome change paths (course tells s1 s2) jobs → ((told : IsTrue tells) → FailsFiles change paths (selected told).0 jobs s1 s2)
+      → FailsSome change selection cap (course tells s0 s2) jobs
   failed_below jobs f files =
       let of = by_paths change paths (course tells s1 s2) jobs f in
       record {
@@ -298,52 +240,56 @@ module _ (change : Change) (s0 s1 s2 : DiskState) (same : SameTree s0 s1) (root 
         few = few;
         files = λ told. record {
           paths = paths;
-          chosen = chosen told;
-          files = fails_from change s0 s1 s2 same paths (chosen told).places jobs low (files told);
+          places = (selected told).0;
+          selected = (selected told).1;
+          files = fails_from change s0 s1 s2 same paths (selected told).0 jobs low (files told);
         };
         causes = causes_from change s0 s1 s2 same tells low jobs f.causes;
         name_files = jobs_name_files paths named (course tells s1 s2) jobs f.causes.causes of;
         below_root =
-            All-weaker (λ (failed : Job). Contains paths failed.0) (λ (failed : Job). IsPathBelow root failed.0)
-            (λ failed there. All-contains (IsPathBelow root) paths failed.0 below there) jobs of;
+            All-weaker (λ (failed : Job). Contains paths failed.0) (λ (failed : Job). IsPathBelow selection.root failed.0)
+            (λ failed there. All-contains (IsPathBelow selection.root) paths failed.0 below there) jobs of;
       }
 
-  files_fail : (why : FilesFault) → FilesFail change paths (course tells s1 s2) why → ((told : IsTrue tells) → FailsListed change paths (chosen told).places s1 s2 why)
-      → SweepFails change root globs cap (course tells s0 s2) (of_files why)
+  files_fail : (why : FilesFault) → FilesFail change paths (course tells s1 s2) why → ((told : IsTrue tells) → FailsListed change paths (selected told).0 s1 s2 why)
+      → SweepFails change selection cap (course tells s0 s2) (of_files why)
   files_fail (files_fault.Failed jobs) f files = failed_below jobs f files
-  files_fail files_fault.NoMemory f files = subst (SameTree s0) (sym f) same
+  files_fail files_fault.NoMemory f files = (subst (SameTree s0) (sym f) same, tt)
 
   for_memory : (why : FilesFault) → FilesForMemory s2.tree why → IsForMemory s2.tree (of_files why)
   for_memory (files_fault.Failed jobs) f = f
   for_memory files_fault.NoMemory f = tt
 
-  are_clear : s1.faults ≤ s2.faults → IsClear root globs cap (course tells s0 s2) → AreFilesClear paths (course tells s1 s2)
-  are_clear lower clear =
-      listed_clear tells s1 s2 paths (chosen clear.told).places (subst IsTree (sym same.tree) (is_tree clear.told)) (at_now clear.told)
-      (room_for change s0 s1 s2 same root globs paths (chosen clear.told) clear.room) (λ rose. clear.no_fault (risen_since s0.faults s1.faults s2.faults low rose))
+  are_clear : s1.faults ≤ s2.faults → IsClear selection cap (course tells s0 s2) → HasRoomForAll selection s0.tree → AreFilesClear paths (course tells s1 s2)
+  are_clear lower clear room =
+      listed_clear tells s1 s2 paths (selected clear.told).0 (subst IsTree (sym same.tree) (is_tree clear.told)) (at_now clear.told)
+      (room_for change s0 s1 s2 same selection law paths (selected clear.told).0 (selected clear.told).1 room)
+      (λ rose. clear.no_fault (risen_since s0.faults s1.faults s2.faults low rose))
 
   pub sweeps_end : (r : Result Report FilesFault) → KeepsLists 10 s0 s2 → s1.faults ≤ s2.faults → IfErr r (FilesFail change paths (course tells s1 s2))
       → (IsTrue tells → (places : List NameList) → ListsFiles s1.tree paths places → RewritesListed change paths places r s1 s2)
-      → (AreFilesClear paths (course tells s1 s2) → IfErr r (FilesForMemory s2.tree)) → Sweeps change root globs cap (answered r) (course tells s0 s2)
+      → (AreFilesClear paths (course tells s1 s2) → IfErr r (FilesForMemory s2.tree)) → Sweeps change selection cap same_disk (answered r) (course tells s0 s2)
   sweeps_end (Ok report) lists lower fails listed complete = record {
-    rewritten = λ told. rewrites_tree change s0 s1 s2 same root globs paths (chosen told) report (listed told (chosen told).places (at_now told)).rewritten;
+    rewritten = λ told. rewrites_tree change s0 s1 s2 same selection law paths (selected told).0 (selected told).1 report (listed told (selected told).0 (at_now told)).rewritten;
     few = few;
     fails = tt;
-    however = λ told. left_from change s0 s1 s2 same root globs paths (chosen told) (listed told (chosen told).places (at_now told)).however;
-    crash = λ told. crash_from change s0 s1 s2 same root globs paths (chosen told) (listed told (chosen told).places (at_now told)).crash;
-    durable = λ told. durable_from change s0 s1 s2 same root globs paths (chosen told) (listed told (chosen told).places (at_now told)).durable;
+    bad_glob = λ place at. absurd (valid place at);
+    however = λ told. left_from change s0 s1 s2 same selection law paths (selected told).0 (selected told).1 (listed told (selected told).0 (at_now told)).however;
+    crash = λ told. crash_from change s0 s1 s2 same selection law paths (selected told).0 (selected told).1 (listed told (selected told).0 (at_now told)).crash;
+    durable = λ told. durable_from change s0 s1 s2 same selection law paths (selected told).0 (selected told).1 (listed told (selected told).0 (at_now told)).durable;
     lists = lists;
     never_falls = omega (arith, low, lower);
-    complete = λ clear. tt;
+    complete = λ clear room. tt;
   }
   sweeps_end (Err fault) lists lower fails listed complete = record {
     rewritten = λ told. tt;
     few = λ told. tt;
-    fails = files_fail fault fails (λ told. (listed told (chosen told).places (at_now told)).failed);
-    however = λ told. left_from change s0 s1 s2 same root globs paths (chosen told) (listed told (chosen told).places (at_now told)).however;
-    crash = λ told. crash_from change s0 s1 s2 same root globs paths (chosen told) (listed told (chosen told).places (at_now told)).crash;
+    fails = files_fail fault fails (λ told. (listed told (selected told).0 (at_now told)).failed);
+    bad_glob = λ place at. absurd (valid place at);
+    however = λ told. left_from change s0 s1 s2 same selection law paths (selected told).0 (selected told).1 (listed told (selected told).0 (at_now told)).however;
+    crash = λ told. crash_from change s0 s1 s2 same selection law paths (selected told).0 (selected told).1 (listed told (selected told).0 (at_now told)).crash;
     durable = λ told. tt;
     lists = lists;
     never_falls = omega (arith, low, lower);
-    complete = λ clear. for_memory fault (complete (are_clear lower clear));
+    complete = λ clear room. for_memory fault (complete (are_clear lower clear room));
   }

@@ -40,4 +40,7 @@ not_refused readable options replacement error.RootMissing asked h = h
 not_refused readable options replacement (error.Walk failed) asked h = h
 not_refused readable options replacement error.TooMany asked h = h
 not_refused readable options replacement error.InputTooLong asked h = h
+not_refused readable options replacement (error.Stale path planned found) asked h = h
+not_refused readable options replacement (error.Differs path planned found) asked h = h
+not_refused readable options replacement error.NotAPlan asked h = h
 not_refused readable options replacement error.NoMemory asked h = h

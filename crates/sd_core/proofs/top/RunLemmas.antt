@@ -1,10 +1,9 @@
 -- How a run answers, from what its words ask for.
 use Rattle.std.proofs.Common.{◌≡◌, ◌≢◌, ◌∙◌, ℕ, ap, subst, sym, refl, inl, inr, List, arith}
-use Rattle.std.specs.Prelude.{Some, None, IsTrue}
+use Rattle.std.specs.Prelude.{Some, None, IsTrue, Result, Ok, Err}
 use Rattle.std.proofs.lemmas.Option.{same_Some, none-some}
-use Rattle.sd_io.specs.Disk.{DiskState}
-use Rattle.sd_io.specs.Streams.{SourceState, SinkState}
-use Rattle.sd_course.specs.Course.{Course}
+use Rattle.sd_change.specs.Change.{Change}
+use Rattle.many_files.specs.declared.report.Report.{Report}
 use Rattle.sd_words.specs.Order.{order_of}
 use Rattle.sd_words.specs.OrderRead.{Refuses}
 use Rattle.sd_words.specs.declared.options.Options.{Options}
@@ -12,11 +11,17 @@ use Rattle.sd_words.specs.declared.fault.OptionsFault.{OptionsFault}
 use Rattle.sd_words.specs.declared.fault.OptionsFault.TheVariants as words_fault
 use Rattle.sd_replace.specs.Replacement.{Replacement, Changes}
 use Rattle.sd_core.specs.Asked.{IsReplacerOf}
+use Rattle.sd_core.specs.Command.{CarriesOut, Command}
 use Rattle.sd_core.specs.Mode as mode
-use Rattle.sd_core.specs.Mode.{mode_of}
-use Rattle.sd_core.specs.CarryingOut.{CarriesOut}
+use Rattle.sd_core.specs.Mode.{Mode, mode_of}
+use Rattle.sd_core.specs.Outside.{Outside, Untouched}
 use Rattle.sd_core.specs.Run.{Begins, IsOrMemory, IsRefusedFirst, of_words, status_of}
-use Rattle.sd_core.specs.TreeCommand.{DoesTreeCommand, TreeCommand, TreeEnds}
+use Rattle.sd_core.specs.Printing.{EndsBy, Prints}
+use Rattle.sd_core.specs.Report.{line_of}
+use Rattle.sd_core.specs.Selection.{Selection, by_globs}
+use Rattle.sd_core.specs.Sweep.{Sweeps, sweep_cap}
+use Rattle.sd_core.specs.TreeCommand.{DoesTreeCommand}
+use Rattle.sd_core.specs.declared.error.Error.{Error}
 use Rattle.sd_core.specs.declared.ended.Why.{Why}
 use Rattle.sd_core.specs.declared.ended.Why.TheVariants as why
 
@@ -30,13 +35,6 @@ module _ (words : List (List ℕ)) (fault : OptionsFault) (refuses : Refuses (or
       by (words_fault.Usage text) none e = absurd (none-some order (sym none ∙ asked))
       by words_fault.NoMemory none e = inl e
 
-  or_memory : (expected : Why) (order : Options) → order_of words ≡ Some order → IsOrMemory expected ended
-  or_memory expected order asked = by fault refuses is
-    where
-      by : (f : OptionsFault) → Refuses (order_of words) f → ended ≡ of_words f → IsOrMemory expected ended
-      by (words_fault.Usage text) none e = absurd (none-some order (sym none ∙ asked))
-      by words_fault.NoMemory none e = inr e
-
   unordered : (order : Options) → order_of words ≡ Some order → ended ≢ why.Usage
   unordered order asked usage = by fault refuses is
     where
@@ -45,23 +43,12 @@ module _ (words : List (List ℕ)) (fault : OptionsFault) (refuses : Refuses (or
       by words_fault.NoMemory none e = let f : 2 ≡ 1 = ap status_of (sym usage ∙ e) in omega (arith, f)
 
   -- no command begins
-  pub none_carries : (same_disk same_input same_out : Type 0) (d : Course DiskState) (input : Course SourceState) (out : Course SinkState) → same_disk → same_input → same_out
-      → (order : Options) → order_of words ≡ Some order → CarriesOut order same_disk same_input same_out d input out ended
-  none_carries same_disk same_input same_out d input out s t u order asked =
-      let first = none_refused order asked in
-      record {
-        ordered = unordered order asked;
-        not_yet = λ root e. or_memory why.NotYet order asked;
-        replacer = λ no error refused. first;
-        tree = λ root e. inl ((s, t, u), first);
-        demo = λ n e. inl ((s, t, u), first);
-        standard_input = λ e. inl ((s, t, u), first);
-        files = λ e. inl ((s, t, u), first);
-        preview = λ e. inl ((s, t, u), first);
-        disk_kept = λ calls. s;
-        input_kept = λ reads. t;
-        out_kept = λ writes. u;
-      }
+  pub none_carries : (o : Outside) → Untouched o → (order : Options) → order_of words ≡ Some order → CarriesOut order o ended
+  none_carries o untouched order asked = record {
+    ordered = unordered order asked;
+    replacer = λ error refused. none_refused order asked;
+    command = inl (untouched, none_refused order asked);
+  }
 
   pub is_usage : IsOrMemory why.Usage ended
   is_usage = by fault is
@@ -94,7 +81,6 @@ done_by why.Done e = refl
 done_by why.Usage e = absurd (omega (arith, e))
 done_by (why.Fault failed) e = absurd (omega (arith, e))
 done_by why.Print e = absurd (omega (arith, e))
-done_by why.NotYet e = absurd (omega (arith, e))
 
 module _ (words : List (List ℕ)) (options : Options) (asks : order_of words ≡ Some options) (came : Why) (ended : Why) (is : ended ≡ came) where
   same : (order : Options) → order_of words ≡ Some order → options ≡ order
@@ -104,12 +90,9 @@ module _ (words : List (List ℕ)) (options : Options) (asks : order_of words �
   done status s zero = done_by came (sym s ∙ zero)
 
   -- what is carried out of the options is carried out of the order
-  pub carries_so : (same_disk same_input same_out : Type 0) (d : Course DiskState) (input : Course SourceState) (out : Course SinkState)
-      → CarriesOut options same_disk same_input same_out d input out came
-      → (order : Options) → order_of words ≡ Some order → CarriesOut order same_disk same_input same_out d input out ended
-  carries_so same_disk same_input same_out d input out carried order asked =
-      subst (λ (w : Why). CarriesOut order same_disk same_input same_out d input out w) (sym is)
-      (subst (λ (o : Options). CarriesOut o same_disk same_input same_out d input out came) (same order asked) carried)
+  pub carries_so : (o : Outside) → CarriesOut options o came → (order : Options) → order_of words ≡ Some order → CarriesOut order o ended
+  carries_so o carried order asked =
+      subst (λ (w : Why). CarriesOut order o w) (sym is) (subst (λ (x : Options). CarriesOut x o came) (same order asked) carried)
 
   pub none_unordered : order_of words ≡ None → ⊥
   none_unordered none = none-some options (sym none ∙ asks)
@@ -123,12 +106,23 @@ first_fails : (order : Options) (ended : Why) → IsRefusedFirst order ended →
 first_fails order ended (inl memory) done = let f : 1 ≡ 0 = ap status_of (sym memory ∙ done) in omega (arith, f)
 first_fails order ended (inr (failed, fails, why_so)) done = let f : 1 ≡ 0 = ap status_of (sym fails ∙ done) in omega (arith, f)
 
-pub headline_so : (same_disk same_input same_out : Type 0) (d : Course DiskState) (input : Course SourceState) (out : Course SinkState) (order : Options) (root : List ℕ) (ended : Why)
-    → CarriesOut order same_disk same_input same_out d input out ended → mode_of order ≡ mode.tree root → ended ≡ why.Done → IsTrue d.tells
-    → (replacement : Replacement) × IsReplacerOf order replacement × DoesTreeCommand (Changes replacement) root order.words d.old d.new out
-headline_so same_disk same_input same_out d input out order root ended carried e done told = by (carried.tree root e)
+-- a sweep that is done, and whose report is printed
+does : (change : Change) (selection : Selection) (o : Outside) (result : Result Report Error) (ended : Why) → Sweeps change selection sweep_cap o.same_disk result o.disk
+    → EndsBy line_of result o.same_out o.out ended → ended ≡ why.Done → IsTrue o.disk.tells → DoesTreeCommand change selection o.disk.old o.disk.new o.out
+does change selection o (Ok report) ended sweeps prints done told = record {
+  report = report;
+  rewrites = sweeps.rewritten told;
+  printed = subst (λ (w : Why). Prints (line_of report) o.out w) done prints;
+}
+does change selection o (Err failed) ended sweeps (is, kept) done told = let f : 1 ≡ 0 = ap status_of (sym is ∙ done) in absurd (omega (arith, f))
+
+pub headline_so : (o : Outside) (order : Options) (root : List ℕ) (ended : Why) → CarriesOut order o ended → mode_of order ≡ mode.tree root → ended ≡ why.Done → IsTrue o.disk.tells
+    → (replacement : Replacement) × IsReplacerOf order replacement × DoesTreeCommand (Changes replacement) (by_globs root order.words) o.disk.old o.disk.new o.out
+headline_so o order root ended carried e done told = by carried.command
   where
-    by : Begins order (same_disk × same_input × same_out) ended (λ change. TreeCommand change root order.words d out ended)
-        → (replacement : Replacement) × IsReplacerOf order replacement × DoesTreeCommand (Changes replacement) root order.words d.old d.new out
+    by : Begins order o ended (λ change. Command (mode_of order) change order.words o ended)
+        → (replacement : Replacement) × IsReplacerOf order replacement × DoesTreeCommand (Changes replacement) (by_globs root order.words) o.disk.old o.disk.new o.out
     by (inl (untouched, first)) = absurd (first_fails order ended first done)
-    by (inr (replacement, asked, tree)) = (replacement, asked, (subst (λ (w : Why). TreeEnds (Changes replacement) root order.words d out w) done tree.ends).1 told)
+    by (inr (replacement, asked, command)) =
+        let tree = subst (λ (m : Mode). Command m (Changes replacement) order.words o ended) e command in
+        (replacement, asked, does (Changes replacement) (by_globs root order.words) o tree.0.result ended tree.0.sweeps tree.0.prints done told)

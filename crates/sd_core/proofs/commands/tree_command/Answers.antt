@@ -1,21 +1,14 @@
 use Rattle.std.proofs.Common.{refl}
-use Rattle.sd_core.proofs.commands.TreeLemmas.{refused, done}
+use Rattle.sd_core.proofs.commands.TreeLemmas.{swept}
 use Rattle.sd_core.proofs.commands.tree_command.Goals as goal
 
-pub returns-in-Err-clause-tree : goal.returns-in-Err-clause-tree
-returns-in-Err-clause-tree g c =
-    let e = c.in-Err.ensures in
-    refused _ _ _ _ _ c.in-Err.error e.sweeps (λ place invalid. (e.bad_glob place invalid).1)
+pub returns-in-Err : goal.returns-in-Err
+returns-in-Err g c = swept _ _ _ _ _ _ _ _ c.in-Err.ensures (refl, refl)
 
-pub returns-in-Err-print_report-clause-tree : goal.returns-in-Err-print_report-clause-tree
-returns-in-Err-print_report-clause-tree g c =
-    let e = c.in-Ok.ensures in
+pub returns-in-Err-print_report : goal.returns-in-Err-print_report
+returns-in-Err-print_report g c =
     let p = c.in-Err-print_report.ensures in
-    done _ _ _ _ _ c.in-Ok.report _ e.sweeps (λ place invalid. (e.bad_glob place invalid).1)
-    (p.cause refl, e.sweeps.few, λ told. record { report = c.in-Ok.report; rewrites = e.sweeps.rewritten told; appended = p.refused }) (λ no. absurd (no (p.cause refl)))
+    swept _ _ _ _ _ _ _ _ c.in-Ok.ensures (p.cause refl, p.refused)
 
-pub returns-in-Ok-print_report-clause-tree : goal.returns-in-Ok-print_report-clause-tree
-returns-in-Ok-print_report-clause-tree g c =
-    let e = c.in-Ok.ensures in
-    done _ _ _ _ _ c.in-Ok.report _ e.sweeps (λ place invalid. (e.bad_glob place invalid).1)
-    (e.sweeps.few, λ told. record { report = c.in-Ok.report; rewrites = e.sweeps.rewritten told; printed = λ tells. c.in-Ok-print_report.ensures.printed tells }) (λ no. tt)
+pub returns-in-Ok-print_report : goal.returns-in-Ok-print_report
+returns-in-Ok-print_report g c = swept _ _ _ _ _ _ _ _ c.in-Ok.ensures c.in-Ok-print_report.ensures.printed

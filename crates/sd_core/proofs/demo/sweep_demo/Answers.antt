@@ -1,26 +1,31 @@
 use Rattle.std.proofs.Common.{refl, sym, subst}
+use Rattle.std.specs.Prelude.{All, IfErr}
 use Rattle.sd_io.specs.Disk.{DiskState}
-use Rattle.demo_tree.specs.Demo.{IsDemo}
+use Rattle.sd_io.specs.Files.{path_text}
+use Rattle.chosen_files.specs.Globs.{IsValid}
+use Rattle.demo_tree.specs.Demo.{IsDemo, demo_place}
 use Rattle.demo_tree.specs.FaultlessDisk.{faultless_state}
+use Rattle.sd_core.specs.Demo.{DemoWantsMemory}
 use Rattle.sd_core.proofs.demo.DemoEndLemmas.{reports_demo, is_clear, refused_for_memory, refused_so}
+use Rattle.sd_core.proofs.demo.RoomLemmas.{demo_has_room}
 use Rattle.sd_core.proofs.demo.sweep_demo.Goals as goal
 
-pub returns-clause-counted : goal.returns-clause-counted
-returns-clause-counted g c =
-    let old = faultless_state c.new-disk.result in
-    let demo : IsDemo c.args.n old.tree = subst (λ (s : DiskState). IsDemo c.args.n s.tree) (sym c.new-disk.ensures) c.in-Ok.ensures.demo in
-    reports_demo (g.R.Replaces.change c.args.replacer.now) c.args.n c.args.globs.now old (faultless_state c.sweep.new.disk) demo c.requires
-    c.sweep.result (c.sweep.ensures.sweeps.rewritten refl)
-
-pub returns-clause-complete : goal.returns-clause-complete
-returns-clause-complete g c = λ valid.
+pub returns : goal.returns
+returns g c =
+    let change = g.R.Replaces.change c.args.replacer.now in
+    let n = c.args.n in
+    let globs = c.args.globs.now in
     let old = faultless_state c.new-disk.result in
     let new = faultless_state c.sweep.new.disk in
-    let demo : IsDemo c.args.n old.tree = subst (λ (s : DiskState). IsDemo c.args.n s.tree) (sym c.new-disk.ensures) c.in-Ok.ensures.demo in
-    refused_for_memory (g.R.Replaces.change c.args.replacer.now) c.args.n c.args.globs.now old new demo c.requires
-    (c.sweep.ensures.sweeps.however refl) c.sweep.result c.sweep.ensures.sweeps.fails
-    (c.sweep.ensures.sweeps.complete (is_clear (g.R.Replaces.change c.args.replacer.now) c.args.n c.args.globs.now old new demo c.requires
-    c.new-disk.result.no_faults c.sweep.new.disk.no_faults valid))
-
-pub returns-clause-fails : goal.returns-clause-fails
-returns-clause-fails g c = refused_so c.args.n c.args.globs.now c.sweep.result (λ place at. (c.sweep.ensures.bad_glob place at).1) (returns-clause-complete g c)
+    let sweeps = c.sweep.ensures in
+    let demo : IsDemo n old.tree = subst (λ (s : DiskState). IsDemo n s.tree) (sym c.new-disk.ensures) c.in-Ok.ensures.demo in
+    let complete : All IsValid globs → IfErr c.sweep.result (DemoWantsMemory n) = λ valid.
+    refused_for_memory change n globs old new demo c.requires (sweeps.however refl) c.sweep.result sweeps.fails
+    (sweeps.complete (is_clear change n globs old new demo c.requires c.new-disk.result.no_faults c.sweep.new.disk.no_faults valid)
+    (demo_has_room n old.tree (path_text demo_place) globs demo)) in
+    record {
+      counted = reports_demo change n globs old new demo c.requires c.sweep.result (sweeps.rewritten refl);
+      fails = refused_so n globs c.sweep.result (λ place at. (sweeps.bad_glob place at).1) complete;
+      bad_glob = λ place at. (sweeps.bad_glob place at).1;
+      complete = complete;
+    }

@@ -3,6 +3,7 @@ use Rattle.std.specs.Prelude.{codes, is_none, map}
 use Rattle.std.proofs.lemmas.Bool.{false≢true}
 use Rattle.std.proofs.lemmas.List.Elements.{All-from_recursion}
 use Rattle.std.proofs.lemmas.List.Sums.{sum_by-cons}
+use Rattle.sd_io.specs.Disk.{SameTree}
 use Rattle.sd_io.specs.Files.{file_of}
 use Rattle.sd_io.specs.Paths.{reached}
 use Rattle.sd_io.specs.Tree.{Tree, node_at}
@@ -31,10 +32,10 @@ open_brace : ¬ IsValid (codes "{a")
 open_brace = invalid_one (codes "{a") (omega arith, (omega arith, tt)) refl
 
 pub returns-clause-bad_glob : goal.returns-clause-bad_glob
-returns-clause-bad_glob c = λ d same. ((star, open_brace), same)
+returns-clause-bad_glob c = λ d same. (subst (SameTree d.old) (sym same) (record { tree = refl; clock = refl; outcomes = refl }), ((star, open_brace), same))
 
 pub returns-clause-valid_glob : goal.returns-clause-valid_glob
-returns-clause-valid_glob c = λ d fails. fails.0 star
+returns-clause-valid_glob c = λ d fails. fails.1.0 star
 
 -- ---- the root
 
@@ -73,7 +74,8 @@ returns-clause-one_failed c = λ old new tree kept rose.
       few = λ told. few_below old.tree tree (codes "./t/") leads;
       files = λ told. record {
         paths = path ∷ [];
-        chosen = t_chosen old.tree tree (codes "./t/") leads;
+        places = a_place ∷ [];
+        selected = (t_chosen old.tree tree (codes "./t/") leads, refl);
         files = record {
           turns = turn ∷ [];
           paths_are = refl;
@@ -106,7 +108,7 @@ pub returns-clause-other_path : goal.returns-clause-other_path
 returns-clause-other_path c = λ old new tree fails.
     let below = fails.files refl in
     let leads = ap (λ (t : Tree). reached t (codes "./t/") true) tree ∙ to_t_by_dot in
-    let one = one_list_of_paths old.tree (codes "./t/") txt below.paths (codes "./t/a.txt" ∷ []) below.chosen (t_chosen old.tree tree (codes "./t/") leads) in
+    let one = one_list_of_paths old.tree (codes "./t/") txt below.paths (codes "./t/a.txt" ∷ []) below.selected.0 (t_chosen old.tree tree (codes "./t/") leads) in
     let turns = below.files.turns in
     let job_is_in = subst (λ (jobs : List Job). In (codes "/t/a.txt", job.File disk.Failed) jobs) below.files.jobs_are (inl refl) in
     let path_is_in = failed_path_in (map path_of turns) (map fault_of turns) (codes "/t/a.txt") (job.File disk.Failed) job_is_in in

@@ -1,5 +1,5 @@
-use Rattle.std.proofs.Common.{◌≡◌, ◌≢◌, [], ◌∷◌, true, refl, sym, ◌∙◌, ap, subst, inl, inr, length, arith}
-use Rattle.std.specs.Prelude.{codes}
+use Rattle.std.proofs.Common.{◌≡◌, ◌≢◌, [], ◌∷◌, true, refl, sym, ◌∙◌, ap, subst, inl, inr, length, List, arith}
+use Rattle.std.specs.Prelude.{codes, Contains}
 use Rattle.std.specs.List.Sorted.{IsStrictlySortedBy}
 use Rattle.std.proofs.lemmas.Option.{some_pair_parts}
 use Rattle.sd_io.specs.Paths.{reached}
@@ -17,7 +17,8 @@ returns-clause-one_file c = λ old new tree is_new others.
     let was = a_file old.tree tree in
     record {
       paths = codes "/t/a.txt" ∷ [];
-      chosen = t_chosen old.tree tree (codes "/t") leads;
+      places = _;
+      selected = (t_chosen old.tree tree (codes "/t") leads, refl);
       files = record {
         each = λ place c. elim (in_from_contains (a_place ∷ []) place c) [
           | inl a ↦ record {
@@ -52,10 +53,11 @@ returns-clause-one_file c = λ old new tree is_new others.
 pub returns-clause-left_old : goal.returns-clause-left_old
 returns-clause-left_old c = λ disk tree r.
     let leads = ap (λ (t : Tree). reached t (codes "/t") true) tree ∙ to_t in
-    let led = r.chosen.leads in
-    let top : r.chosen.top ≡ t_place = cc (led, leads) in
+    let (chosen, listed) = r.selected in
+    let led = chosen.leads in
+    let top : chosen.top ≡ t_place = cc (led, leads) in
     let is_chosen = subst (λ (t : NameList). IsChosen disk.tree t txt a_place) (sym top) (a_chosen disk.tree tree) in
-    let done = r.files.each a_place ((r.chosen.chosen.these a_place).1 is_chosen) in
+    let done = r.files.each a_place (subst (λ (list : List NameList). Contains list a_place) (sym listed) ((chosen.chosen.these a_place).1 is_chosen)) in
     let was = (some_pair_parts done.bytes (codes "one two one") done.mode 416 (sym done.was ∙ a_file disk.tree tree)).0 in
     let is_new = (some_pair_parts done.new_bytes (codes "one two one") done.mode 416 (sym done.holds ∙ a_file disk.tree tree)).0 in
     elim done.new_bytes_are [
@@ -80,21 +82,25 @@ none_in_order = tt
 pub returns-clause-no_globs : goal.returns-clause-no_globs
 returns-clause-no_globs c = λ disk root top leads. record {
   paths = [];
-  chosen = record {
-    top = top;
-    leads = leads;
-    places = [];
-    chosen = record {
-      in_order = none_in_order;
-      these = λ place. (
-        (λ c. absurd (in_from_contains [] place c)),
-        (λ chosen. let (glob, is_one, fits) = chosen.fits in absurd (in_from_contains [] glob is_one)),
-      );
-    };
-    names = [];
-    places_are = refl;
-    paths_are = refl;
-  };
+  places = [];
+  selected = (
+    record {
+      top = top;
+      leads = leads;
+      places = [];
+      chosen = record {
+        in_order = none_in_order;
+        these = λ place. (
+          (λ c. absurd (in_from_contains [] place c)),
+          (λ chosen. let (glob, is_one, fits) = chosen.fits in absurd (in_from_contains [] glob is_one)),
+        );
+      };
+      names = [];
+      places_are = refl;
+      paths_are = refl;
+    },
+    refl,
+  );
   files = record {
     each = λ place c. absurd (in_from_contains [] place c);
     others = λ place none. refl;

@@ -1,5 +1,5 @@
 use Rattle.std.proofs.Common.{◌++◌, ap, ◌∙◌, codes}
-use Rattle.sd_core.specs.Report.{report_text}
+use Rattle.sd_plan.specs.Report.{report_text}
 use Rattle.sd_core.proofs.printing.ReportLemmas.{pushed}
 use Rattle.sd_core.proofs.printing.line_of.Goals as goal
 

@@ -18,7 +18,7 @@ pub returns-in-Err-clause-no_order : goal.returns-in-Err-clause-no_order
 returns-in-Err-clause-no_order g c = λ none. (is_usage _ _ c.in-Err.ensures.read _ c.refuse.ensures.why, refl, refl, refl)
 
 pub returns-in-Err-clause-carries : goal.returns-in-Err-clause-carries
-returns-in-Err-clause-carries g c = none_carries _ _ c.in-Err.ensures.read _ c.refuse.ensures.why _ _ _ _ _ _ refl refl refl
+returns-in-Err-clause-carries g c = none_carries _ _ c.in-Err.ensures.read _ c.refuse.ensures.why _ (refl, refl, refl)
 
 pub returns-in-Err-clause-err_kept : goal.returns-in-Err-clause-err_kept
 returns-in-Err-clause-err_kept g c = λ done. absurd (not_done _ _ c.in-Err.ensures.read _ c.refuse.ensures.why done)
@@ -26,11 +26,11 @@ returns-in-Err-clause-err_kept g c = λ done. absurd (not_done _ _ c.in-Err.ensu
 -- ---- they ask for something
 
 pub returns-in-Ok-clause-carries : goal.returns-in-Ok-clause-carries
-returns-in-Ok-clause-carries g c = carries_so _ c.in-Ok.options c.in-Ok.ensures.read c.carry_out-why.result _ c.end_with.ensures.why _ _ _ _ _ _ c.carry_out-why.ensures
+returns-in-Ok-clause-carries g c = carries_so _ c.in-Ok.options c.in-Ok.ensures.read c.carry_out-why.result _ c.end_with.ensures.why _ c.carry_out-why.ensures
 
 pub returns-in-Ok-clause-headline : goal.returns-in-Ok-clause-headline
 returns-in-Ok-clause-headline g c = λ told order root asks zero.
-    headline_so _ _ _ _ _ _ order root _ (returns-in-Ok-clause-carries g c order asks.0) asks.1
+    headline_so _ order root _ (returns-in-Ok-clause-carries g c order asks.0) asks.1
     (c.end_with.ensures.why ∙ done _ c.in-Ok.options c.in-Ok.ensures.read c.carry_out-why.result _ c.end_with.ensures.why _ c.end_with.ensures.status zero) told
 
 pub returns-in-Ok-clause-status : goal.returns-in-Ok-clause-status

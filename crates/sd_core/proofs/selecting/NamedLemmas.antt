@@ -1,5 +1,5 @@
 -- The paths of files.
-use Rattle.std.proofs.Common.{◌≡◌, ℕ, Bool, true, false, List, [], ◌∷◌, refl, ap}
+use Rattle.std.proofs.Common.{◌≡◌, ℕ, Bool, true, false, List, [], ◌∷◌, refl, sym, ap, subst}
 use Rattle.std.specs.Prelude.{IsTrue, All, ◌==◌, ◌↔◌, not}
 use Rattle.std.specs.List.{list_all, filter}
 use Rattle.std.proofs.lemmas.List.Elements.{All-weaker, All-head, All-tail, filter_passes}
@@ -21,6 +21,13 @@ module _ (tree : Tree) (is : IsTree tree) (root : List ℕ) (globs paths : List 
 
   pub all_named : All (λ path. IsNoPath path → ⊥) paths
   all_named = listed_named tree is paths chosen.places lists_files
+
+-- what is kept of the paths of all chosen files is all of them
+pub chosen_kept : (tree : Tree) (is : IsTree tree) (root : List ℕ) (globs read paths kept : List (List ℕ)) → read ≡ globs → ListsChosen tree root read paths
+    → (All (λ path. IsNoPath path → ⊥) paths → kept ≡ paths) → ListsChosen tree root globs kept
+chosen_kept tree is root globs read paths kept same listed keeps =
+    let one = subst (λ (list : List (List ℕ)). ListsChosen tree root list paths) same listed in
+    subst (ListsChosen tree root globs) (sym (keeps (all_named tree is root globs paths one))) one
 
 -- ---- paths that are kept
 

@@ -5,8 +5,8 @@ use Rattle.std.proofs.lemmas.List.Elements.{All-filter}
 use Rattle.chosen_files.specs.Chosen.{IsPathBelow}
 use Rattle.file_rewrite.specs.Paths.{IsNoPath}
 use Rattle.sd_core.specs.Sweep.{may_name_file}
-use Rattle.sd_core.proofs.sweeping.NamedLemmas.{all_kept, kept_named}
-use Rattle.sd_core.proofs.sweeping.keep_named.Goals as goal
+use Rattle.sd_core.proofs.selecting.NamedLemmas.{all_kept, kept_named}
+use Rattle.sd_core.proofs.selecting.keep_named.Goals as goal
 
 pub returns-clause-named : goal.returns-clause-named
 returns-clause-named c =

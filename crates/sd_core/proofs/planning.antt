@@ -1,0 +1,2 @@
+-- What the plan of a tree uses.
+pub mod EndLemmas

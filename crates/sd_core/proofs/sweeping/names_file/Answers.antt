@@ -1,5 +1,0 @@
-use Rattle.sd_core.proofs.sweeping.NamedLemmas.{not_same}
-use Rattle.sd_core.proofs.sweeping.names_file.Goals as goal
-
-pub returns : goal.returns
-returns c = not_same _ _ c.is_no_path.ensures
