@@ -1,6 +1,6 @@
 -- Listed files: their paths name them, and nothing but a fault or a full folder stands in their way.
 use Rattle.std.proofs.Common.{◌≡◌, ℕ, Bool, true, false, cond, List, [], ◌∷◌, map, refl, sym, ◌∙◌, ap, subst, arith}
-use Rattle.std.specs.Prelude.{Option, Some, None, IsSome, is_some, IsTrue, Contains, All, ◌==◌, ◌&&◌}
+use Rattle.std.specs.Prelude.{Option, Some, None, IsSome, Contains, All, ◌==◌, ◌&&◌}
 use Rattle.std.specs.List.{list_all}
 use Rattle.std.specs.Option.{option_and_then}
 use Rattle.std.specs.Str.{bytes_eq}
@@ -53,9 +53,9 @@ no_file (Some node) d f = by node.content d f
     by other d f = cc
 
 -- a path that leads to a file names one
-pub file_named : (tree : Tree) → IsTree tree → (path : List ℕ) (place : NameList) → reached tree path true ≡ Some place → IsNonemptyFile tree place → IsNoPath path → ⊥
-file_named tree is path place leads it none =
-    no_file (node_at tree []) is.top (subst (λ (q : NameList). IsSome (file_at tree q)) (no_path_top tree path place none leads) (a_file tree place it))
+pub file_named : (tree : Tree) → IsTree tree → (path : List ℕ) (place : NameList) → reached tree path true ≡ Some place → IsSome (file_at tree place) → IsNoPath path → ⊥
+file_named tree is path place leads there none =
+    no_file (node_at tree []) is.top (subst (λ (q : NameList). IsSome (file_at tree q)) (no_path_top tree path place none leads) there)
 
 -- ---- all of them
 
@@ -73,7 +73,7 @@ each_path tree P (path ∷ paths) (place ∷ places) lead holds =
 
 module _ (tree : Tree) (is : IsTree tree) (paths : List (List ℕ)) (places : List NameList) (listed : ListsFiles tree paths places) where
   pub listed_named : All (λ path. IsNoPath path → ⊥) paths
-  listed_named = each_path tree (λ path. IsNoPath path → ⊥) paths places listed.lead (λ path place c leads. file_named tree is path place leads (listed.are_files place c))
+  listed_named = each_path tree (λ path. IsNoPath path → ⊥) paths places listed.lead (λ path place c leads. file_named tree is path place leads (a_file tree place (listed.are_files place c)))
 
   leads_to_file : (path : List ℕ) (place : NameList) → reached tree path true ≡ Some place → IsNonemptyFile tree place → LeadsToFile tree path
   leads_to_file path place leads it = subst (λ (o : Option NameList). IsSome (option_and_then (file_at tree) o)) (sym leads) (a_file tree place it)

@@ -49,7 +49,7 @@ plain change tree place bytes new mode n (byte, rest, m, e) was f =
 pub left_before : (s t : DiskState) → SameTree s t → (q : NameList) (found : Option Content) → Leaves (outcomes_now t q) found → Leaves (outcomes_now s q) found
 left_before s t same q found l = subst (λ os. Leaves os found) (λ i. same.outcomes i (same.clock i) q) l
 
-old_left : (change : Change) (old new : Tree) (place : NameList) (fault : JobFault) → IsOld old new place → IsLeft change old new place fault
+pub old_left : (change : Change) (old new : Tree) (place : NameList) (fault : JobFault) → IsOld old new place → IsLeft change old new place fault
 old_left change old new place (job.File fault) is = is
 old_left change old new place (job.TempfilePersist fault) is = inl is
 old_left change old new place job.InvalidPath is = is

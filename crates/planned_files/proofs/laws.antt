@@ -1,0 +1,2 @@
+-- What the laws use.
+pub mod LawLemmas

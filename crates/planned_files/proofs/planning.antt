@@ -1,0 +1,2 @@
+-- What the making of a plan uses.
+pub mod PlanLemmas
