@@ -32,6 +32,7 @@ options =
     ∷ option (codes "flags") (Some 102)
     ∷ option (codes "root") None
     ∷ option (codes "demo") None
+    ∷ option (codes "apply") None
     ∷ []
 
 -- the two texts that must be there

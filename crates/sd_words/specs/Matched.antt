@@ -16,6 +16,7 @@ pub record Texts : Type 0 where
   pub flags : Option Text
   pub root : Option Text
   pub demo : Option Text
+  pub apply : Option Text
   pub find : Text
   pub replace_with : Text
   pub words : List Text
@@ -39,6 +40,7 @@ texts_in rows = record {
   flags = first_of (codes "flags") rows;
   root = first_of (codes "root") rows;
   demo = first_of (codes "demo") rows;
+  apply = first_of (codes "apply") rows;
   find = unwrap_or (first_of (codes "find") rows) [];
   replace_with = unwrap_or (first_of (codes "replace-with") rows) [];
   words = values_of (codes "words") rows;

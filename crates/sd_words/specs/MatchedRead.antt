@@ -23,6 +23,7 @@ texts_read m = record {
   flags = text_of m.flags;
   root = text_of m.root;
   demo = text_of m.demo;
+  apply = text_of m.apply;
   find = m.find.now;
   replace_with = m.replace_with.now;
   words = texts_lent m.words;

@@ -1,6 +1,7 @@
 -- What the words of a command line ask for.
-use Rattle.std.specs.Prelude.{◌&&◌, ◌||◌, ℕ, Bool, not, List, Option, Some, None, is_some, if◌then◌else◌, nat_le, option_and_then, option_map}
+use Rattle.std.specs.Prelude.{◌&&◌, ◌||◌, ℕ, Bool, not, List, Option, Some, None, is_none, is_some, if◌then◌else◌, nat_le, option_and_then, option_map}
 use Rattle.std.specs.Option.{option_map_or}
+use Rattle.clap.specs.Walk.{is_empty}
 use Rattle.clap.specs.Words.{Text}
 use Rattle.sd_words.specs.Number.{number_of}
 use Rattle.sd_words.specs.Matched.{Texts, texts_of}
@@ -22,9 +23,17 @@ demo_number text = option_and_then (λ n. if nat_le n demo_max then Some (Some n
 abbrev pub demo_of : Option Text → Option (Option ℕ)
 demo_of text = option_map_or demo_number text (Some None)
 
--- no options exclude each other: a demo stands without a root and without preview
+-- `--demo` stands with `--root` or `-p`
+abbrev pub demo_clashes : Texts → Bool
+demo_clashes t = is_some t.demo && (is_some t.root || t.preview)
+
+-- `--apply` stands with `--root`, `--demo` or `-p`, or with words after FIND and REPLACE_WITH
+abbrev pub apply_clashes : Texts → Bool
+apply_clashes t = is_some t.apply && (is_some t.root || is_some t.demo || t.preview || not (is_empty t.words))
+
+-- all that is given may stand together
 abbrev pub stand_together : Texts → Bool
-stand_together t = not (is_some t.demo) || (not (is_some t.root) && not t.preview)
+stand_together t = not (demo_clashes t || apply_clashes t)
 
 -- the record of the texts, with their numbers
 abbrev pub options_with : Texts → ℕ → Option ℕ → Options
@@ -36,6 +45,7 @@ options_with t limit demo = record {
   flags = t.flags;
   root = t.root;
   demo = demo;
+  apply = t.apply;
   find = t.find;
   replace_with = t.replace_with;
   words = t.words;
@@ -52,6 +62,6 @@ order_by t =
 unfoldable pub order_of : List Text → Option Options
 order_of words = option_and_then order_by (texts_of words)
 
--- a tree command: an order with a root and without preview
+-- a tree command: an order with a root, without preview, and without a plan to apply
 abbrev pub is_tree_command : Options → Bool
-is_tree_command order = is_some order.root && not order.preview
+is_tree_command order = is_some order.root && not order.preview && is_none order.apply

@@ -20,6 +20,7 @@ pub data Key : Type 0 where
   flags : Key
   root : Key
   demo : Key
+  apply : Key
 
 -- the form of an option's word
 pub data Spelling : Type 0 where
@@ -38,6 +39,7 @@ key_name limit = codes "max-replacements"
 key_name flags = codes "flags"
 key_name root = codes "root"
 key_name demo = codes "demo"
+key_name apply = codes "apply"
 
 -- the word of a flag
 abbrev pub flag_word : Flag → Spelling → Text
@@ -50,7 +52,7 @@ flag_word string_mode long = codes "--string-mode"
 flag_word line_mode short = codes "-l"
 flag_word line_mode long = codes "--line-mode"
 
--- the word of an option with a value; two have a long form alone
+-- the word of an option with a value; three have a long form alone
 abbrev pub key_word : Key → Spelling → Text
 key_word limit short = codes "-n"
 key_word limit long = codes "--max-replacements"
@@ -58,6 +60,7 @@ key_word flags short = codes "-f"
 key_word flags long = codes "--flags"
 key_word root _ = codes "--root"
 key_word demo _ = codes "--demo"
+key_word apply _ = codes "--apply"
 
 -- an option as it stands in plain words: a flag, or an option and its value
 pub data Part : Type 0 where
@@ -124,6 +127,7 @@ table parts find_word replace_word rest = record {
   flags = value_of flags parts;
   root = value_of root parts;
   demo = value_of demo parts;
+  apply = value_of apply parts;
   find = find_word;
   replace_with = replace_word;
   words = rest;
@@ -144,6 +148,7 @@ options_of dir find_word replace_word rest = record {
   flags = None;
   root = dir;
   demo = None;
+  apply = None;
   find = find_word;
   replace_with = replace_word;
   words = rest;

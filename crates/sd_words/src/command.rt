@@ -63,7 +63,13 @@ fn with_options<'a>(alloc: Global, command: Command<'a>) -> Result<Command<'a>, 
         "Change the files below DIR that fit a glob",
     );
     let demo = option(alloc, "demo", "N", "Change a tree of N files in memory");
-    command.arg(limit)?.arg(flags)?.arg(root)?.arg(demo)
+    let apply = option(alloc, "apply", "FILE", "Carry out the plan that FILE holds");
+    command
+        .arg(limit)?
+        .arg(flags)?
+        .arg(root)?
+        .arg(demo)?
+        .arg(apply)
 }
 
 /// The command with the words after its options too.

@@ -25,6 +25,7 @@ pub fn options_are_read_as_in_the_examples()
     ensures long_flags { AsksFor (codes "--flags i a b") (record (a_by_b []) { flags = Some (codes "i") }) }
     ensures root { AsksFor (codes "--root /t -- a b *") (record (a_by_b (codes "*" ∷ [])) { root = Some (codes "/t") }) }
     ensures demo { AsksFor (codes "--demo 2000 -- a b *") (record (a_by_b (codes "*" ∷ [])) { demo = Some 2000 }) }
+    ensures apply { AsksFor (codes "--apply /p -- a b") (record (a_by_b []) { apply = Some (codes "/p") }) }
 {}
 
 /// Values that stand in the word of their option, and options that stand together.
@@ -38,6 +39,7 @@ pub fn joined_words_are_read_as_in_the_examples()
     ensures long_value { AsksFor (codes "--max-replacements=5 a b") (record (a_by_b []) { replacements = 5 }) }
     ensures value_with_a_dash { AsksFor (codes "--root=-x a b") (record (a_by_b []) { root = Some (codes "-x") }) }
     ensures short_value_with_a_dash { AsksFor (codes "-f-x a b") (record (a_by_b []) { flags = Some (codes "-x") }) }
+    ensures long_value_after_a_sign { AsksFor (codes "--apply=/p a b") (record (a_by_b []) { apply = Some (codes "/p") }) }
     ensures empty_value { AsksFor (codes "--root= a b") (record (a_by_b []) { root = Some [] }) }
     ensures empty_word { AsksFor (codes "--root  a b") (record (a_by_b []) { root = Some [] }) }
     ensures preview_of_a_tree { AsksFor (codes "-p --root /t a b") (record (a_by_b []) { preview = true; root = Some (codes "/t") }) }
@@ -68,6 +70,8 @@ pub fn refused_words_are_as_in_the_examples()
     ensures flag_twice { AsksForNothing (codes "-p -p a b") }
     ensures option_twice { AsksForNothing (codes "-n 1 -n 2 a b") }
     ensures no_value { AsksForNothing (codes "a b --root") }
+    ensures no_file { AsksForNothing (codes "a b --apply") }
+    ensures apply_twice { AsksForNothing (codes "--apply /p --apply /p a b") }
     ensures value_of_a_flag { AsksForNothing (codes "--preview=x a b") }
     ensures dash_before_a_number { AsksForNothing (codes "-n -5 a b") }
     ensures dash_before_a_value { AsksForNothing (codes "--root -x a b") }
@@ -101,12 +105,32 @@ pub fn numbers_and_exclusions_are_as_in_the_examples()
     ensures other_digits { number_of (239 ∷ 188 ∷ 145 ∷ []) ≡ None }
 {}
 
+/// What may stand with a plan that is applied, and what may not.
+#[tactic(auto, unfolding(crate::specs::Order::order_of, clap::proofs::OnLiterals::clap_on_literals))]
+pub fn applied_plans_are_as_in_the_examples()
+    ensures after_the_words { AsksFor (codes "a b --apply /p") (record (a_by_b []) { apply = Some (codes "/p") }) }
+    ensures no_name { AsksFor (codes "--apply= a b") (record (a_by_b []) { apply = Some [] }) }
+    ensures line_mode { AsksFor (codes "--apply /p -l a b") (record (a_by_b []) { apply = Some (codes "/p"); line_mode = true }) }
+    ensures limit { AsksFor (codes "--apply /p -n 2 a b") (record (a_by_b []) { apply = Some (codes "/p"); replacements = 2 }) }
+    ensures fixed_strings { AsksFor (codes "--apply /p -F a b") (record (a_by_b []) { apply = Some (codes "/p"); literal_mode = true }) }
+    ensures flags { AsksFor (codes "--apply /p -f i a b") (record (a_by_b []) { apply = Some (codes "/p"); flags = Some (codes "i") }) }
+    ensures the_others { AsksFor (codes "--apply=/p -lF -n 2 -f i -- a b") (record (a_by_b [])
+        { apply = Some (codes "/p"); line_mode = true; literal_mode = true; replacements = 2; flags = Some (codes "i") }) }
+    ensures root { AsksForNothing (codes "--apply /p --root /t a b") }
+    ensures demo { AsksForNothing (codes "--apply /p --demo 1 a b") }
+    ensures preview { AsksForNothing (codes "--apply /p -p a b") }
+    ensures third_word { AsksForNothing (codes "--apply /p -- a b *") }
+    ensures empty_third_word { AsksForNothing (codes "--apply /p -- a b ") }
+    ensures one_word { AsksForNothing (codes "--apply /p -- a") }
+{}
+
 /// Which orders are tree commands.
 pub fn tree_commands_are_as_in_the_examples()
     ensures root { is_tree_command (options_of (Some (codes "/t")) (codes "a") (codes "b") []) ≡ true }
     ensures empty_root { is_tree_command (options_of (Some []) (codes "a") (codes "b") []) ≡ true }
     ensures no_root { is_tree_command (a_by_b []) ≡ false }
     ensures preview { is_tree_command (record (a_by_b []) { preview = true; root = Some (codes "/t") }) ≡ false }
+    ensures apply { is_tree_command (record (a_by_b []) { apply = Some (codes "/p"); root = Some (codes "/t") }) ≡ false }
 {}
 
 /// What is shown of the text of a mistake.

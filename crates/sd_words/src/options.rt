@@ -1,6 +1,7 @@
 //! What the words of a command line ask for.
 
-ghost use Rattle.std.specs.Prelude.{◌≡◌, ◌≤◌, ℕ, IfOk, MatchResult, Some, map};
+ghost use Rattle.std.specs.Prelude.{◌≡◌, ◌≤◌, ℕ, IfOk, MatchResult, Some, map, not};
+ghost use Rattle.clap.specs.Walk.{is_empty};
 ghost use Rattle.sd_words.specs.Order as form;
 ghost use Rattle.sd_words.specs.OrderRead.{Refuses, or_usage};
 ghost use Rattle.sd_words.specs.MatchedRead.{text_of, texts_lent, texts_read};
@@ -30,18 +31,21 @@ pub struct Options {
     pub root: Option<Text>,
     /// How many files a tree in memory has, which is changed in place of files.
     pub demo: Option<u64>,
+    /// The file whose plan is applied.
+    pub apply: Option<Text>,
     /// The text to find.
     pub find: Text,
     /// What takes its place.
     pub replace_with: Text,
-    /// The words after these two: files, or with a root or a demo globs.
+    /// The words after these two: files, or with a root or a demo globs; none where a plan is applied.
     pub words: Words,
 }
 
 impl Options {
     /// Reads the words after the program's name. Answers `Usage` exactly where they ask for nothing that can be done: where
-    /// the command doesn't take them, where a number isn't digits alone or is too great, or where a demo stands with a root
-    /// or with preview. A demand for help is such a refusal. Want of memory may come at any words.
+    /// the command doesn't take them, where a number isn't digits alone or is too great, where a demo stands with a root or
+    /// with preview, or where a plan is applied with one of these three or with words after the first two. A demand for help
+    /// is such a refusal. Want of memory may come at any words.
     pub fn read(alloc: Global, words: &Words) -> Result<Options, OptionsFault>
         ensures read { MatchResult result (λ options. form.order_of words.now ≡ Some options) (Refuses (form.order_of words.now)) }
         ensures demo { IfOk result (λ options. (n : ℕ) → options.demo ≡ Some n → n ≤ form.demo_max) }
@@ -72,6 +76,7 @@ impl Options {
             flags: owned(alloc, texts.flags)?,
             root: owned(alloc, texts.root)?,
             demo,
+            apply: owned(alloc, texts.apply)?,
             find: Text::new(alloc, texts.find)?,
             replace_with: Text::new(alloc, texts.replace_with)?,
             words: all_owned(alloc, texts.words)?,
@@ -90,11 +95,33 @@ fn lent<'w>(alloc: Global, words: &'w Words) -> Result<Vec<&'w str>, NoMemory>
     Ok(texts)
 }
 
-/// Whether no options are given that exclude each other: a demo stands without a root and without preview.
+/// Whether all that is given may stand together.
 fn stand_together(texts: &Matched<'_, '_>) -> bool
     ensures { result ≡ form.stand_together (texts_read texts.now) }
 {
-    texts.demo.is_none() || (texts.root.is_none() && !texts.preview)
+    !(demo_clashes(texts) || apply_clashes(texts))
+}
+
+/// Whether a demo stands with a root or with preview.
+fn demo_clashes(texts: &Matched<'_, '_>) -> bool
+    ensures { result ≡ form.demo_clashes (texts_read texts.now) }
+{
+    texts.demo.is_some() && (texts.root.is_some() || texts.preview)
+}
+
+/// Whether a plan is applied with a root, a demo, preview or words after the first two.
+fn apply_clashes(texts: &Matched<'_, '_>) -> bool
+    ensures { result ≡ form.apply_clashes (texts_read texts.now) }
+{
+    texts.apply.is_some()
+        && (texts.root.is_some() || texts.demo.is_some() || texts.preview || has_words(texts))
+}
+
+/// Whether words stand after the first two.
+fn has_words(texts: &Matched<'_, '_>) -> bool
+    ensures { result ≡ not (is_empty (texts_read texts.now).words) }
+{
+    texts.words.is_some_and(|words| !words.is_empty())
 }
 
 /// The limit, which is 0 where it isn't given.

@@ -34,6 +34,7 @@ fn show_options(alloc: Global, options: &Options) -> Result<String, Fail> {
     if let Some(count) = options.demo {
         write!(shown, "demo {count} ")?;
     }
+    show_text(&mut shown, "apply", &options.apply)?;
     write!(
         shown,
         "[{}] [{}]",
@@ -71,7 +72,7 @@ fn check_rows<R: Abort>(rt: &R, alloc: Global, rows: &[Row<'_>]) -> Result<(), F
     Ok(())
 }
 
-const OPTIONS: [Row<'static>; 19] = [
+const OPTIONS: [Row<'static>; 22] = [
     (&["a", "b"], "[a] [b]"),
     (&["-p", "a", "b"], "preview [a] [b]"),
     (&["--preview", "a", "b"], "preview [a] [b]"),
@@ -102,6 +103,12 @@ const OPTIONS: [Row<'static>; 19] = [
         &["-p", "--root", "/t", "a", "b"],
         "preview root [/t] [a] [b]",
     ),
+    (&["--apply", "/p", "--", "a", "b"], "apply [/p] [a] [b]"),
+    (&["--apply=/p", "a", "b"], "apply [/p] [a] [b]"),
+    (
+        &["--apply", "/p", "-lF", "-n", "2", "-f", "i", "a", "b"],
+        "literal line limit 2 flags [i] apply [/p] [a] [b]",
+    ),
     (&["--", "--foo", "-w", "--", "-p"], "[--foo] [-w] [--] [-p]"),
 ];
 
@@ -110,7 +117,7 @@ fn options_are_read_in_both_spellings(rt: HostRuntime) -> Result<(), Fail> {
     check_rows(&rt, rt.alloc(), &OPTIONS)
 }
 
-const REFUSALS: [Row<'static>; 12] = [
+const REFUSALS: [Row<'static>; 14] = [
     (
         &[],
         "error: the following required arguments were not provided:\n  <FIND>\n  <REPLACE_WITH>",
@@ -156,6 +163,14 @@ const REFUSALS: [Row<'static>; 12] = [
         &["--root"],
         "error: a value is required for '--root <DIR>' but none was supplied",
     ),
+    (
+        &["--apply"],
+        "error: a value is required for '--apply <FILE>' but none was supplied",
+    ),
+    (
+        &["--apply", "/p", "--apply", "/p", "a", "b"],
+        "error: the argument '--apply <FILE>' cannot be used multiple times",
+    ),
 ];
 
 #[test]
@@ -168,7 +183,7 @@ fn refusals_of_the_command_are_shown_up_to_their_first_empty_line(
 /// What is shown where the command takes the words, and they ask for nothing that can be done.
 const INVALID: &str = "error: not a valid command line";
 
-const BROKEN_RULES: [Row<'static>; 8] = [
+const BROKEN_RULES: [Row<'static>; 12] = [
     (&["-n", "1x", "a", "b"], INVALID),
     (&["-n", "+1", "a", "b"], INVALID),
     (&["-n", "", "a", "b"], INVALID),
@@ -177,6 +192,10 @@ const BROKEN_RULES: [Row<'static>; 8] = [
     (&["--demo", "x", "--", "a", "b"], INVALID),
     (&["--demo", "10", "--root", "/t", "--", "a", "b"], INVALID),
     (&["-p", "--demo", "10", "--", "a", "b"], INVALID),
+    (&["--apply", "/p", "--root", "/t", "--", "a", "b"], INVALID),
+    (&["--apply", "/p", "--demo", "10", "--", "a", "b"], INVALID),
+    (&["--apply", "/p", "-p", "--", "a", "b"], INVALID),
+    (&["--apply", "/p", "--", "a", "b", "*"], INVALID),
 ];
 
 #[test]
@@ -202,6 +221,7 @@ Options:
   -f, --flags <FLAGS>             Flags of the search
       --root <DIR>                Change the files below DIR that fit a glob
       --demo <N>                  Change a tree of N files in memory
+      --apply <FILE>              Carry out the plan that FILE holds
   -h, --help                      Print help
 ";
 
