@@ -1,5 +1,5 @@
 -- How a run of the program ends, and what it calls.
-use Rattle.std.specs.Prelude.{◌≡◌, ◌⊎◌, ℕ, List, Some, Result, Ok, Err, ⊤}
+use Rattle.std.specs.Prelude.{◌≡◌, ◌⊎◌, ℕ, List, Some, Result, Ok, Err}
 use Rattle.sd_change.specs.Change.{Change}
 use Rattle.sd_words.specs.Order.{order_of}
 use Rattle.sd_words.specs.declared.options.Options.{Options}

@@ -1,5 +1,5 @@
 -- What a sweep does to a tree, and how it ends.
-use Rattle.std.specs.Prelude.{◌≡◌, ◌≢◌, ◌≤◌, ◌+◌, ◌^◌, ◌==◌, ℕ, Bool, true, not, IsTrue, List, [], All, Some, IsSome, Result, Err, ◌⊎◌, IfOk, IfErr, OnOk, ⊤}
+use Rattle.std.specs.Prelude.{◌≡◌, ◌≢◌, ◌≤◌, ◌+◌, ◌^◌, ◌==◌, ℕ, Bool, true, not, IsTrue, List, [], All, IsSome, Result, Err, ◌⊎◌, IfOk, IfErr, OnOk, ⊤}
 use Rattle.std.specs.List.{list_all}
 use Rattle.sd_io.specs.Tree.{NameList, Tree}
 use Rattle.sd_io.specs.Paths.{reached}

@@ -124,14 +124,7 @@ pub fn words_command<D: Disk, S: Source, O: Sink>(
         (course S.tells (S.state input.old) (S.state input.new)) (course O.tells (O.state out.old) (O.state out.new))) result }
 {
     match source_of(alloc, words) {
-        Ok(source) => run_app(
-            alloc,
-            App::new(source, replacer),
-            preview,
-            disk,
-            input,
-            out,
-        ),
+        Ok(source) => run_app(alloc, App::new(source, replacer), preview, disk, input, out),
         Err(NoMemory) => {
             drop(replacer);
             Why::Fault(Error::NoMemory)

@@ -6,10 +6,10 @@ ghost use Rattle.sd_core.specs.Plan.{PlansTree};
 ghost use Rattle.sd_core.specs.Selection.{by_globs};
 ghost use Rattle.sd_core.specs.Sweep.{sweep_cap};
 
+use crate::Result;
 use crate::error::of_disk;
 use crate::selecting::select;
 use crate::sweeping::SWEEP_CAP;
-use crate::Result;
 use planned_files::plan_files;
 use sd_change::Replaces;
 use sd_io::{Disk, Globs};

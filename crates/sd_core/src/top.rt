@@ -156,15 +156,7 @@ fn begin<D: Disk, S: Source, O: Sink>(
         (None, Some(path), _) => apply_command(alloc, disk, out, path.as_str(), &replacer),
         (None, None, Some(n)) => demo_command(alloc, out, n, words, &replacer),
         (None, None, None) => {
-            return words_command(
-                alloc,
-                options.preview,
-                words,
-                replacer,
-                disk,
-                input,
-                out,
-            );
+            return words_command(alloc, options.preview, words, replacer, disk, input, out);
         }
     };
     drop(replacer);

@@ -1,6 +1,5 @@
 -- How a sweep's answer becomes that of a command on a tree.
-use Rattle.std.proofs.Common.{◌≡◌, ℕ, List}
-use Rattle.std.specs.Prelude.{Result, IsTrue}
+use Rattle.std.specs.Prelude.{Result}
 use Rattle.sd_io.specs.Outcomes.{content_at}
 use Rattle.sd_io.specs.Disk.{DiskState}
 use Rattle.sd_io.specs.Streams.{SinkState}

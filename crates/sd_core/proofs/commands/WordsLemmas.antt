@@ -1,5 +1,5 @@
 -- How what an app does becomes what a command on words does.
-use Rattle.std.proofs.Common.{◌≡◌, ℕ, Bool, true, false, List, [], ◌∷◌, refl, subst, inl, inr}
+use Rattle.std.proofs.Common.{ℕ, Bool, true, false, List, [], ◌∷◌, refl, subst, inl, inr}
 use Rattle.sd_io.specs.Disk.{DiskState, SameTree, SameLists}
 use Rattle.sd_io.specs.Streams.{SourceState, SinkState}
 use Rattle.sd_change.specs.Change.{Change}

@@ -1,7 +1,7 @@
 -- What a plan of a tree counts, and where its lines lead.
-use Rattle.std.proofs.Common.{◌≡◌, ◌≢◌, ◌↔◌, ℕ, zero, suc, ◌+◌, ◌<◌, Bool, true, false, cond, List, [], ◌∷◌, ◌++◌, map, length, refl, sym, ap, subst, ◌∙◌, arith, Ordering, Less, Equal}
-use Rattle.std.specs.Prelude.{Option, Some, None, IsTrue, Contains}
-use Rattle.std.specs.List.{AllZip, AllByRecursion, sum_by, count_by}
+use Rattle.std.proofs.Common.{◌≡◌, ◌≢◌, ◌↔◌, ℕ, zero, suc, ◌+◌, Bool, true, false, cond, List, [], ◌∷◌, map, length, refl, sym, ap, subst, ◌∙◌, arith, Ordering, Less, Equal}
+use Rattle.std.specs.Prelude.{Option, Some, IsTrue, Contains}
+use Rattle.std.specs.List.{AllByRecursion}
 use Rattle.std.specs.List.Sorted.{IsStrictlySortedBy}
 use Rattle.std.specs.Cmp.{IsTotalOrder, tied_itself, nat_cmp_total}
 use Rattle.std.specs.Cmp.Lexicographic.{lists_total}
@@ -54,8 +54,7 @@ one_file change one tree path place line changed replaced leads (byte, rest, mod
     let their_bytes : counts.bytes ≡ byte ∷ rest = ap (λ (p : List ℕ × ℕ). p.0) theirs in
     let does = subst (λ (b : List ℕ). FileChange change b of.becomes.new_bytes line.replaced) my_bytes of.becomes.new_bytes_are in
     let did = subst (λ (b : List ℕ). change b counts.new_bytes replaced) their_bytes counts.new_bytes_are in
-    let (new, count) = one (byte ∷ rest) of.becomes.new_bytes counts.new_bytes line.replaced replaced does did in
-    (
+    let (new, count) = one (byte ∷ rest) of.becomes.new_bytes counts.new_bytes line.replaced replaced does did in (
       change_is line.changed of.bytes of.becomes.new_bytes of.becomes.changed ∙ (λ i. change_count ((my_bytes ∙ sym their_bytes) i) (new i)) ∙ sym counts.changed_is,
       count,
     )
@@ -82,8 +81,7 @@ all_files change one tree (path ∷ paths) (place ∷ places) [] changed replace
 all_files change one tree (path ∷ paths) (place ∷ places) (line ∷ lines) changed replaced lead files (first, plans) (c, r, more_c, more_r, it, counts, c_is, r_is) =
     let (leads, rest_lead) = both (reached tree path true) (Some place) (map (λ path. reached tree path true) paths) (map (λ place. Some place) places) lead in
     let (flag, count) = one_file change one tree path place line c r leads (files place (0, omega arith, refl)) first it in
-    let (long, in_changed, in_replaced) = all_files change one tree paths places lines more_c more_r rest_lead (λ q has. files q (tail_has place places q has)) plans counts in
-    (
+    let (long, in_changed, in_replaced) = all_files change one tree paths places lines more_c more_r rest_lead (λ q has. files q (tail_has place places q has)) plans counts in (
       ap suc long,
       sum_by-cons (λ (l : PlanLine). cond l.changed 1 0) line lines ∙ (λ i. flag i + in_changed i) ∙ sym c_is,
       sum_by-cons (λ (l : PlanLine). l.replaced) line lines ∙ (λ i. count i + in_replaced i) ∙ sym r_is,
@@ -139,8 +137,7 @@ paths_of_lines change tree (path ∷ paths) (line ∷ lines) (first, plans) = λ
 pub leads_apart : (change : Change) (tree : Tree) → IsTree tree → (root : List ℕ) (globs : List (List ℕ)) (lines : List PlanLine) → IsPlanOf change (by_globs root globs) tree lines
     → (places : List NameList) × LeadApart tree (map path_of lines) places
 leads_apart change tree is root globs lines plan =
-    let listed = (globs_select root globs).files tree is plan.paths plan.places plan.selected in
-    (
+    let listed = (globs_select root globs).files tree is plan.paths plan.places plan.selected in (
       plan.places,
       record {
         lead = ap (λ (paths : List (List ℕ)). map (λ path. reached tree path true) paths) (paths_of_lines change tree plan.paths lines plan.files) ∙ listed.lead;

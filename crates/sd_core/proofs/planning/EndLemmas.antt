@@ -1,16 +1,16 @@
 -- How the planning of the selected files ends.
 use Rattle.std.proofs.Common.{◌≡◌, ◌≢◌, ◌∙◌, ℕ, ◌≤◌, Bool, true, false, cond, List, [], ◌∷◌, ◌++◌, refl, sym, ap, subst, inr, arith}
-use Rattle.std.specs.Prelude.{Option, Some, None, IsSome, IsTrue, All, Result, Ok, Err, IfOk, IfErr, IsErrAnd, MatchResult, nat_eq}
+use Rattle.std.specs.Prelude.{Option, Some, None, IsSome, IsTrue, All, Result, Ok, Err, IsErrAnd, MatchResult, nat_eq}
 use Rattle.std.specs.List.{ends_with}
 use Rattle.std.proofs.lemmas.List.Elements.{All-weaker, All-head, All-tail}
 use Rattle.sd_io.specs.Count.{HasRisen}
-use Rattle.sd_io.specs.Tree.{NameList, Tree, IsTree}
+use Rattle.sd_io.specs.Tree.{Tree, IsTree}
 use Rattle.sd_io.specs.Files.{file_of}
 use Rattle.sd_io.specs.Disk.{DiskState, SameTree}
 use Rattle.sd_io.specs.declared.fault.DiskFault.{DiskFault}
 use Rattle.sd_io.specs.declared.fault.DiskFault.TheVariants as disk
 use Rattle.sd_change.specs.Change.{Change}
-use Rattle.sd_course.specs.Course.{Course, course, DiskFailed}
+use Rattle.sd_course.specs.Course.{Course, course}
 use Rattle.file_exchange.proofs.CauseLemmas.{risen_since}
 use Rattle.walk_rest.specs.Plan.{path_below}
 use Rattle.chosen_files.specs.Chosen.{IsPathBelow}
@@ -21,9 +21,8 @@ use Rattle.many_files.proofs.ListedLemmas.{listed_files}
 use Rattle.sd_plan.specs.declared.line.PlanLine.{PlanLine}
 use Rattle.planned_files.specs.Planned.{IsUnreadBy, PlanningFails, Plans, PlansFiles}
 use Rattle.sd_core.specs.Errors.{of_disk}
-use Rattle.sd_core.specs.Plan.{IsPlanOf, PlansTree, TreeNotPlanned}
+use Rattle.sd_core.specs.Plan.{PlansTree, TreeNotPlanned}
 use Rattle.sd_core.specs.Selection.{Selection, ListsSelected}
-use Rattle.sd_core.specs.Sweep.{IsClear}
 use Rattle.sd_core.specs.declared.error.Error.{Error}
 use Rattle.sd_core.specs.declared.error.Error.TheVariants as error
 use Rattle.sd_core.proofs.selecting.SelectionLemmas.{IsSelection}

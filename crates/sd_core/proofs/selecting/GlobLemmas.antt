@@ -1,12 +1,10 @@
 -- How globs, and a choice, refuse a command.
 use Rattle.std.proofs.Common.{◌≡◌, ◌⊎◌, ℕ, zero, suc, List, [], ◌∷◌, refl, sym, ap, subst, inl, inr}
-use Rattle.std.specs.Prelude.{All, IsTrue, IsSome, Result, Ok, Err, IsErrAnd, IfOk, IfErr, MatchResult, true, Bool}
+use Rattle.std.specs.Prelude.{All, Result, Ok, Err, IsErrAnd, IfOk, IfErr, MatchResult, Bool}
 use Rattle.std.proofs.lemmas.List.Elements.{All-head, All-tail}
-use Rattle.sd_io.specs.Paths.{reached}
 use Rattle.sd_io.specs.Disk.{DiskState}
-use Rattle.sd_course.specs.Course.{course, DiskFailed}
+use Rattle.sd_course.specs.Course.{course}
 use Rattle.chosen_files.specs.Globs.{IsValid, IsFirstInvalid}
-use Rattle.chosen_files.specs.Below.{HasFewerBelow}
 use Rattle.chosen_files.specs.Choice.{ChoiceFails}
 use Rattle.chosen_files.specs.declared.fault.ChoiceFault.{ChoiceFault}
 use Rattle.chosen_files.specs.declared.fault.ChoiceFault.TheVariants as choice_fault
@@ -15,7 +13,6 @@ use Rattle.chosen_files.specs.declared.globs.GlobsError.TheVariants as globs_err
 use Rattle.sd_core.specs.Errors.{of_globs, of_choice}
 use Rattle.sd_core.specs.Selection.{by_globs}
 use Rattle.sd_core.specs.Sweep.{SelectingFails}
-use Rattle.sd_core.specs.declared.error.Error.{Error}
 use Rattle.sd_core.specs.declared.error.Error.TheVariants as error
 
 pub is_told : {T E : Type 0} (r : Result T E) (e : E) → IsErrAnd r (λ x. x ≡ e) → r ≡ Err e

@@ -1,5 +1,5 @@
 -- What holds of the files that are selected.
-use Rattle.std.proofs.Common.{◌≡◌, ◌∙◌, ℕ, List, refl, sym, ap, subst}
+use Rattle.std.proofs.Common.{◌≡◌, ◌∙◌, ℕ, List, sym, subst}
 use Rattle.std.specs.Prelude.{◌↔◌, All, Contains}
 use Rattle.std.proofs.lemmas.Option.{same_Some}
 use Rattle.sd_io.specs.Tree.{NameList, Tree, IsTree}

@@ -1,5 +1,5 @@
 -- A sweep, of its choice and the rewriting of what was chosen.
-use Rattle.std.proofs.Common.{◌≡◌, ℕ, ◌≤◌, Bool, List, ◌∷◌, refl, sym, ◌∙◌, ap, subst, inl, inr, arith}
+use Rattle.std.proofs.Common.{◌≡◌, ℕ, ◌≤◌, Bool, List, sym, ◌∙◌, ap, subst, inl, inr, arith}
 use Rattle.std.specs.Prelude.{Option, Some, None, IsTrue, Contains, All, Result, Ok, Err, IfErr, IsErrAnd, MatchResult, sum_by}
 use Rattle.std.proofs.lemmas.List.Elements.{All-weaker, All-contains}
 use Rattle.sd_io.specs.Tree.{NameList, Content, Tree, IsTree, node_at, file_at}

@@ -1,11 +1,10 @@
 -- What is carried out, from the parts of it.
-use Rattle.std.proofs.Common.{◌≡◌, ◌∙◌, ℕ, ap, subst, sym, refl, inl, inr, List, arith}
+use Rattle.std.proofs.Common.{◌≡◌, ◌∙◌, ℕ, ap, subst, sym, inl, inr, List, arith}
 use Rattle.std.specs.Prelude.{Result, Ok, Err}
 use Rattle.sd_io.specs.Streams.{SinkState}
 use Rattle.sd_course.specs.Course.{Course}
 use Rattle.sd_plan.specs.Plan.{text_of}
 use Rattle.sd_words.specs.declared.options.Options.{Options}
-use Rattle.sd_change.specs.Change.{Change}
 use Rattle.sd_replace.specs.Making.{AnAskedReplacementIsReadable, IsReplacerRefused}
 use Rattle.sd_replace.specs.Replacement.{Replacement, Changes}
 use Rattle.sd_replace.specs.declared.error.ReplacerFault.{ReplacerFault}

@@ -10,8 +10,7 @@ use Rattle.sd_core.proofs.selecting.select.Goals as goal
 pub returns-in_err-globs-clause-bad_glob : goal.returns-in_err-globs-clause-bad_glob
 returns-in_err-globs-clause-bad_glob g c = λ place at.
     let (fault, was, is) = err_of of_globs c.read_globs.result c.in_err-globs.field-0.0 c.in_err-globs.ensures.cases in
-    let told = is_told c.from_residual.result _ c.from_residual.ensures.1 in
-    (
+    let told = is_told c.from_residual.result _ c.from_residual.ensures.1 in (
       refl,
       elim (globs_told c.args.globs.now fault (λ p e. c.read_globs.ensures.invalid p (was ∙ ap Err e)) place at) [
         | inl e ↦ inl (told ∙ ap Err (is ∙ e))
