@@ -1,17 +1,17 @@
 # Completions of sd for bash.
 _sd() {
     local word=${COMP_WORDS[COMP_CWORD]} before=${COMP_WORDS[COMP_CWORD - 1]}
-    local globs= plain= words=0 i
+    local no_files= plain= words=0 i
     COMPREPLY=()
 
-    # What stands before this word: whether the words are globs, whether options have ended, and how many words there are.
+    # What stands before this word: whether no word is a file, whether options have ended, and how many words there are.
     for ((i = 1; i < COMP_CWORD; i++)); do
         if [[ -z $plain ]]; then
             case ${COMP_WORDS[i]} in
                 --) plain=1; continue ;;
-                --root | --demo) globs=1; ((i++)); continue ;;
+                --root | --demo | --apply) no_files=1; ((i++)); continue ;;
                 -n | --max-replacements | -f | --flags) ((i++)); continue ;;
-                --root=* | --demo=*) globs=1; continue ;;
+                --root=* | --demo=* | --apply=*) no_files=1; continue ;;
                 -?*) continue ;;
             esac
         fi
@@ -25,6 +25,11 @@ _sd() {
                 mapfile -t COMPREPLY < <(compgen -d -- "$word")
                 return
                 ;;
+            --apply)
+                compopt -o filenames 2>/dev/null
+                mapfile -t COMPREPLY < <(compgen -f -- "$word")
+                return
+                ;;
             -f | --flags)
                 mapfile -t COMPREPLY < <(compgen -W 'i c w s e m' -- "$word")
                 return
@@ -35,13 +40,13 @@ _sd() {
         esac
         if [[ $word == -* ]]; then
             mapfile -t COMPREPLY < <(compgen -W '-p --preview -F --fixed-strings -s --string-mode -l --line-mode
-                -n --max-replacements -f --flags --root --demo -h --help --' -- "$word")
+                -n --max-replacements -f --flags --root --demo --apply -h --help --' -- "$word")
             return
         fi
     fi
 
-    # FIND and REPLACE_WITH come first. Then come files, or globs, which are the user's.
-    if [[ -z $globs ]] && ((words >= 2)); then
+    # FIND and REPLACE_WITH come first. Then come files, or globs, which are the user's, or nothing where a plan is applied.
+    if [[ -z $no_files ]] && ((words >= 2)); then
         compopt -o filenames 2>/dev/null
         mapfile -t COMPREPLY < <(compgen -f -- "$word")
     fi

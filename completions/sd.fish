@@ -1,6 +1,6 @@
 # Completions of sd for fish.
 
-# The words after the options: no files where they are globs, or where FIND or REPLACE_WITH is being written.
+# The words after the options: no files where they are globs, where a plan is applied, or where FIND or REPLACE_WITH is being written.
 function __sd_takes_files
     set -l words 0
     set -l plain
@@ -14,7 +14,7 @@ function __sd_takes_files
             switch $word
                 case --
                     set plain yes
-                case --root --demo '--root=*' '--demo=*'
+                case --root --demo --apply '--root=*' '--demo=*' '--apply=*'
                     return 1
                 case -n --max-replacements -f --flags
                     set skip yes
@@ -37,4 +37,5 @@ complete -c sd -s n -l max-replacements -x -d 'Replace at most so many matches, 
 complete -c sd -s f -l flags -x -d 'Flags of the search' -a 'i\t"Either case" c\t"As it is written" w\t"Whole words" s\t". takes line feeds" e\t"^ and \$ are of the whole text" m\t"^ and \$ are of each line"'
 complete -c sd -l root -x -a '(__fish_complete_directories)' -d 'Change the files below a folder that fit a glob'
 complete -c sd -l demo -x -d 'Change a tree of so many files in memory'
+complete -c sd -l apply -r -F -d 'Carry out the plan that a file holds'
 complete -c sd -s h -l help -d 'Print help'
