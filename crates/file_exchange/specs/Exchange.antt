@@ -1,6 +1,7 @@
 -- The exchange of one file's bytes.
-use Rattle.std.specs.Prelude.{◌≡◌, ◌≢◌, ◌⊎◌, ℕ, List, Some, IsSome}
-use Rattle.sd_io.specs.Tree.{NameList, Tree, SameBut, node_at, file_at}
+use Rattle.std.specs.Prelude.{◌≡◌, ◌≢◌, ◌⊎◌, ℕ, List, [], Some, IsSome, IsTrue}
+use Rattle.std.specs.List.{AllByRecursion}
+use Rattle.sd_io.specs.Tree.{NameList, IsName, Tree, SameBut, node_at, file_at, is_directory_at}
 use Rattle.sd_io.specs.Paths.{parts_of, parent_of}
 use Rattle.sd_io.specs.Files.{path_text}
 use Rattle.sd_io.specs.Disk.{DiskState}
@@ -15,6 +16,13 @@ use Rattle.file_exchange.specs.Reserved.{FirstFree}
 pub record IsFilePath (tree : Tree) (path : List ℕ) : Type 0 where
   pub path_is : path ≡ path_text (parts_of path)
   pub is_file : IsSome (file_at tree (parts_of path))
+
+-- the path is that of a name in a directory of the tree, without links, `.` and `..`; something may stand there or not
+pub record IsPathIn (tree : Tree) (path : List ℕ) : Type 0 where
+  pub path_is : path ≡ path_text (parts_of path)
+  pub below_top : parts_of path ≢ []
+  pub are_names : AllByRecursion IsName (parts_of path)
+  pub folder : IsTrue (is_directory_at tree (parent_of (parts_of path)))
 
 -- the file that the path is of holds these bytes
 abbrev pub FileHolds : Tree → List ℕ → List ℕ → Type 0

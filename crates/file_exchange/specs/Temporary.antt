@@ -1,7 +1,7 @@
 -- What the steps of an exchange do.
 use Rattle.std.specs.Prelude.{◌≡◌, ◌≢◌, ◌⊎◌, ℕ, List, [], ◌∷◌, Option, Some, None, IsSome}
 use Rattle.sd_io.specs.Tree.{NameList, Content, file, Tree, SameBut, node_at, file_at}
-use Rattle.sd_io.specs.Paths.{parent_of, named}
+use Rattle.sd_io.specs.Paths.{named}
 use Rattle.sd_io.specs.Count.{HasRisen}
 use Rattle.sd_io.specs.Files.{path_text, Removes, CannotRemove}
 use Rattle.sd_io.specs.Outcomes.{Leaves, own, any_file, own_of}
@@ -9,18 +9,20 @@ use Rattle.sd_io.specs.Disk.{DiskState, outcomes_now}
 use Rattle.sd_io.specs.Crashes.{LeavesSince, SettledBut}
 use Rattle.sd_io.specs.Lists.{SyncsFolder}
 use Rattle.file_exchange.specs.Reserved.{FirstFree, IsFolderPath}
+use Rattle.file_exchange.specs.declared.reserved.Temporary.{Temporary}
 
 -- ---- a temporary file is created
 
--- A new empty file with the mode of the one at the place stands at the first reserved name that was free in its folder, and has this path. A crash may
--- leave anything there, and elsewhere what it could before.
-pub record CreatesTemporary (old : DiskState) (place : NameList) (path : List ℕ) (new : DiskState) : Type 0 where
+-- A new empty file with the mode of the one at the place `like` stands at the first reserved name that was free in the folder; it has this number and
+-- this path. A crash may leave anything there, and elsewhere what it could before.
+pub record CreatesTemporary (old : DiskState) (folder like : NameList) (made : Temporary) (new : DiskState) : Type 0 where
   pub temporary : NameList
-  pub was_free : FirstFree old.tree (parent_of place) temporary
-  pub path_is : path ≡ path_text temporary
+  pub was_free : FirstFree old.tree folder temporary
+  pub number_is : made.number ≡ was_free.reserved.0
+  pub path_is : made.path ≡ path_text temporary
   pub bytes : List ℕ
   pub mode : ℕ
-  pub model : file_at old.tree place ≡ Some (bytes, mode)
+  pub model : file_at old.tree like ≡ Some (bytes, mode)
   pub stands : file_at new.tree temporary ≡ Some ([], mode)
   pub others : SameBut temporary old.tree new.tree
   pub fresh : own_of (outcomes_now new temporary) ≡ own any_file ∷ []

@@ -8,13 +8,13 @@ ghost use Rattle.sd_io.specs.Files.{Removes};
 ghost use Rattle.sd_io.specs.Crashes.{IsDurable, KeepsSettled};
 ghost use Rattle.file_exchange.specs.Causes.{HasCauseOf, HasRisenBy};
 ghost use Rattle.file_exchange.specs.Reserved.{NoneFree, reserved_names};
-ghost use Rattle.file_exchange.specs.Exchange.{IsFilePath, FileHolds, Exchanges, LeavesBytes, IsCleared, HasFailed};
+ghost use Rattle.file_exchange.specs.Exchange.{IsFilePath, IsPathIn, FileHolds, Exchanges, LeavesBytes, IsCleared, HasFailed};
 ghost use Rattle.file_exchange.specs.Temporary.{CreatesTemporary, IsReady, ChangesOnly, Moves, MayHaveMoved, FillLeaves, SettlesFolder, IsRemoved};
 ghost use Rattle.file_exchange.specs.Crash.{IsNewFile, ExchangeLeaves, IsPutForGood};
 
-use crate::ExchangeFault;
 use crate::reserved::{folder_path, temporary_path};
-use sd_io::{Disk, DiskFault, Text};
+use crate::{ExchangeFault, Temporary};
+use sd_io::{Disk, DiskFault};
 use std::alloc::Global;
 
 /// Gives the regular file at a path these bytes; its mode is kept. They are written to a temporary file under the first
@@ -51,10 +51,10 @@ pub fn exchange<D: Disk>(
     ensures move_cause { HasCauseOf ExchangeFault.Move D.tells (D.state disk.old) (D.state disk.new) result }
     ensures memory { IsErrOf result (ExchangeFault.Move DiskFault.NoMemory) → ⊥ }
 {
-    let Some(temporary) = create_temporary(alloc, disk, path)? else {
+    let Some(temporary) = create_temporary(alloc, disk, path, path)? else {
         return Err(ExchangeFault::NoName);
     };
-    let temporary = temporary.as_str();
+    let temporary = temporary.path.as_str();
     match fill_and_rename(disk, temporary, path, bytes) {
         Ok(()) => settle(disk, path),
         Err(fault) => Err(clear(disk, temporary, fault)),
@@ -97,17 +97,20 @@ pub fn put<D: Disk>(
     }
 }
 
-/// Creates a file under the first reserved name that is free beside a file, with that file's mode. `None` where none
-/// is free. On a disk that tells its tree the path has no links, `.` or `..`, and leads to a regular file.
+/// Creates a file under the first reserved name that is free in the folder of the path `beside`, with the mode of the file `like`. `None`
+/// where none is free. On a disk that tells its tree both paths have no links, `.` or `..`; `beside` is that of a name in a directory, where
+/// something stands or not, and `like` leads to a regular file.
 pub fn create_temporary<D: Disk>(
     alloc: Global,
     disk: &mut D,
-    path: &str,
-) -> Result<Option<Text>, DiskFault>
-    requires { IsTrue D.tells → IsFilePath (D.state disk.old).tree path.now }
+    beside: &str,
+    like: &str,
+) -> Result<Option<Temporary>, DiskFault>
+    requires beside { IsTrue D.tells → IsPathIn (D.state disk.old).tree beside.now }
+    requires like { IsTrue D.tells → IsFilePath (D.state disk.old).tree like.now }
     ensures created { IsTrue D.tells → IfOk result (λ made. IfSome made (λ temporary.
-        CreatesTemporary (D.state disk.old) (parts_of path.now) temporary (D.state disk.new))) }
-    ensures none_free { IsTrue D.tells → IfOk result (λ made. IfNone made (NoneFree (D.state disk.old).tree (parent_of (parts_of path.now)))) }
+        CreatesTemporary (D.state disk.old) (parent_of (parts_of beside.now)) (parts_of like.now) temporary (D.state disk.new))) }
+    ensures none_free { IsTrue D.tells → IfOk result (λ made. IfNone made (NoneFree (D.state disk.old).tree (parent_of (parts_of beside.now)))) }
     ensures not_created { IsTrue D.tells → IfOk result (λ made. IfNone made (SameTree (D.state disk.old) (D.state disk.new))) }
     ensures refused { IsTrue D.tells → OnErr result (SameTree (D.state disk.old) (D.state disk.new)) }
     ensures risen { D.tells ≡ false → IfOk result (λ made. IfNone made (HasRisenBy reserved_names (D.state disk.old).faults (D.state disk.new).faults)) }
@@ -115,9 +118,9 @@ pub fn create_temporary<D: Disk>(
     ensures cause { HasCauseOf (λ fault. fault) D.tells (D.state disk.old) (D.state disk.new) result }
 {
     for number in 0..=u16::MAX {
-        let temporary = temporary_path(alloc, path, number)?;
-        match disk.create_like(temporary.as_str(), path) {
-            Ok(()) => return Ok(Some(temporary)),
+        let path = temporary_path(alloc, beside, number)?;
+        match disk.create_like(path.as_str(), like) {
+            Ok(()) => return Ok(Some(Temporary { number, path })),
             Err(fault) if fault != DiskFault::Taken => return Err(fault),
             Err(_) => {}
         }

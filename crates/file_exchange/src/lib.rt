@@ -12,3 +12,4 @@ pub use laws::{
     an_exchange_leaves_old_or_new, an_exchanged_file_is_on_the_medium, exchanges_compose,
     exchanges_in_turn_leave_old_or_new, loops_over_files_keep_the_crash_clause,
 };
+pub use reserved::{Temporary, folder_path, temporary_path};

@@ -6,8 +6,18 @@ ghost use Rattle.file_exchange.specs.Reserved.{IsReservedPath, IsFolderPath};
 use sd_io::{NoMemory, Text};
 use std::alloc::Global;
 
-/// The path of the reserved name of this number beside a file: `.sd-0000.tmp` to `.sd-ffff.tmp`.
-pub(crate) fn temporary_path(alloc: Global, path: &str, number: u16) -> Result<Text, NoMemory>
+/// A file that was created under a reserved name.
+#[derive(Drop)]
+pub struct Temporary {
+    /// The number of the reserved name.
+    pub number: u16,
+    /// Its path.
+    pub path: Text,
+}
+
+/// The path of the reserved name of this number in the folder of a path: `.sd-0000.tmp` to `.sd-ffff.tmp`. Refuses for want
+/// of memory alone.
+pub fn temporary_path(alloc: Global, path: &str, number: u16) -> Result<Text, NoMemory>
     ensures path { IfOk result (IsReservedPath path.now number) }
 {
     let folder = folder_of(path);
@@ -15,7 +25,7 @@ pub(crate) fn temporary_path(alloc: Global, path: &str, number: u16) -> Result<T
 }
 
 /// The path of the folder that a file stands in.
-pub(crate) fn folder_path(path: &str) -> &str
+pub fn folder_path(path: &str) -> &str
     ensures { IsFolderPath path.now result.now }
 {
     let folder = folder_of(path);

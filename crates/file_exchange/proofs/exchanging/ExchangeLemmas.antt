@@ -18,6 +18,7 @@ use Rattle.sd_io.proofs.CrashLemmas.{since_same, since_loose, since_folder, sinc
 use Rattle.file_exchange.specs.declared.fault.ExchangeFault.{ExchangeFault}
 use Rattle.file_exchange.specs.Reserved.{reserved_name, FirstFree, IsFolderPath}
 use Rattle.file_exchange.specs.Exchange.{IsFilePath, Exchanges, LeavesBytes, IsCleared}
+use Rattle.file_exchange.specs.declared.reserved.Temporary.{Temporary}
 use Rattle.file_exchange.specs.Temporary.{CreatesTemporary, IsReady, ChangesOnly, Moves, MayHaveMoved, FillLeaves, SettlesFolder, IsRemoved}
 use Rattle.file_exchange.specs.Crash.{IsNewFile, ExchangeLeaves}
 use Rattle.file_exchange.proofs.exchanging.PlaceLemmas.{some_not_none, placed, IsPlaced, folder_leads, reserved_is_name}
@@ -50,11 +51,11 @@ nothing_left s t place bytes same = (
   },
 )
 
-module _ (s0 s1 : DiskState) (path text bytes : List ℕ) (is : IsTree s0.tree) (it : IsFilePath s0.tree path) (c : CreatesTemporary s0 (parts_of path) text s1) where
+module _ (s0 s1 : DiskState) (path : List ℕ) (made : Temporary) (bytes : List ℕ) (is : IsTree s0.tree) (it : IsFilePath s0.tree path) (c : CreatesTemporary s0 (parent_of (parts_of path)) (parts_of path) made s1) where
   at : IsPlaced s0.tree path
   at = placed s0.tree path is it
 
-  temporary_named : named s0.tree text ≡ Some c.temporary
+  temporary_named : named s0.tree made.path ≡ Some c.temporary
   temporary_named =
       let n = c.was_free.reserved.0 in
       let place : c.temporary ≡ parent_of (parts_of path) ++ reserved_name n ∷ [] = c.was_free.reserved.2 in
@@ -66,14 +67,14 @@ module _ (s0 s1 : DiskState) (path text bytes : List ℕ) (is : IsTree s0.tree) 
   apart : c.temporary ≢ parts_of path
   apart e = some_not_none (file_at s0.tree (parts_of path)) it.is_file (ap (file_at s0.tree) (sym e) ∙ ap file_node c.was_free.free)
 
-  names_temporary : named s1.tree text ≡ Some c.temporary
-  names_temporary = named_alike ways text ∙ temporary_named
+  names_temporary : named s1.tree made.path ≡ Some c.temporary
+  names_temporary = named_alike ways made.path ∙ temporary_named
 
   names_path : named s1.tree path ≡ Some (parts_of path)
   names_path = named_alike ways path ∙ at.names
 
   -- the temporary file and the file are two
-  pub is_ready : IsReady s1 text path
+  pub is_ready : IsReady s1 made.path path
   is_ready = record {
     source = c.temporary;
     target = parts_of path;
@@ -87,7 +88,7 @@ module _ (s0 s1 : DiskState) (path text bytes : List ℕ) (is : IsTree s0.tree) 
     fresh = c.fresh;
   }
 
-  mode_is : (mode : ℕ) (before : List ℕ) (source : NameList) → named s1.tree text ≡ Some source → file_at s1.tree source ≡ Some (before, mode) → mode ≡ c.mode
+  mode_is : (mode : ℕ) (before : List ℕ) (source : NameList) → named s1.tree made.path ≡ Some source → file_at s1.tree source ≡ Some (before, mode) → mode ≡ c.mode
   mode_is mode before source names was =
       let place : source ≡ c.temporary = same_Some _ _ (sym names ∙ names_temporary) in
       ap (λ (f : List ℕ × ℕ). f.1) (same_Some (before, mode) ([], c.mode) (sym was ∙ ap (file_at s1.tree) place ∙ c.stands))
@@ -95,7 +96,7 @@ module _ (s0 s1 : DiskState) (path text bytes : List ℕ) (is : IsTree s0.tree) 
   -- ---- the tree
 
   -- the file has the bytes, and all else is as before
-  pub exchanged : (t : DiskState) → Moves s1 text path bytes t → Exchanges s0.tree (parts_of path) bytes t.tree
+  pub exchanged : (t : DiskState) → Moves s1 made.path path bytes t → Exchanges s0.tree (parts_of path) bytes t.tree
   exchanged t m =
       let source : m.source ≡ c.temporary = same_Some _ _ (sym m.leaves ∙ names_temporary) in
       let target : m.target ≡ parts_of path = same_Some _ _ (sym m.comes ∙ names_path) in
@@ -108,10 +109,10 @@ module _ (s0 s1 : DiskState) (path text bytes : List ℕ) (is : IsTree s0.tree) 
       }
 
   -- so the path is a file's still
-  pub still_path : (t : DiskState) → Moves s1 text path bytes t → IsFilePath t.tree path
+  pub still_path : (t : DiskState) → Moves s1 made.path path bytes t → IsFilePath t.tree path
   still_path t m = record { path_is = it.path_is; is_file = ap is_some (exchanged t m).has.holds }
 
-  pub exchanged_still : (t u : DiskState) → Moves s1 text path bytes t → u.tree ≡ t.tree → Exchanges s0.tree (parts_of path) bytes u.tree
+  pub exchanged_still : (t u : DiskState) → Moves s1 made.path path bytes t → u.tree ≡ t.tree → Exchanges s0.tree (parts_of path) bytes u.tree
   exchanged_still t u m same = subst (Exchanges s0.tree (parts_of path) bytes) (sym same) (exchanged t m)
 
   pub leaves_new : (t : Tree) → Exchanges s0.tree (parts_of path) bytes t → LeavesBytes s0.tree (parts_of path) bytes t
@@ -133,48 +134,48 @@ module _ (s0 s1 : DiskState) (path text bytes : List ℕ) (is : IsTree s0.tree) 
   }
 
   -- only the temporary file may differ
-  others_kept : (t : Tree) → (o : ChangesOnly text s1.tree t) → SameBut c.temporary s0.tree t
+  others_kept : (t : Tree) → (o : ChangesOnly made.path s1.tree t) → SameBut c.temporary s0.tree t
   others_kept t o q n = o.others q (λ e. n (e ∙ same_Some _ _ (sym o.names ∙ names_temporary))) ∙ c.others q n
 
   -- after a refusal
   module _ (s2 s3 : DiskState) (kept : SameWays s1.tree s2.tree) where
-    removed_there : (r : Removes s2 text s3) → r.place ≡ c.temporary
-    removed_there r = same_Some _ _ (sym r.names ∙ named_alike kept text ∙ names_temporary)
+    removed_there : (r : Removes s2 made.path s3) → r.place ≡ c.temporary
+    removed_there r = same_Some _ _ (sym r.names ∙ named_alike kept made.path ∙ names_temporary)
 
     -- what was moved can't be removed
-    moved_not_removed : Moves s1 text path bytes s2 → Removes s2 text s3 → ⊥
+    moved_not_removed : Moves s1 made.path path bytes s2 → Removes s2 made.path s3 → ⊥
     moved_not_removed m r =
         let there : r.place ≡ m.source = removed_there r ∙ sym (same_Some _ _ (sym m.leaves ∙ names_temporary)) in
         some_not_none (file_at s2.tree r.place) r.was_file (ap (file_at s2.tree) there ∙ ap file_node m.gone)
 
-    others_left : ChangesOnly text s1.tree s2.tree → SameTree s2 s3 ⊎ Removes s2 text s3 → SameBut c.temporary s0.tree s3.tree
+    others_left : ChangesOnly made.path s1.tree s2.tree → SameTree s2 s3 ⊎ Removes s2 made.path s3 → SameBut c.temporary s0.tree s3.tree
     others_left o (inl same) q n = ap (λ (t : Tree). node_at t q) same.tree ∙ others_kept s2.tree o q n
     others_left o (inr r) q n = r.others q (λ e. n (e ∙ removed_there r)) ∙ others_kept s2.tree o q n
 
     -- the file is old where it wasn't moved
-    pub left_old : ChangesOnly text s1.tree s2.tree → SameTree s2 s3 ⊎ Removes s2 text s3 → node_at s3.tree (parts_of path) ≡ node_at s0.tree (parts_of path)
+    pub left_old : ChangesOnly made.path s1.tree s2.tree → SameTree s2 s3 ⊎ Removes s2 made.path s3 → node_at s3.tree (parts_of path) ≡ node_at s0.tree (parts_of path)
     left_old o outcome = others_left o outcome (parts_of path) (λ e. apart (sym e))
 
     -- the file is old or new
-    pub left : MayHaveMoved s1 text path bytes s2 → SameTree s2 s3 ⊎ Removes s2 text s3 → LeavesBytes s0.tree (parts_of path) bytes s3.tree
+    pub left : MayHaveMoved s1 made.path path bytes s2 → SameTree s2 s3 ⊎ Removes s2 made.path s3 → LeavesBytes s0.tree (parts_of path) bytes s3.tree
     left (inl o) outcome = leaves_old s3.tree (others_left o outcome)
     left (inr m) (inl same) = leaves_new s3.tree (exchanged_still s2 s3 m same.tree)
     left (inr m) (inr r) = absurd (moved_not_removed m r)
 
     -- the temporary file is gone, or a second fault was counted
-    pub cleared : MayHaveMoved s1 text path bytes s2 → SameTree s2 s3 ⊎ Removes s2 text s3 → IsRemoved s2 text s3 → HasRisen s0.faults s2.faults → s2.faults ≤ s3.faults
+    pub cleared : MayHaveMoved s1 made.path path bytes s2 → SameTree s2 s3 ⊎ Removes s2 made.path s3 → IsRemoved s2 made.path s3 → HasRisen s0.faults s2.faults → s2.faults ≤ s3.faults
         → IsCleared s0 (parts_of path) s3
     cleared (inr m) (inl same) out risen low = inl (exchanged_still s2 s3 m same.tree).others
     cleared (inr m) (inr r) out risen low = absurd (moved_not_removed m r)
     cleared (inl o) outcome out risen low = by out.outcome
       where
-        by : Removes s2 text s3 ⊎ CannotRemove s2 text ⊎ HasRisen s2.faults s3.faults → IsCleared s0 (parts_of path) s3
+        by : Removes s2 made.path s3 ⊎ CannotRemove s2 made.path ⊎ HasRisen s2.faults s3.faults → IsCleared s0 (parts_of path) s3
         by (inl r) = inl (λ q other. elim (same_or_other q c.temporary) [
           | inl e ↦ ap (node_at s3.tree) (e ∙ sym (removed_there r)) ∙ r.gone ∙ sym c.was_free.free ∙ ap (node_at s0.tree) (sym e)
           | inr n ↦ others_left o (inr r) q n
         ])
         by (inr (inl none)) =
-            let named_still : named s2.tree text ≡ Some c.temporary = named_alike kept text ∙ names_temporary in
+            let named_still : named s2.tree made.path ≡ Some c.temporary = named_alike kept made.path ∙ names_temporary in
             let here : o.place ≡ c.temporary = same_Some _ _ (sym o.names ∙ names_temporary) in
             absurd (some_not_none (file_at s2.tree o.place) o.is_file (sym (ap (option_and_then (file_at s2.tree)) (named_still ∙ ap (λ (q : NameList). Some q) (sym here))) ∙ none))
         by (inr (inr again)) = inr (risen_twice risen again)
@@ -190,7 +191,7 @@ module _ (s0 s1 : DiskState) (path text bytes : List ℕ) (is : IsTree s0.tree) 
   since_creation : LeavesSince New Loose s0 s1
   since_creation = since_more _ New _ Loose s0 s1 (λ q content none. absurd none) (λ q e. ap (λ (p : NameList). Some p) (sym e)) c.leaves
 
-  since_filling : (t : DiskState) → FillLeaves s1 text path bytes t → LeavesSince New Loose s1 t
+  since_filling : (t : DiskState) → FillLeaves s1 made.path path bytes t → LeavesSince New Loose s1 t
   since_filling t f = since_more _ New _ Loose s1 t
       (λ q content new. record {
         here = new.0 ∙ same_Some _ _ (sym f.comes ∙ names_path);
@@ -202,10 +203,10 @@ module _ (s0 s1 : DiskState) (path text bytes : List ℕ) (is : IsTree s0.tree) 
       (λ q e. ap (λ (p : NameList). Some p) (sym (e ∙ same_Some _ _ (sym f.leaves ∙ names_temporary))))
       f.since
 
-  since_moving : (t : DiskState) → FillLeaves s1 text path bytes t → LeavesSince New Loose s0 t
+  since_moving : (t : DiskState) → FillLeaves s1 made.path path bytes t → LeavesSince New Loose s0 t
   since_moving t f = since_then New Loose s0 s1 t since_creation (since_filling t f)
 
-  settled_moving : (t : DiskState) → FillLeaves s1 text path bytes t → SettledBut c.temporary s0 t
+  settled_moving : (t : DiskState) → FillLeaves s1 made.path path bytes t → SettledBut c.temporary s0 t
   settled_moving t f =
       settled_then c.temporary s0 s1 t c.settled (λ q n is. f.settled q (λ e. n (e ∙ same_Some _ _ (sym f.leaves ∙ names_temporary))) is)
 
@@ -224,24 +225,24 @@ module _ (s0 s1 : DiskState) (path text bytes : List ℕ) (is : IsTree s0.tree) 
   )
 
   -- after a refusal and a removal
-  pub crash_cleared : (s2 s3 : DiskState) → SameWays s1.tree s2.tree → FillLeaves s1 text path bytes s2 → SameTree s2 s3 ⊎ Removes s2 text s3 → Leaving s3
+  pub crash_cleared : (s2 s3 : DiskState) → SameWays s1.tree s2.tree → FillLeaves s1 made.path path bytes s2 → SameTree s2 s3 ⊎ Removes s2 made.path s3 → Leaving s3
   crash_cleared s2 s3 kept f (inl same) = leaving s3 (since_then New Loose s0 s2 s3 (since_moving s2 f) (since_same New Loose s2 s3 same)) (settled_then c.temporary s0 s2 s3 (settled_moving s2 f) (λ q n is. settled_same s2 s3 same q is))
   crash_cleared s2 s3 kept f (inr r) =
       leaving s3 (since_then New Loose s0 s2 s3 (since_moving s2 f) (since_loose New Loose s2 s3 r.place _ r.advances (ap (λ (p : NameList). Some p) (sym (removed_there s2 s3 kept r)))))
       (settled_then c.temporary s0 s2 s3 (settled_moving s2 f) (λ q n is. settled_put s2 s3 r.place _ r.advances r.others q (λ e. n (e ∙ removed_there s2 s3 kept r)) is))
 
   -- after the file was moved
-  pub crash_moved : (t u : DiskState) → FillLeaves s1 text path bytes t → SameTree t u → Leaving u
+  pub crash_moved : (t u : DiskState) → FillLeaves s1 made.path path bytes t → SameTree t u → Leaving u
   crash_moved t u f same = leaving u (since_then New Loose s0 t u (since_moving t f) (since_same New Loose t u same)) (settled_then c.temporary s0 t u (settled_moving t f) (λ q n is. settled_same t u same q is))
 
   -- and its folder put on the medium
-  pub crash_synced : (t u : DiskState) (folder : List ℕ) → HoldsPresent t → FillLeaves s1 text path bytes t → SyncsFolder t folder u → Leaving u
+  pub crash_synced : (t u : DiskState) (folder : List ℕ) → HoldsPresent t → FillLeaves s1 made.path path bytes t → SyncsFolder t folder u → Leaving u
   crash_synced t u folder holds f y = leaving u (since_then New Loose s0 t u (since_moving t f) (since_folder New Loose t u y.folder holds y.advances))
       (settled_then c.temporary s0 t u (settled_moving t f) (λ q n is. settled_folder t u y.folder y.tree y.advances q is))
 
   -- ---- from then on
 
-  module _ (t u : DiskState) (folder : List ℕ) (is_now : IsTree t.tree) (holds0 : HoldsPresent s0) (holds : HoldsPresent t) (f : FillLeaves s1 text path bytes t) (m : Moves s1 text path bytes t)
+  module _ (t u : DiskState) (folder : List ℕ) (is_now : IsTree t.tree) (holds0 : HoldsPresent s0) (holds : HoldsPresent t) (f : FillLeaves s1 made.path path bytes t) (m : Moves s1 made.path path bytes t)
       (of : IsFolderPath path folder) (y : SyncsFolder t folder u) where
     folder_is : y.folder ≡ parent_of (parts_of path)
     folder_is = same_Some _ _ (sym y.leads ∙ folder_leads t.tree path folder is_now (still_path t m) of)
@@ -305,16 +306,16 @@ module _ (s0 s1 : DiskState) (path text bytes : List ℕ) (is : IsTree s0.tree) 
 
   -- ---- after the file was moved, whatever the folder's sync answers
 
-  pub settled_tree : (r : Result (Unit {0}) ExchangeFault) (t u : DiskState) → Moves s1 text path bytes t → OnOk r (SettlesFolder t path u) → OnErr r (SameTree t u) → u.tree ≡ t.tree
+  pub settled_tree : (r : Result (Unit {0}) ExchangeFault) (t u : DiskState) → Moves s1 made.path path bytes t → OnOk r (SettlesFolder t path u) → OnErr r (SameTree t u) → u.tree ≡ t.tree
   settled_tree (Ok done) t u m (folder, of, y) refused = y.tree
   settled_tree (Err fault) t u m settled refused = refused.tree
 
-  pub settled_crash : (r : Result (Unit {0}) ExchangeFault) (t u : DiskState) → HoldsPresent t → FillLeaves s1 text path bytes t → OnOk r (SettlesFolder t path u) → OnErr r (SameTree t u)
+  pub settled_crash : (r : Result (Unit {0}) ExchangeFault) (t u : DiskState) → HoldsPresent t → FillLeaves s1 made.path path bytes t → OnOk r (SettlesFolder t path u) → OnErr r (SameTree t u)
       → Leaving u
   settled_crash (Ok done) t u holds f (folder, of, y) refused = crash_synced t u folder holds f y
   settled_crash (Err fault) t u holds f settled refused = crash_moved t u f refused
 
-  pub settled_durable : (r : Result (Unit {0}) ExchangeFault) (t u : DiskState) → IsTree t.tree → HoldsPresent s0 → HoldsPresent t → FillLeaves s1 text path bytes t → Moves s1 text path bytes t
+  pub settled_durable : (r : Result (Unit {0}) ExchangeFault) (t u : DiskState) → IsTree t.tree → HoldsPresent s0 → HoldsPresent t → FillLeaves s1 made.path path bytes t → Moves s1 made.path path bytes t
       → OnOk r (SettlesFolder t path u) → OnOk r (IsDurable New s0 u)
   settled_durable (Ok done) t u is_now holds0 holds f m (folder, of, y) = durable t u folder is_now holds0 holds f m of y
   settled_durable (Err fault) t u is_now holds0 holds f m settled = tt

@@ -1,6 +1,7 @@
 -- Where a file's path leads, and that reserved names are names.
 use Rattle.std.proofs.Common.{◌≡◌, ◌≢◌, ℕ, ◌+◌, ◌/◌, ◌%◌, Bool, true, false, cond, List, [], ◌∷◌, ◌++◌, refl, sym, ◌∙◌, ap, subst, arith, ltb}
 use Rattle.std.specs.Prelude.{Option, Some, None, IsSome, IsTrue, All, codes}
+use Rattle.std.specs.List.{AllByRecursion}
 use Rattle.std.specs.Option.{option_and_then}
 use Rattle.std.proofs.lemmas.List.Elements.{All-from_recursion, All-cons, All-append, All-contains}
 use Rattle.sd_io.specs.Tree.{Name, NameList, Node, Tree, IsTree, IsName, Content, directory, link, file, other, node_at, is_directory_node, is_directory_content, is_directory_at, file_node, file_content, file_at}
@@ -8,9 +9,9 @@ use Rattle.sd_io.specs.Paths.{parts_of, parent_of, reached, named}
 use Rattle.sd_io.specs.Files.{path_text, file_of}
 use Rattle.sd_io.specs.Lists.{directory_of}
 use Rattle.sd_io.proofs.PathLemmas.{reached_file}
-use Rattle.sd_io.proofs.PathTextLemmas.{text_names, text_directory}
+use Rattle.sd_io.proofs.PathTextLemmas.{text_names, text_directory, names_of}
 use Rattle.file_exchange.specs.Reserved.{hex_digit, reserved_name, Free, FirstFree, IsFolderPath}
-use Rattle.file_exchange.specs.Exchange.{IsFilePath}
+use Rattle.file_exchange.specs.Exchange.{IsFilePath, IsPathIn}
 
 pub some_not_none : {A : Type 0} (o : Option A) → IsSome o → o ≢ None
 some_not_none None s = λ e. cc
@@ -31,7 +32,7 @@ leads_to_file tree path place at none =
 -- ---- the file's place
 
 -- a place below the top is a name in its parent
-parent_and_name : (place : NameList) → place ≢ [] → (name : Name) × (place ≡ parent_of place ++ name ∷ [])
+pub parent_and_name : (place : NameList) → place ≢ [] → (name : Name) × (place ≡ parent_of place ++ name ∷ [])
 parent_and_name [] below = absurd (below refl)
 parent_and_name (name ∷ []) below = (name, refl)
 parent_and_name (name ∷ next ∷ more) below =
@@ -47,6 +48,33 @@ not_both (Some node) d f = by node.content d f
     by (link target) d f = cc
     by (file bytes mode) d f = cc
     by other d f = cc
+
+-- the name that a path ends in, and its folder
+pub record IsBeside (tree : Tree) (path : List ℕ) : Type 0 where
+  pub name : Name
+  pub place_is : parts_of path ≡ parent_of (parts_of path) ++ name ∷ []
+  pub is_name : IsName name
+  pub folder : IsTrue (is_directory_at tree (parent_of (parts_of path)))
+  pub text : path ≡ path_text (parent_of (parts_of path) ++ name ∷ [])
+
+pub last_name : (folder : NameList) (name : Name) → AllByRecursion IsName (folder ++ name ∷ []) → IsName name
+last_name [] name are = are.0
+last_name (first ∷ folder) name are = last_name folder name are.1
+
+pub is_beside : (tree : Tree) (path : List ℕ) → IsPathIn tree path → IsBeside tree path
+is_beside tree path it =
+    let last = parent_and_name (parts_of path) it.below_top in
+    record {
+      name = last.0;
+      place_is = last.1;
+      is_name = last_name (parent_of (parts_of path)) last.0 (subst (AllByRecursion IsName) last.1 it.are_names);
+      folder = it.folder;
+      text = it.path_is ∙ ap path_text last.1;
+    }
+
+file_stands : (o : Option Node) → IsSome (file_node o) → IsSome o
+file_stands None f = f
+file_stands (Some node) f = refl
 
 -- where a file's path leads, and what it names
 pub record IsPlaced (tree : Tree) (path : List ℕ) : Type 0 where
@@ -77,10 +105,15 @@ placed tree path is it =
       names = names;
       leads = reached_file tree path true place names it.is_file;
     }
-  where
-    file_stands : (o : Option Node) → IsSome (file_node o) → IsSome o
-    file_stands None f = f
-    file_stands (Some node) f = refl
+
+-- a file's path is one of a name in a directory
+pub file_path_in : (tree : Tree) (path : List ℕ) → IsTree tree → IsFilePath tree path → IsPathIn tree path
+file_path_in tree path is it = record {
+  path_is = it.path_is;
+  below_top = λ e. not_both (node_at tree []) is.top (subst (λ (q : NameList). IsSome (file_at tree q)) e it.is_file);
+  are_names = names_of tree is (parts_of path) (file_stands (node_at tree (parts_of path)) it.is_file);
+  folder = (placed tree path is it).folder;
+}
 
 -- its folder's path leads to the folder
 pub folder_leads : (tree : Tree) (path folder : List ℕ) → IsTree tree → IsFilePath tree path → IsFolderPath path folder → directory_of tree folder ≡ Some (parent_of (parts_of path))

@@ -6,8 +6,15 @@ use Rattle.sd_io.specs.declared.fault.DiskFault.TheVariants as disk
 use Rattle.file_exchange.specs.declared.fault.ExchangeFault.{ExchangeFault}
 use Rattle.file_exchange.specs.declared.fault.ExchangeFault.TheVariants as exchange_fault
 use Rattle.file_exchange.proofs.exchanging.CauseLemmas.{on_ok, at_err, if_err, before_move, failed_before, failed_risen, risen_since, later_cause, no_cause}
+use Rattle.file_exchange.proofs.exchanging.PlaceLemmas.{file_path_in}
 use Rattle.file_exchange.proofs.exchanging.ExchangeLemmas.{nothing_left, is_ready, still_path, exchanged_still, leaves_new, left_old, left, cleared, crash_cleared, settled_tree, settled_crash, settled_durable}
 use Rattle.file_exchange.proofs.exchanging.exchange.Goals as goal
+
+pub create_temporary-requires : goal.create_temporary-requires
+create_temporary-requires g c = record {
+  beside = λ told. file_path_in _ c.args.path.now (g.met.D.Disk.is_tree c.args.disk.now told) (c.requires told);
+  like = c.requires;
+}
 
 pub fill_and_rename-requires : goal.fill_and_rename-requires
 fill_and_rename-requires g c =

@@ -1,0 +1,4 @@
+pub mod Between
+pub mod Phases
+pub mod Recovery
+pub mod Examples
