@@ -19,7 +19,8 @@ use std::alloc::Global;
 
 /// Gives the regular file at a path these bytes; its mode is kept. They are written to a temporary file under the first
 /// reserved name that is free beside it, which is put on the medium and then in the file's place, and that on the medium
-/// too. After a refusal the temporary file is removed.
+/// too. After a refusal the temporary file is removed, also where a step wants memory; it stays where its removal is refused, or
+/// wants memory itself.
 ///
 /// On a disk that tells its tree the path has no links, `.` or `..`, and leads to a regular file. Refuses with a counted
 /// fault, where no reserved name of the folder is free, or for want of memory; the file is then old, or new where the

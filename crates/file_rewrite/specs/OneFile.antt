@@ -8,7 +8,7 @@ use Rattle.sd_io.specs.declared.fault.DiskFault.{DiskFault}
 use Rattle.sd_io.specs.declared.fault.DiskFault.TheVariants as disk
 use Rattle.sd_change.specs.Change.{Change, FileChange}
 use Rattle.sd_course.specs.Course.{Course, AsTold, HasRisenBy, DiskFailed}
-use Rattle.file_exchange.specs.Reserved.{Free, reserved_names}
+use Rattle.file_exchange.specs.Reserved.{Free, FirstFree, reserved_names}
 use Rattle.file_rewrite.specs.Paths.{IsNoPath}
 use Rattle.file_rewrite.specs.Rewritten.{IsLeft, IsOld, IsNewFile, IsChangedFile}
 use Rattle.file_rewrite.specs.declared.rewrite.Rewrite.{Rewrite}
@@ -33,15 +33,15 @@ pub record RewritesFile (change : Change) (path : List ℕ) (rewrite : Rewrite) 
 
 -- ---- refused
 
--- The file at the place is left. At most one reserved name of its folder, which was free, may still be taken: only where the file is old, and its removal
--- was refused as well.
+-- The file at the place is left. At most one reserved name of its folder, the first that was free, may still be taken: only where the file is old, and its
+-- removal was refused as well.
 pub record LeavesAt (change : Change) (path : List ℕ) (fault : JobFault) (old new : DiskState) : Type 0 where
   pub place : NameList
   pub leads : reached old.tree path true ≡ Some place
   pub is_file : IsSome (file_at old.tree place)
   pub left : IsLeft (FileChange change) old.tree new.tree place fault
   pub temporary : Option NameList
-  pub was_free : (q : NameList) → temporary ≡ Some q → Free old.tree (parent_of place) q
+  pub was_free : (q : NameList) → temporary ≡ Some q → FirstFree old.tree (parent_of place) q
   pub others : (q : NameList) → q ≢ place → temporary ≢ Some q → node_at new.tree q ≡ node_at old.tree q
   pub old_or_alone : IsOld old.tree new.tree place ⊎ (temporary ≡ None)
   pub two_refusals : (fault ≡ job.NoMemory) ⊎ (temporary ≡ None) ⊎ HasRisenBy 2 old.faults new.faults
@@ -97,9 +97,9 @@ IsNewAt change tree path q content = (reached tree path true ≡ Some q) × IsNe
 abbrev pub IsChangedAt : Change → Tree → List ℕ → NameList → Content → Type 0
 IsChangedAt change tree path q content = (reached tree path true ≡ Some q) × IsChangedFile (FileChange change) tree q content
 
--- a free reserved name in the folder of the file that the path leads to
-pub record IsFreeBy (tree : Tree) (path : List ℕ) (temporary : NameList) : Type 0 where
+-- the first reserved name that is free in the folder of the file that the path leads to
+pub record IsFirstFreeBy (tree : Tree) (path : List ℕ) (temporary : NameList) : Type 0 where
   pub place : NameList
   pub leads : reached tree path true ≡ Some place
   pub is_file : IsSome (file_at tree place)
-  pub free : Free tree (parent_of place) temporary
+  pub first : FirstFree tree (parent_of place) temporary

@@ -5,7 +5,7 @@ ghost use Rattle.sd_io.specs.Disk.{SameLists};
 ghost use Rattle.sd_io.specs.Crashes.{LeavesSince, KeepsSettled};
 ghost use Rattle.sd_course.specs.Course.{course};
 ghost use Rattle.file_rewrite.specs.Paths.{IsNoPath};
-ghost use Rattle.file_rewrite.specs.OneFile.{HasFileCause, IsFreeBy};
+ghost use Rattle.file_rewrite.specs.OneFile.{HasFileCause, IsFirstFreeBy};
 ghost use Rattle.file_rewrite.specs.Putting.{PutsFile, LeavesPutFile, IsPutAt};
 
 use crate::JobFault;
@@ -20,7 +20,7 @@ use std::alloc::Global;
 /// holds them already isn't rewritten, but the names in its folder are put on the medium all the same.
 ///
 /// Refuses as `replace_file`. On a disk that tells its tree a crash at any moment leaves the file as one at entry could
-/// have left it, or with its mode and these bytes; anything at the reserved names that were free in its folder; and all else as
+/// have left it, or with its mode and these bytes; anything at the first reserved name that was free in its folder; and all else as
 /// one at entry could have left it. After `Ok` a crash leaves the file by its own outcomes alone. What was settled at entry is so
 /// at every exit.
 pub fn put_file<D: Disk>(
@@ -33,7 +33,7 @@ pub fn put_file<D: Disk>(
     ensures left { IsTrue D.tells → IfErr result (λ fault. LeavesPutFile path.now bytes.now fault (D.state disk.old) (D.state disk.new)) }
     ensures cause { IfErr result (λ fault. HasFileCause (course D.tells (D.state disk.old) (D.state disk.new)) path.now fault) }
     ensures no_path { IsNoPath path.now → (disk.new ≡ disk.old) × (result ≡ Err JobFault.InvalidPath) }
-    ensures crash { IsTrue D.tells → LeavesSince (IsPutAt bytes.now (D.state disk.old).tree path.now) (IsFreeBy (D.state disk.old).tree path.now)
+    ensures crash { IsTrue D.tells → LeavesSince (IsPutAt bytes.now (D.state disk.old).tree path.now) (IsFirstFreeBy (D.state disk.old).tree path.now)
         (D.state disk.old) (D.state disk.new) }
     ensures settled { IsTrue D.tells → KeepsSettled (D.state disk.old) (D.state disk.new) }
     ensures lists { SameLists (D.state disk.old) (D.state disk.new) }

@@ -7,7 +7,7 @@ ghost use Rattle.sd_change.specs.Change.{FileChange, TellsRewritten, AreFewIn};
 ghost use Rattle.sd_course.specs.Course.{course};
 ghost use Rattle.file_rewrite.specs.Paths.{IsNoPath};
 ghost use Rattle.file_rewrite.specs.Reading.{FindsFile};
-ghost use Rattle.file_rewrite.specs.OneFile.{RewritesFile, LeavesFile, HasFileCause, IsNewAt, IsChangedAt, IsFreeBy};
+ghost use Rattle.file_rewrite.specs.OneFile.{RewritesFile, LeavesFile, HasFileCause, IsNewAt, IsChangedAt, IsFirstFreeBy};
 
 use crate::path::is_no_path;
 use crate::{JobFault, Rewrite};
@@ -27,7 +27,7 @@ use std::alloc::Global;
 /// `NoMemory`. One counted fault leaves no temporary file.
 ///
 /// On a disk that tells its tree a crash at any moment leaves the file as one at entry could have left it, or with its mode
-/// and its new bytes; it may leave anything at the reserved names that were free in its folder; and all else as one at
+/// and its new bytes; it may leave anything at the first reserved name that was free in its folder; and all else as one at
 /// entry could have left it. After `Ok` each crash leaves the new bytes of a file whose bytes change, and all else as one at
 /// entry could have left it.
 pub fn replace_file<D: Disk, R: Replaces>(
@@ -41,7 +41,7 @@ pub fn replace_file<D: Disk, R: Replaces>(
     ensures left { IsTrue D.tells → IfErr result (λ fault. LeavesFile (R.change replacer.now) path.now fault (D.state disk.old) (D.state disk.new)) }
     ensures cause { IfErr result (λ fault. HasFileCause (course D.tells (D.state disk.old) (D.state disk.new)) path.now fault) }
     ensures no_path { IsNoPath path.now → (disk.new ≡ disk.old) × (result ≡ Err JobFault.InvalidPath) }
-    ensures crash { IsTrue D.tells → LeavesSince (IsNewAt (R.change replacer.now) (D.state disk.old).tree path.now) (IsFreeBy (D.state disk.old).tree path.now)
+    ensures crash { IsTrue D.tells → LeavesSince (IsNewAt (R.change replacer.now) (D.state disk.old).tree path.now) (IsFirstFreeBy (D.state disk.old).tree path.now)
         (D.state disk.old) (D.state disk.new) }
     ensures durable { IsTrue D.tells → OnOk result (IsDurable (IsChangedAt (R.change replacer.now) (D.state disk.old).tree path.now)
         (D.state disk.old) (D.state disk.new)) }

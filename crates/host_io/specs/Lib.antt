@@ -4,3 +4,5 @@ pub mod HostDiskState
 pub mod Told
 pub mod KnownFolders
 pub mod KnownFile
+pub mod Folders
+pub mod HostKnown

@@ -5,6 +5,7 @@ ghost use Rattle.sd_io.specs.Disk.{SameTree, SameLists};
 ghost use Rattle.sd_io.specs.Lists.{IsOpen, IsUnfinished, SameOtherLists, SameOpen, Opens, Ends, Gives, PassesOver, IsFull};
 ghost use Rattle.host_io.specs.HostDisk.{IsCounted};
 ghost use Rattle.host_io.specs.HostDiskState.{host_state};
+ghost use Rattle.host_io.specs.HostKnown.{AsksTheHost, HasNothingTold, KnowsNothingAt};
 ghost use Rattle.open_lists.specs.OpenLists.{told_list, KeepsTold};
 
 use crate::faults::FaultCounter;
@@ -288,6 +289,8 @@ where
         ensures tree { SameTree (host_state self.old) (host_state self.new) }
         ensures lists { SameLists (host_state self.old) (host_state self.new) }
         ensures count { IsCounted (host_state self.old).faults (host_state self.new).faults result }
+        ensures untold { HasNothingTold self.new }
+        ensures unknown { KnowsNothingAt self.new path.now }
     {
         self.folders.change_name(path);
         let told = self.counter.regular(self.folders.status(&self.rt, like))?;
@@ -310,6 +313,7 @@ where
         ensures tree { SameTree (host_state self.old) (host_state self.new) }
         ensures lists { SameLists (host_state self.old) (host_state self.new) }
         ensures count { IsCounted (host_state self.old).faults (host_state self.new).faults result }
+        ensures untold { HasNothingTold self.new }
     {
         self.folders.change_bytes();
         match &mut self.new_file {
@@ -343,6 +347,7 @@ where
         ensures tree { SameTree (host_state self.old) (host_state self.new) }
         ensures lists { SameLists (host_state self.old) (host_state self.new) }
         ensures count { IsCounted (host_state self.old).faults (host_state self.new).faults result }
+        ensures asks { AsksTheHost self.new }
     {
         let is_file = self.folders.knows_file(to);
         self.folders.change_names();
@@ -366,6 +371,7 @@ where
         ensures tree { SameTree (host_state self.old) (host_state self.new) }
         ensures lists { SameLists (host_state self.old) (host_state self.new) }
         ensures count { IsCounted (host_state self.old).faults (host_state self.new).faults result }
+        ensures asks { AsksTheHost self.new }
     {
         self.folders.change_names();
         let place = self.counter.counted(self.folders.place(&self.rt, path))?;

@@ -1,6 +1,7 @@
 //! The open lists of the host.
 
 ghost use Rattle.std.specs.Prelude.{◌≡◌, ◌≢◌, ◌↔◌, ◌≤◌, IfOk, IsTrue, IsErrAnd, length};
+ghost use Rattle.std.specs.Fs.{IsFile, file_type, metadata_len};
 ghost use Rattle.std.specs.IoError.{error_kind};
 ghost use Rattle.host_io.specs.HostDisk.{IsOfKind};
 
@@ -58,7 +59,11 @@ pub fn kind_of(metadata: &Metadata) -> Kind
 }
 
 /// The kind of a node, and a regular file's number of bytes, by what the host tells of it.
-pub fn meta_of(metadata: &Metadata) -> Meta {
+pub fn meta_of(metadata: &Metadata) -> Meta
+    ensures kind { IsOfKind metadata.now result.kind }
+    ensures len { IsFile (file_type metadata.now) → result.len ≡ metadata_len metadata.now }
+    ensures no_len { ¬ IsFile (file_type metadata.now) → result.len ≡ 0 }
+{
     let kind = kind_of(metadata);
     let len = if metadata.is_file() {
         metadata.len()
@@ -129,7 +134,8 @@ fn tell<R: Files + AllocGlobal + Drop>(
 ) -> io::Result<RawEntry>
 where
     R::File: AsRawFd,
-    ensures { IfOk result (λ told. told.name ≡ entry.entry.name.now) }
+    ensures name { IfOk result (λ told. told.name ≡ entry.entry.name.now) }
+    ensures file { folders.new.file ≡ folders.old.file }
 {
     let metadata = rt.symlink_metadata(entry.path)?;
     let name = String::from_str(alloc, entry.name)?;
@@ -164,7 +170,9 @@ where
         rt: &R,
         alloc: Global,
         folders: &mut Folders<R>,
-    ) -> Result<Option<RawEntry>, ListFault> {
+    ) -> Result<Option<RawEntry>, ListFault>
+        ensures { folders.new.file ≡ folders.old.file }
+    {
         let len = match self.next_len() {
             Ok(None) => return Ok(None),
             Ok(Some(len)) => len,
@@ -203,7 +211,9 @@ where
         alloc: Global,
         folders: &mut Folders<R>,
         len: usize,
-    ) -> io::Result<RawEntry> {
+    ) -> io::Result<RawEntry>
+        ensures { folders.new.file ≡ folders.old.file }
+    {
         let Some(name) = first_name(self.names.buffer(), len) else {
             return Err(io::Error::from(ErrorKind::InvalidFilename));
         };

@@ -51,7 +51,8 @@ impl Told {
 
     /// Nothing was told.
     pub fn new(alloc: Global) -> Told
-        ensures { (path : List ℕ) (meta : Meta) → ¬ IsTold result path meta }
+        ensures nothing { (path : List ℕ) (meta : Meta) → ¬ IsTold result path meta }
+        ensures count { told_count result ≡ 0 }
     {
         Told {
             folder: String::new(alloc),
@@ -158,6 +159,7 @@ impl Told {
     /// Forgets what was told.
     pub fn forget(&mut self)
         ensures nothing { (path : List ℕ) (meta : Meta) → ¬ IsTold self.new path meta }
+        ensures count { told_count self.new ≡ 0 }
         ensures folder { string_bytes self.new.folder ≡ [] }
     {
         self.entries.clear();

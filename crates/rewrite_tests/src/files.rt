@@ -8,7 +8,7 @@ use std::alloc::Global;
 use std::test::Fail;
 
 /// A disk with a file, an empty file, a folder and a link to the file.
-fn small_disk(alloc: Global) -> Result<MemDisk, Fail> {
+pub fn small_disk(alloc: Global) -> Result<MemDisk, Fail> {
     let mut disk = MemDisk::new(alloc);
     disk.add_dir("/t")?;
     disk.add_file("/t/a.txt", b"one two one", 0o640)?;
@@ -18,7 +18,7 @@ fn small_disk(alloc: Global) -> Result<MemDisk, Fail> {
 }
 
 /// Whether the file at a path holds these bytes.
-fn holds(alloc: Global, disk: &MemDisk, path: &str, bytes: &[u8]) -> Result<bool, Fail> {
+pub fn holds(alloc: Global, disk: &MemDisk, path: &str, bytes: &[u8]) -> Result<bool, Fail> {
     match disk.read_all(alloc, path)? {
         None => Ok(false),
         Some(held) => Ok(held.as_slice() == bytes),

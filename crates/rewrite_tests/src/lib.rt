@@ -4,6 +4,10 @@
 #[cfg(test)]
 mod files;
 #[cfg(test)]
+mod memory;
+#[cfg(test)]
 mod replacers;
+#[cfg(test)]
+mod scarce;
 #[cfg(test)]
 mod streams;

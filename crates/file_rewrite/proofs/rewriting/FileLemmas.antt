@@ -17,18 +17,17 @@ use Rattle.sd_course.specs.Course.{HasRisenBy}
 use Rattle.file_exchange.specs.declared.fault.ExchangeFault.{ExchangeFault}
 use Rattle.file_exchange.specs.declared.fault.ExchangeFault.TheVariants as exchange
 use Rattle.file_exchange.specs.Causes.{HasCauseOf}
-use Rattle.file_exchange.specs.Reserved.{Free, FirstFree}
+use Rattle.file_exchange.specs.Reserved.{FirstFree}
 use Rattle.file_exchange.specs.Exchange.{IsFilePath, HasBytes, Exchanges, LeavesBytes, IsCleared, HasFailed}
 use Rattle.file_exchange.specs.Crash as exchange_crash
 use Rattle.file_exchange.specs.Crash.{ExchangeLeaves}
-use Rattle.file_exchange.proofs.PlaceLemmas.{is_free}
 use Rattle.file_rewrite.specs.declared.rewrite.Rewrite.{Rewrite}
 use Rattle.file_rewrite.specs.declared.fault.JobFault.{JobFault}
 use Rattle.file_rewrite.specs.declared.fault.JobFault.TheVariants as job
 use Rattle.file_rewrite.specs.Faults.{as_exchange_job}
 use Rattle.file_rewrite.specs.Reading.{FindsFile}
 use Rattle.file_rewrite.specs.Rewritten.{IsOldOrNew, IsLeft}
-use Rattle.file_rewrite.specs.OneFile.{RewritesFile, LeavesAt, LeavesFile, IsNewAt, IsChangedAt, IsFreeBy}
+use Rattle.file_rewrite.specs.OneFile.{RewritesFile, LeavesAt, LeavesFile, IsNewAt, IsChangedAt, IsFirstFreeBy}
 
 -- a file becomes one thing
 pub one_of_file : (change : Change) → IsOne change → IsOne (FileChange change)
@@ -160,7 +159,7 @@ module _ (change : Change) (s0 s1 : DiskState) (path own bytes : List ℕ) (same
           is_file = ap is_some f.was;
           left = left;
           temporary = Some b.temporary;
-          was_free = λ q e. subst (λ (p : NameList). Free s0.tree (parent_of (parts_of own)) p) (same_Some _ _ e) (is_free first);
+          was_free = λ q e. subst (λ (p : NameList). FirstFree s0.tree (parent_of (parts_of own)) p) (same_Some _ _ e) first;
           others = λ q n m. b.others q n (λ e. m (ap (λ (p : NameList). Some p) (sym e)));
           old_or_alone = inl old;
           two_refusals = elim two [ inl memory ↦ inl memory | inr twice ↦ inr (inr twice) ];
@@ -232,15 +231,15 @@ module _ (change : Change) (s0 s1 : DiskState) (path own bytes : List ℕ) (same
           },
         )
 
-    pub crash_file : ExchangeLeaves (parts_of own) new s1 s2 → LeavesSince (IsNewAt change s0.tree path) (IsFreeBy s0.tree path) s0 s2
+    pub crash_file : ExchangeLeaves (parts_of own) new s1 s2 → LeavesSince (IsNewAt change s0.tree path) (IsFirstFreeBy s0.tree path) s0 s2
     crash_file e =
         since_then _ _ s0 s1 s2 (since_same _ _ s0 s1 same)
-        (since_more _ (IsNewAt change s0.tree path) (λ q. e.temporary ≡ Some q) (IsFreeBy s0.tree path) s1 s2 new_at
+        (since_more _ (IsNewAt change s0.tree path) (λ q. e.temporary ≡ Some q) (IsFirstFreeBy s0.tree path) s1 s2 new_at
         (λ q aside. record {
           place = parts_of own;
           leads = f.leads;
           is_file = ap is_some f.was;
-          free = subst (λ (t : Tree). Free t (parent_of (parts_of own)) q) same.tree (is_free (e.was_free q aside));
+          first = subst (λ (t : Tree). FirstFree t (parent_of (parts_of own)) q) same.tree (e.was_free q aside);
         })
         e.leaves)
 

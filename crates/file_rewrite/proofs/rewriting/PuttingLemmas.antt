@@ -12,16 +12,15 @@ use Rattle.sd_course.specs.Course.{HasRisenBy}
 use Rattle.file_exchange.specs.declared.fault.ExchangeFault.{ExchangeFault}
 use Rattle.file_exchange.specs.declared.fault.ExchangeFault.TheVariants as exchange
 use Rattle.file_exchange.specs.Causes.{HasCauseOf}
-use Rattle.file_exchange.specs.Reserved.{Free}
+use Rattle.file_exchange.specs.Reserved.{FirstFree}
 use Rattle.file_exchange.specs.Exchange.{IsFilePath, FileHolds, Exchanges, LeavesBytes, IsCleared, HasFailed}
 use Rattle.file_exchange.specs.Crash as exchange_crash
 use Rattle.file_exchange.specs.Crash.{ExchangeLeaves, IsPutForGood}
-use Rattle.file_exchange.proofs.PlaceLemmas.{is_free}
 use Rattle.file_rewrite.specs.declared.fault.JobFault.{JobFault}
 use Rattle.file_rewrite.specs.declared.fault.JobFault.TheVariants as job
 use Rattle.file_rewrite.specs.Faults.{as_exchange_job}
 use Rattle.file_rewrite.specs.Reading.{FindsFile}
-use Rattle.file_rewrite.specs.OneFile.{IsFreeBy}
+use Rattle.file_rewrite.specs.OneFile.{IsFirstFreeBy}
 use Rattle.file_rewrite.specs.Putting.{PutsFile, IsBeforeMove, LeavesPut, LeavesPutFile, IsPutAt}
 use Rattle.file_rewrite.proofs.rewriting.FileLemmas.{same_then, cleared_since}
 
@@ -58,15 +57,15 @@ module _ (s0 s1 s2 : DiskState) (path own held bytes : List ℕ) (same : SameTre
     },
   )
 
-  pub put_crash : ExchangeLeaves (parts_of own) bytes s1 s2 → LeavesSince (IsPutAt bytes s0.tree path) (IsFreeBy s0.tree path) s0 s2
+  pub put_crash : ExchangeLeaves (parts_of own) bytes s1 s2 → LeavesSince (IsPutAt bytes s0.tree path) (IsFirstFreeBy s0.tree path) s0 s2
   put_crash e =
       since_then _ _ s0 s1 s2 (since_same _ _ s0 s1 same)
-      (since_more _ (IsPutAt bytes s0.tree path) (λ q. e.temporary ≡ Some q) (IsFreeBy s0.tree path) s1 s2 new_at
+      (since_more _ (IsPutAt bytes s0.tree path) (λ q. e.temporary ≡ Some q) (IsFirstFreeBy s0.tree path) s1 s2 new_at
       (λ q aside. record {
         place = parts_of own;
         leads = f.leads;
         is_file = ap is_some f.was;
-        free = subst (λ (t : Tree). Free t (parent_of (parts_of own)) q) same.tree (is_free (e.was_free q aside));
+        first = subst (λ (t : Tree). FirstFree t (parent_of (parts_of own)) q) same.tree (e.was_free q aside);
       })
       e.leaves)
 

@@ -9,7 +9,7 @@ use Rattle.sd_io.specs.Crashes.{LeavesSince, IsDurable}
 use Rattle.sd_change.specs.Change.{Change}
 use Rattle.sd_course.specs.Course.{course}
 use Rattle.file_rewrite.specs.Paths.{IsNoPath}
-use Rattle.file_rewrite.specs.OneFile.{RewritesFile, LeavesFile, HasFileCause, IsNewAt, IsChangedAt, IsFreeBy}
+use Rattle.file_rewrite.specs.OneFile.{RewritesFile, LeavesFile, HasFileCause, IsNewAt, IsChangedAt, IsFirstFreeBy}
 use Rattle.file_rewrite.specs.declared.fault.JobFault.{JobFault}
 use Rattle.file_rewrite.specs.declared.fault.JobFault.TheVariants as job
 use Rattle.many_files.specs.Jobs.{Job, failed_of, end_of, HaveCauses}
@@ -115,7 +115,7 @@ more_named change tells s0 s1 s2 done jobs more changed replaced now_changed now
 -- what the clauses of one file's rewriting say together
 pub as_one : (change : Change) (tells : Bool) (path : List ℕ) (result : OneEnd) (old new : DiskState) → tells ≡ true → IfOk result (λ rewrite. RewritesFile change path rewrite old new)
     → IfErr result (λ fault. LeavesFile change path fault old new) → IfErr result (HasFileCause (course tells old new) path)
-    → LeavesSince (IsNewAt change old.tree path) (IsFreeBy old.tree path) old new → OnOk result (IsDurable (IsChangedAt change old.tree path) old new) → old.faults ≤ new.faults
+    → LeavesSince (IsNewAt change old.tree path) (IsFirstFreeBy old.tree path) old new → OnOk result (IsDurable (IsChangedAt change old.tree path) old new) → old.faults ≤ new.faults
     → ReplacesOne change path result old new
 as_one change tells path result old new told rewritten left cause crash durable low = record {
   rewritten = rewritten;

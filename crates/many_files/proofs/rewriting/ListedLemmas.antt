@@ -84,7 +84,7 @@ module _ (tree : Tree) (is : IsTree tree) (paths : List (List ℕ)) (places : Li
   pub listed_room : HasRoom (Contains places) tree → All (HasRoomBy tree) paths
   listed_room room = each_path tree (HasRoomBy tree) paths places listed.lead (λ path place c leads.
       let (q, free) = room place c in
-      (q, record { place = place; leads = leads; is_file = a_file tree place (listed.are_files place c); free = free }))
+      record { place = place; leads = leads; is_file = a_file tree place (listed.are_files place c); temporary = q; free = free })
 
 -- nothing stands in the way of listed files
 pub listed_clear : (tells : Bool) (s0 s : DiskState) (paths : List (List ℕ)) (places : List NameList) → IsTree s0.tree → ListsFiles s0.tree paths places → HasRoom (Contains places) s0.tree

@@ -112,12 +112,12 @@ module _ (tells : Bool) (s0 s : DiskState) (paths : List (List ℕ)) (jobs : Lis
       told_earlier : IsTrue tells → HasEarlier
       told_earlier told =
           let full = (crowded told).full earlier later path cut in
-          let (temporary, room) = of_path (HasRoomBy s0.tree) (path, job.TempName) cut (clear.room told) in
+          let room = of_path (HasRoomBy s0.tree) (path, job.TempName) cut (clear.room told) in
           let keeps = have.keeps told in
           let stood = keeps.stands room.place (file_there (node_at s0.tree room.place) room.is_file) in
           let still : reached s.tree path true ≡ Some room.place = still_leads keeps.ways path true room.place room.leads stood in
           let here : room.place ≡ full.place = same_Some room.place full.place (sym still ∙ full.leads) in
-          elim (full.memory temporary (subst (λ (p : NameList). Free s0.tree (parent_of p) temporary) here room.free)) [
+          elim (full.memory room.temporary (subst (λ (p : NameList). Free s0.tree (parent_of p) room.temporary) here room.free)) [
             | inl rose ↦ absurd (clear.no_fault rose)
             | inr m ↦ (full.place, m.path, full.leads, m.is_job, m.inside s.tree (keeps_itself s.tree))
           ]

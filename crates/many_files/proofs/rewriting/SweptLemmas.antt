@@ -16,7 +16,7 @@ use Rattle.sd_change.specs.Change.{Change, FileChange}
 use Rattle.sd_course.specs.Course.{course}
 use Rattle.file_rewrite.specs.Paths.{IsNoPath}
 use Rattle.file_rewrite.specs.Rewritten.{IsChangedFile}
-use Rattle.file_rewrite.specs.OneFile.{RewritesFile, LeavesFile, HasFileCause, IsNewAt, IsChangedAt, IsFreeBy}
+use Rattle.file_rewrite.specs.OneFile.{RewritesFile, LeavesFile, HasFileCause, IsNewAt, IsChangedAt, IsFirstFreeBy}
 use Rattle.file_rewrite.specs.declared.rewrite.Rewrite.{Rewrite}
 use Rattle.file_rewrite.specs.declared.fault.JobFault.{JobFault}
 use Rattle.many_files.specs.Files.{ListsFiles}
@@ -222,7 +222,7 @@ module _ (change : Change) (s0 s1 : DiskState) (paths : List (List ℕ)) (places
           → now_jobs ≡ jobs ++ failed_of (path ∷ []) (end_of result ∷ []) → now_changed ≡ changed + changed_by result → now_replaced ≡ replaced + replaced_by result
           → s1.faults ≤ s2.faults
           → IfOk result (λ rewrite. RewritesFile change path rewrite s1 s2) → IfErr result (λ fault. LeavesFile change path fault s1 s2) → IfErr result (HasFileCause (course tells s1 s2) path)
-          → LeavesSince (IsNewAt change s1.tree path) (IsFreeBy s1.tree path) s1 s2 → OnOk result (IsDurable (IsChangedAt change s1.tree path) s1 s2)
+          → LeavesSince (IsNewAt change s1.tree path) (IsFirstFreeBy s1.tree path) s1 s2 → OnOk result (IsDurable (IsChangedAt change s1.tree path) s1 s2)
           → IsSweptTo change s0 places (done ++ path ∷ []) now_jobs now_changed now_replaced s2
       swept_more tells told named (Ok rewrite) now_jobs now_changed now_replaced e c r low rewritten left cause crash durable =
           let none_before : now_jobs ≡ [] → jobs ≡ [] = λ none. sym (append-nil jobs) ∙ sym e ∙ none in

@@ -16,9 +16,10 @@ use Rattle.sd_io.proofs.CrashLemmas.{since_more}
 use Rattle.sd_change.specs.Change.{Change, FileChange}
 use Rattle.sd_course.specs.Course.{course, HasRisenBy}
 use Rattle.file_exchange.specs.Reserved.{Free}
+use Rattle.file_exchange.proofs.PlaceLemmas.{is_free}
 use Rattle.file_rewrite.specs.Paths.{IsNoPath}
 use Rattle.file_rewrite.specs.Rewritten.{IsOld, IsNew, IsOldOrNew, IsLeft}
-use Rattle.file_rewrite.specs.OneFile.{RewritesFile, LeavesFile, HasFileCause, IsNewAt, IsFreeBy}
+use Rattle.file_rewrite.specs.OneFile.{RewritesFile, LeavesFile, HasFileCause, IsNewAt, IsFirstFreeBy}
 use Rattle.file_rewrite.specs.declared.rewrite.Rewrite.{Rewrite}
 use Rattle.file_rewrite.specs.declared.fault.JobFault.{JobFault}
 use Rattle.file_rewrite.specs.declared.fault.JobFault.TheVariants as job
@@ -110,13 +111,13 @@ module _ (change : Change) (path : List ℕ) (place : NameList) (s1 s2 : DiskSta
         },
       )
 
-  crash_here : LeavesSince (IsNewAt change s1.tree path) (IsFreeBy s1.tree path) s1 s2 → LeavesSince (IsNewOne (λ q. q ≡ place) change s1.tree) (IsFreeBeside (λ q. q ≡ place) s1.tree) s1 s2
-  crash_here l = since_more (IsNewAt change s1.tree path) (IsNewOne (λ q. q ≡ place) change s1.tree) (IsFreeBy s1.tree path) (IsFreeBeside (λ q. q ≡ place) s1.tree) s1 s2 new_here
-      (λ q aside. (aside.place, file_there aside.place aside.leads, aside.free)) l
+  crash_here : LeavesSince (IsNewAt change s1.tree path) (IsFirstFreeBy s1.tree path) s1 s2 → LeavesSince (IsNewOne (λ q. q ≡ place) change s1.tree) (IsFreeBeside (λ q. q ≡ place) s1.tree) s1 s2
+  crash_here l = since_more (IsNewAt change s1.tree path) (IsNewOne (λ q. q ≡ place) change s1.tree) (IsFirstFreeBy s1.tree path) (IsFreeBeside (λ q. q ≡ place) s1.tree) s1 s2 new_here
+      (λ q aside. (aside.place, file_there aside.place aside.leads, is_free aside.first)) l
 
   -- ---- done
 
-  pub done_turn : (rewrite : Rewrite) → s1.faults ≤ s2.faults → RewritesFile change path rewrite s1 s2 → LeavesSince (IsNewAt change s1.tree path) (IsFreeBy s1.tree path) s1 s2
+  pub done_turn : (rewrite : Rewrite) → s1.faults ≤ s2.faults → RewritesFile change path rewrite s1 s2 → LeavesSince (IsNewAt change s1.tree path) (IsFirstFreeBy s1.tree path) s1 s2
       → DoesTurn change place None None s1 s2
   done_turn rewrite low r crash =
       let here = file_there r.place r.leads in
@@ -184,7 +185,7 @@ module _ (change : Change) (path : List ℕ) (place : NameList) (s1 s2 : DiskSta
     counted_left (Some q) fault low cause (inr (inr twice)) = counted_twice q fault low (inr twice)
 
     pub refused_turn : (fault : JobFault) → s1.faults ≤ s2.faults → LeavesFile change path fault s1 s2 → HasFileCause (course tells s1 s2) path fault
-        → LeavesSince (IsNewAt change s1.tree path) (IsFreeBy s1.tree path) s1 s2 → (left : Option NameList) × DoesTurn change place (Some fault) left s1 s2
+        → LeavesSince (IsNewAt change s1.tree path) (IsFirstFreeBy s1.tree path) s1 s2 → (left : Option NameList) × DoesTurn change place (Some fault) left s1 s2
     refused_turn fault low (inl same) cause crash = (
       None,
       record {
@@ -202,7 +203,7 @@ module _ (change : Change) (path : List ℕ) (place : NameList) (s1 s2 : DiskSta
           l.temporary,
           record {
             file = plain_left fault (subst (λ (p : NameList). IsLeft (FileChange change) s1.tree s2.tree p fault) here l.left);
-            was_free = λ q e. subst (λ (p : NameList). Free s1.tree (parent_of p) q) here (l.was_free q e);
+            was_free = λ q e. subst (λ (p : NameList). Free s1.tree (parent_of p) q) here (is_free (l.was_free q e));
             failed = λ some. refl;
             others = λ q n m. l.others q (λ e. n (e ∙ here)) m;
             counted = counted_left l.temporary fault low cause l.two_refusals;

@@ -1,0 +1,2 @@
+-- What the proofs about the answers of folders use.
+pub mod AnswerLemmas
