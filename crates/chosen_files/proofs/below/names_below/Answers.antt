@@ -1,8 +1,8 @@
 use Rattle.std.proofs.Common.{sym, ◌∙◌, ap, ◌++◌, lit<}
 use Rattle.std.proofs.lemmas.Bool.{false≢true}
 use Rattle.std.proofs.lemmas.Str.Pattern.{ends_char, strip_prefix_char}
-use Rattle.chosen_files.proofs.choice.NamesLemmas.{names_follow, no_slash_at_end}
-use Rattle.chosen_files.proofs.choice.names_below.Goals as goal
+use Rattle.chosen_files.proofs.below.NamesLemmas.{names_follow, no_slash_at_end}
+use Rattle.chosen_files.proofs.below.names_below.Goals as goal
 
 pub returns-else-ends_with : goal.returns-else-ends_with
 returns-else-ends_with c =

@@ -1,7 +1,7 @@
 use Rattle.std.proofs.Common.{◌∙◌, sym}
 use Rattle.std.proofs.lemmas.Bool.{false≢true}
-use Rattle.chosen_files.proofs.choice.PickedLemmas.{fits_same}
-use Rattle.chosen_files.proofs.choice.is_picked.Goals as goal
+use Rattle.chosen_files.proofs.pick.PickedLemmas.{fits_same}
+use Rattle.chosen_files.proofs.pick.is_picked.Goals as goal
 
 pub returns-then-not-branch-clause-picked : goal.returns-then-not-branch-clause-picked
 returns-then-not-branch-clause-picked g c = λ told top is. (
