@@ -1,8 +1,5 @@
 -- What the proofs about the choice use.
-pub mod ChooseLemmas
+pub mod BeginLemmas
 pub mod ListLemmas
-pub mod NamesLemmas
 pub mod PartLemmas
-pub mod PickedLemmas
-pub mod RestLemmas
 pub mod WalkLemmas

@@ -3,3 +3,4 @@ pub mod GlobLemmas
 pub mod StandsLemmas
 pub mod CountLemmas
 pub mod TreeLemmas
+pub mod KeptLemmas

@@ -1,20 +1,21 @@
 -- How a choice of files ends.
-use Rattle.std.specs.Prelude.{◌≡◌, ◌+◌, ◌<◌, ◌≤◌, ℕ, max, IsTrue, true, List, map, IsSome, ⊤}
-use Rattle.sd_io.specs.Disk.{DiskState}
-use Rattle.sd_io.specs.Files.{LeadsNowhere, path_text}
+use Rattle.std.specs.Prelude.{◌≡◌, ◌+◌, ◌≤◌, ℕ, max, IsTrue, true, List, Result, IsSome, IfErr, IfOk, OnOk, All, ⊤}
+use Rattle.sd_io.specs.Count.{HasRisen}
+use Rattle.sd_io.specs.Disk.{DiskState, SameTree}
+use Rattle.sd_io.specs.Files.{LeadsNowhere}
 use Rattle.sd_io.specs.Lists.{IsOpen}
 use Rattle.sd_io.specs.Paths.{reached}
-use Rattle.sd_io.specs.Tree.{NameList, Tree}
 use Rattle.sd_course.specs.Course.{Course, AsTold, DiskFailed}
-use Rattle.walk_rest.specs.declared.entry.DirEntry.{DirEntry}
 use Rattle.walk_rest.specs.declared.error.Error.{Error}
 use Rattle.walk_rest.specs.declared.error.Error.TheVariants as error
-use Rattle.walk_rest.specs.Listing.{first_options}
-use Rattle.walkdir.specs.Collect.{entry_item, below_root}
+use Rattle.sd_ignore.specs.declared.rule.Rule.{Rule}
+use Rattle.chosen_files.specs.declared.choice.Choice.{Choice}
 use Rattle.chosen_files.specs.declared.fault.ChoiceFault.{ChoiceFault}
 use Rattle.chosen_files.specs.declared.fault.ChoiceFault.TheVariants as fault
 use Rattle.chosen_files.specs.Below.{HasManyBelow}
-use Rattle.chosen_files.specs.Picks.{WalksWhole}
+use Rattle.chosen_files.specs.Chosen.{IsPathBelow}
+use Rattle.chosen_files.specs.Kept.{ListsKept}
+use Rattle.chosen_files.specs.Seen.{HasFewerSeen, HasManySeen, ListsOnlySeen}
 
 -- ---- open lists
 
@@ -41,6 +42,13 @@ ChoiceFails root cap d (fault.Walk failed) = WalkFails d failed
 ChoiceFails root cap d fault.TooMany = AsTold d.tells (HasManyBelow cap d.old.tree root) (d.old.listed + cap ≤ d.new.listed)
 ChoiceFails root cap d fault.NoMemory = ⊤
 
+-- why no files are chosen under rules of what is ignored
+abbrev pub KeepFails : List ℕ → List Rule → ℕ → Course DiskState → ChoiceFault → Type 0
+KeepFails root rules cap d fault.RootMissing = AsTold d.tells (LeadsNowhere d.old root true) (DiskFailed d)
+KeepFails root rules cap d (fault.Walk failed) = WalkFails d failed
+KeepFails root rules cap d fault.TooMany = AsTold d.tells (HasManySeen cap d.old.tree root rules) (d.old.listed + cap ≤ d.new.listed)
+KeepFails root rules cap d fault.NoMemory = ⊤
+
 -- an error of a walk as a fault of a choice
 abbrev pub fault_of : Error → ChoiceFault
 fault_of (error.Disk path depth) = fault.Walk (error.Disk path depth)
@@ -49,22 +57,20 @@ fault_of (error.Loop path depth ancestor ident) = fault.Walk (error.Loop path de
 fault_of error.NoMemory = fault.NoMemory
 fault_of error.TooMany = fault.TooMany
 
--- ---- its parts
+-- ---- a choice under rules of what is ignored
 
--- the path of the entry leads to a node
-abbrev pub LeadsTo : Tree → DirEntry → Type 0
-LeadsTo tree entry = IsSome (reached tree entry.path entry.followed)
-
--- a whole walk of the node that a root leads to, whose path is the top's, gave these entries, fewer than so many of them below it
-pub record ListsBelowTop (tree : Tree) (root top : List ℕ) (cap : ℕ) (entries : List DirEntry) : Type 0 where
-  pub place : NameList
-  pub top_is : top ≡ path_text place
-  pub walk : WalksWhole tree first_options root place (map entry_item entries)
-  pub few : below_root entries < cap
-
--- why a question about an entry is refused
-abbrev pub AsksFail : Course DiskState → ChoiceFault → Type 0
-AsksFail d fault.RootMissing = ⊥
-AsksFail d (fault.Walk failed) = WalkFails d failed
-AsksFail d fault.TooMany = ⊥
-AsksFail d fault.NoMemory = ⊤
+-- What a choice of files answers, and what it leaves.
+pub record Chooses (root : List ℕ) (globs : List (List ℕ)) (rules : List Rule) (cap : ℕ) (d : Course DiskState) (result : Result Choice ChoiceFault) : Type 0 where
+  -- on a disk that tells its tree: the kept files in their order
+  pub kept : IsTrue d.tells → IfOk result (λ (choice : Choice). ListsKept d.old.tree root globs rules choice.paths.items)
+  pub below_root : IfOk result (λ (choice : Choice). All (IsPathBelow root) choice.paths.items)
+  pub few : IsTrue d.tells → OnOk result (HasFewerSeen cap d.old.tree root rules)
+  -- no ignored directory was read, and no other one twice
+  pub listed : IsTrue d.tells → (HasRisen d.old.faults d.new.faults → ⊥) → OnOk result (ListsOnlySeen d.old.tree root rules d.old.listed d.new.listed)
+  pub refused : IfErr result (KeepFails root rules cap d)
+  -- where nothing else stands in the way, it is refused for want of memory alone
+  pub complete : IsTrue d.tells → IsSome (reached d.old.tree root true) → HasFewerSeen cap d.old.tree root rules → (DiskFailed d → ⊥)
+      → IfErr result (λ (failed : ChoiceFault). failed ≡ fault.NoMemory)
+  pub tree : SameTree d.old d.new
+  pub lists : KeepsLists 10 d.old d.new
+  pub faults : d.old.faults ≤ d.new.faults

@@ -1,6 +1,12 @@
 pub mod Chosen
 pub mod Below
+pub mod Kept
+pub mod Seen
+pub mod LeftOut
 pub mod Choice
 pub mod Examples
 pub mod Globs
+pub mod Laws
 pub mod Picks
+pub mod Picking
+pub mod Walked

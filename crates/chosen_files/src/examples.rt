@@ -10,8 +10,10 @@ ghost use Rattle.walk_rest.specs.Listing.{first_options};
 ghost use Rattle.chosen_files.specs.declared.fault.ChoiceFault.TheVariants as choice_fault;
 ghost use Rattle.chosen_files.specs.Below.{HasFewerBelow, HasManyBelow};
 ghost use Rattle.chosen_files.specs.Choice.{ChoiceFails, KeepsLists};
-ghost use Rattle.chosen_files.specs.Examples.{d_nodes, d_items};
+ghost use Rattle.chosen_files.specs.Examples.{d_nodes, d_items, in_p, p_nodes, p_rules};
+ghost use Rattle.chosen_files.specs.Kept.{Kept};
 ghost use Rattle.chosen_files.specs.Picks.{IsPlainWalk, Picks};
+ghost use Rattle.chosen_files.specs.Seen.{HasFewerSeen, HasManySeen, ListsOnlySeen};
 
 /// A walk goes plainly by the options that it has at first, and not where it follows links.
 pub fn walks_are_plain_as_in_the_examples()
@@ -26,6 +28,18 @@ pub fn files_are_picked_as_in_the_examples()
     ensures other_roots { Picks (tree_with d_nodes) (codes "d/./") (codes "/d") (codes "**" ∷ []) d_items (codes "d/./a" ∷ codes "d/./s/b" ∷ []) }
     ensures one_name { Picks (tree_with d_nodes) (codes "/d") (codes "/d") (codes "*" ∷ []) d_items (codes "/d/a" ∷ []) }
     ensures no_directory { Picks (tree_with d_nodes) (codes "/d/a") (codes "/d/a") (codes "**" ∷ []) (item (codes "/d/a") kind.File 0 0 ∷ []) [] }
+{}
+
+/// What is kept of a directory with three files and a directory `build` with a fourth, under the rules `build/`, `*.log` and `!k.log`, and how many
+/// entries are seen there.
+pub fn files_are_kept_as_in_the_examples()
+    ensures kept { Kept (tree_with p_nodes) (in_p []) (codes "**" ∷ []) p_rules (in_p (codes "b.txt" ∷ []) ∷ in_p (codes "k.log" ∷ []) ∷ []) }
+    ensures four_seen { HasFewerSeen 5 (tree_with p_nodes) (codes "/p") p_rules }
+    ensures no_fewer_seen { ¬ HasFewerSeen 4 (tree_with p_nodes) (codes "/p") p_rules }
+    ensures as_many_seen { HasManySeen 4 (tree_with p_nodes) (codes "/p") p_rules }
+    ensures all_seen { HasManySeen 5 (tree_with p_nodes) (codes "/p") [] }
+    ensures listed { ListsOnlySeen (tree_with p_nodes) (codes "/p") p_rules 7 11 }
+    ensures no_more_listed { ¬ ListsOnlySeen (tree_with p_nodes) (codes "/p") p_rules 7 12 }
 {}
 
 /// How many entries lie below a directory of five, and below a file.

@@ -7,9 +7,13 @@ ghost use Rattle.sd_io.specs.Files.{path_text};
 ghost use Rattle.walk_rest.specs.declared.options.Options.{Options};
 ghost use Rattle.walk_rest.specs.Plan.{Comparison, Item};
 ghost use Rattle.walk_rest.specs.Listing.{IsListing};
+ghost use Rattle.sd_ignore.specs.declared.rule.Rule.{Rule};
 ghost use Rattle.chosen_files.specs.Below.{HasFewerBelow, HasManyBelow};
 ghost use Rattle.chosen_files.specs.Chosen.{Chosen, ListsChosen};
+ghost use Rattle.chosen_files.specs.Laws.{OneListOfKept, NoRulesKeepAll, KeptAreSeen};
 ghost use Rattle.chosen_files.specs.Picks.{ListsAllIn, Picks, WalksWhole};
+ghost use Rattle.chosen_files.specs.Seen.{HasFewerSeen, HasManySeen};
+ghost use Rattle.chosen_files.specs.Walked.{WalkListsAllSeen, PickedAreKept};
 
 /// A tree, a place and globs determine the list of the chosen files below the place. A tree, a root and globs determine
 /// the list of their paths.
@@ -47,7 +51,33 @@ pub fn paths_lead_to_chosen_files()
         → map (λ path. reached tree path true) paths ≡ map (λ place. Some place) listed.places }
 {}
 
-/// Not both fewer than so many and so many or more entries lie below a root.
+/// Not both fewer than so many and so many or more entries lie below a root, or are seen there.
 pub fn fewer_are_not_many()
-    ensures { (cap : ℕ) (tree : Tree) (root : List ℕ) → HasFewerBelow cap tree root → HasManyBelow cap tree root → ⊥ }
+    ensures below { (cap : ℕ) (tree : Tree) (root : List ℕ) → HasFewerBelow cap tree root → HasManyBelow cap tree root → ⊥ }
+    ensures seen { (cap : ℕ) (tree : Tree) (root : List ℕ) (rules : List Rule) → HasFewerSeen cap tree root rules → HasManySeen cap tree root rules → ⊥ }
+{}
+
+/// A tree, a place, globs and rules determine the list of the kept files, and of their paths.
+pub fn one_list_of_kept_files()
+    ensures { OneListOfKept }
+{}
+
+/// Without rules the kept files are the chosen ones, and all that stands below is seen.
+pub fn no_rules_keep_all()
+    ensures { NoRulesKeepAll }
+{}
+
+/// A kept file is seen.
+pub fn kept_files_are_seen()
+    ensures { KeptAreSeen }
+{}
+
+/// A whole walk that leaves unread the directories that rules ignore gives the entries of all that is seen.
+pub fn a_walk_lists_all_that_is_seen()
+    ensures { WalkListsAllSeen }
+{}
+
+/// What is picked of its entries that the rules don't ignore are the kept files.
+pub fn picked_files_are_kept()
+    ensures { PickedAreKept }
 {}

@@ -10,7 +10,7 @@ use Rattle.walk_steps.specs.Causes.{CountsAbsent, CountsFaults, IsEnteredBy, IsL
 use Rattle.walk_steps.specs.Inside.{HasRest, SameWalk, chain_of, levels_of}
 use Rattle.walk_steps.specs.Listed.{GivesAtOnce, GivesListed, IsToListOnTop, entered_in, gives_below, waits_in}
 use Rattle.walk_steps.specs.Sound.{IsSound, SameOthers, StaysWithin, open_limit}
-use Rattle.walk_steps.specs.Steps.{SkipsTo, StepsTo}
+use Rattle.walk_steps.specs.Steps.{HasUnreadTop, SkipsTo, StepsTo}
 use Rattle.walk_steps.specs.Work.{left_to_do}
 
 module _ {S : Type 0} where
@@ -70,5 +70,7 @@ module _ {S : Type 0} where
     pub waits : waits_in (levels_of now) ≤ waits_in (levels_of before)
     pub due : faults_due (levels_of now) ≤ faults_due (levels_of before)
     pub listed : new.listed ≡ old.listed
+    -- where a directory lies unread on top then, nothing was taken off
+    pub unread : HasUnreadTop now.top → levels_of now ≡ levels_of before
     pub tree : SameTree old new
     pub faults : new.faults ≡ old.faults

@@ -1,5 +1,5 @@
 -- What the parts of a step do to what is left of a walk.
-use Rattle.std.specs.Prelude.{◌≡◌, ◌⊎◌, ◌<◌, ℕ, Bool, false, IsTrue, List, [], ◌∷◌, ◌++◌, Option, Some, None, Ok, option_map}
+use Rattle.std.specs.Prelude.{◌≡◌, ◌↔◌, ◌⊎◌, ◌<◌, ℕ, Bool, false, IsTrue, List, [], ◌∷◌, ◌++◌, Option, Some, None, Ok, option_map}
 use Rattle.std.specs.declared.cmp.Ordering.{Ordering}
 use Rattle.sd_io.specs.Count.{HasRisen}
 use Rattle.sd_io.specs.Disk.{DiskState}
@@ -66,8 +66,8 @@ module _ {S : Type 0} where
     pub is_step : IsStep cuts rest answer new
     pub left : HasRest now sorts compare inside new
     pub allowed : IsAllowed cuts before.faults now.faults
-    -- an entry that comes before the contents of its directory leaves that unread on top
-    pub enters : (entry : DirEntry) → answer ≡ Some (Ok entry) → IsNextInto is_step.mid → HasUnreadTop inside.top
+    -- an entry comes before the contents of its directory exactly where that lies unread on top
+    pub enters : (entry : DirEntry) → answer ≡ Some (Ok entry) → IsNextInto is_step.mid ↔ HasUnreadTop inside.top
 
   -- it came to an item, or moved on
   abbrev pub TurnsTo : DiskState → Bool → (DirEntry → DirEntry → Ordering) → Rest → Option Item → DiskState → Inside S → Type 0

@@ -8,7 +8,7 @@ ghost use Rattle.walk_steps.specs.Causes.{faults_due};
 ghost use Rattle.walk_steps.specs.Inside.{HasRest, SameWalk, levels_of};
 ghost use Rattle.walk_steps.specs.Listed.{waits_in};
 ghost use Rattle.walk_steps.specs.Sound.{AreSound, IsSound, SameOtherThan, SameOthers, StaysWithin, open_in};
-ghost use Rattle.walk_steps.specs.Steps.{SkipsTo};
+ghost use Rattle.walk_steps.specs.Steps.{HasUnreadTop, SkipsTo};
 ghost use Rattle.walk_steps.specs.Work.{left_to_do};
 
 use crate::Inside;
@@ -43,6 +43,7 @@ pub fn skip_top<D: Disk, S: Order>(disk: &mut D, inside: &mut Inside<S>)
     ensures waits { waits_in (levels_of inside.new) ≤ waits_in (levels_of inside.old) }
     ensures due { faults_due (levels_of inside.new) ≤ faults_due (levels_of inside.old) }
     ensures listed { (D.state disk.new).listed ≡ (D.state disk.old).listed }
+    ensures unread { HasUnreadTop inside.new.top → levels_of inside.new ≡ levels_of inside.old }
     ensures tree { SameTree (D.state disk.old) (D.state disk.new) }
     ensures faults { (D.state disk.new).faults ≡ (D.state disk.old).faults }
 {

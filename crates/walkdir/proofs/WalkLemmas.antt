@@ -10,12 +10,12 @@ use Rattle.walk_rest.specs.declared.level.Entries.TheVariants.{Unread, Open, Kep
 use Rattle.walk_rest.specs.declared.options.Options.{Options}
 use Rattle.walk_rest.specs.Plan.{Comparison, IsContents, IsPlan, Manner, Plan, entry_below}
 use Rattle.walk_rest.specs.Listing.{IsRootPlan, manner_of}
-use Rattle.walk_rest.specs.Rest.{Rest, start, none}
+use Rattle.walk_rest.specs.Rest.{Rest, start}
 use Rattle.walk_rest.specs.Level.{HasPart, HasParts, IsDue, fault_of, item_of, left_in, with_folder}
 use Rattle.walk_steps.specs.declared.inside.Inside.{Inside}
 use Rattle.walk_steps.specs.Causes.{faults_due}
 use Rattle.walk_steps.specs.Inside.{HasRest, IsUnbegun, IsUntaken, KnowsDevice, SameWalk, levels_of, top_levels}
-use Rattle.walk_steps.specs.Listed.{waits_first, waits_in, waits_kept}
+use Rattle.walk_steps.specs.Listed.{IsToList, IsToListOnTop, waits_first, waits_in, waits_kept}
 use Rattle.walk_steps.specs.Sound.{IsSound, IsFresh, IsReadable, IsShallow, IsTopFresh, AreApartFrom, AreShallow, AreSound, AreRead, SameOthers, StaysWithin, open_in, open_limit, opens}
 use Rattle.walk_steps.specs.Steps.{LiesUnread}
 use Rattle.walkdir.specs.Steps.{Begins}
@@ -164,3 +164,8 @@ module _ {S : Type 0} where
         fresh = subst IsTopFresh (sym begins.on_top)
             (subst (λ (entries : Entries). IsFresh entries begins.top.first begins.top.faults.items) (sym begins.unread.unread) (begins.unread.first, begins.unread.faultless));
       }
+
+  pub begun_to_list : (tree : Tree) (deepest : ℕ) (options : Options) (order : S) (root : List ℕ) (inside : Inside S) → Begins options order root inside → IsToListOnTop tree deepest inside.top 0
+  begun_to_list tree deepest options order root inside begins =
+      subst (λ (top : Option Level). IsToListOnTop tree deepest top 0) (sym begins.on_top)
+      (subst (λ (folder : Option Folder). IsToList tree deepest folder begins.top.entries 0) (sym begins.unread.folder_is) refl)

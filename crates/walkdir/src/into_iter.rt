@@ -12,10 +12,12 @@ ghost use Rattle.walk_steps.specs.Promises.{GivesNext, SkipsTop};
 ghost use Rattle.walk_steps.specs.Sound.{AreSound, IsSound};
 ghost use Rattle.walk_steps.specs.Work.{left_to_do};
 ghost use Rattle.walkdir.specs.Collect.{Collects};
+ghost use Rattle.walkdir.specs.Gather.{GathersWalk};
 ghost use Rattle.walkdir.specs.Steps.{ClosesAll, is_directory_item, lies_unread, still_compares, still_sound};
 
 use crate::collect::collect;
-use crate::{FilterEntry, Walk};
+use crate::gather::gather;
+use crate::{FilterEntry, Gathers, Prunes, Walk};
 use sd_io::{Disk, Meta};
 use std::iter::FusedIterator;
 use std::marker::PhantomData;
@@ -126,6 +128,25 @@ impl<'d, D: Disk, S: Order + Drop> IntoIter<'d, D, S, Inside<S>> {
             order: _order,
         } = self;
         collect(disk, inside, cap)
+    }
+
+    /// Gathers the entries of the walk that aren't left out, each as it comes, up to its first error, or `TooMany` at the entry below the root with this
+    /// number that it comes to. A directory that is left out isn't read. Closes every list that the walk holds, and ends it.
+    pub fn gather<P: Prunes, G: Gathers>(
+        &mut self,
+        prune: &P,
+        gatherer: &mut G,
+        cap: u64,
+    ) -> Result<(), Error>
+        requires sound { IsSound (D.state self.old.disk.now) (S.sorts self.old.inside.order) self.old.inside }
+        requires order { S.can_compare self.old.inside.order }
+        requires cap { 0 < cap }
+        ensures same_reference { self.new.disk.ghost_name ≡ self.old.disk.ghost_name }
+        ensures gathers { GathersWalk D.tells S.sorts S.compares_by (P.leaves_out prune.now) G.gathers (D.state self.old.disk.now) self.old.inside cap result
+            (D.state self.new.disk.now) gatherer.old gatherer.new }
+        ensures gone { levels_of self.new.inside ≡ [] }
+    {
+        gather(self.disk, &mut self.inside, prune, gatherer, cap)
     }
 
     /// The walk without the entries that the predicate refuses, and without what lies below them.
@@ -261,7 +282,7 @@ fn is_directory(item: &Option<Result<DirEntry, Error>>) -> bool
 }
 
 /// Whether the directory on top was entered, and nothing was read of it.
-fn lies_unread(top: &Option<Level>) -> bool
+pub(crate) fn lies_unread(top: &Option<Level>) -> bool
     ensures { result ≡ lies_unread top.now }
 {
     match top {

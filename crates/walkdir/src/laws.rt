@@ -1,6 +1,6 @@
 //! What holds of all calls of a walk together.
 
-ghost use Rattle.std.specs.Prelude.{◌≡◌, ◌≢◌, ◌+◌, ◌≤◌, ℕ, Bool, true, IsTrue, All, List, Some, Ok, Err};
+ghost use Rattle.std.specs.Prelude.{◌≡◌, ◌≢◌, ◌↔◌, ◌+◌, ◌≤◌, ℕ, Bool, true, IsTrue, All, List, Some, Ok, Err};
 ghost use Rattle.sd_io.specs.Count.{HasRisen};
 ghost use Rattle.sd_io.specs.Disk.{DiskState};
 ghost use Rattle.sd_io.specs.Tree.{Tree};
@@ -35,10 +35,10 @@ pub fn entries_were_listed<D: Disk, S: Order>()
         → Calls D.tells S.sorts S.compares_by old before items new now → all_below items + waits_in (levels_of now) + old.listed ≤ new.listed }
 {}
 
-/// A step that gives the entry of a directory as it enters it leaves that unread on top, where `just_entered` looks for it.
+/// A step gives the entry of a directory as it enters it exactly where it leaves that unread on top, where `just_entered` looks for it.
 pub fn an_entered_directory_lies_unread<S>()
     ensures { (old new : DiskState) (sorts : Bool) (by : Comparison) (rest : Rest) (entry : DirEntry) (now : Inside S)
-        → (step : StepsTo old sorts by rest (Some (Ok entry)) new now) → IsNextInto step.is_step.mid → lies_unread now.top ≡ true }
+        → (step : StepsTo old sorts by rest (Some (Ok entry)) new now) → IsNextInto step.is_step.mid ↔ (lies_unread now.top ≡ true) }
 {}
 
 /// Calls of `next` down to `None`, with no skip, no failure of the disk and no want of memory, gave the listing of the root.

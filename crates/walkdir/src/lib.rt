@@ -4,6 +4,7 @@
 mod collect;
 mod examples;
 mod filter;
+mod gather;
 mod into_iter;
 mod laws;
 mod walk;
@@ -14,6 +15,7 @@ pub use examples::{
     filters_are_as_in_the_examples,
 };
 pub use filter::FilterEntry;
+pub use gather::{Gathers, Prunes};
 pub use into_iter::IntoIter;
 pub use laws::{
     an_entered_directory_lies_unread, calls_give_the_listing, each_max_open_has_the_same_listing,

@@ -1,12 +1,13 @@
 //! What is walked, and how.
 
-ghost use Rattle.std.specs.Prelude.{◌≡◌, false, min, max, IfOk};
+ghost use Rattle.std.specs.Prelude.{◌≡◌, ℕ, false, min, max, IfOk};
+ghost use Rattle.sd_io.specs.Tree.{Tree};
 ghost use Rattle.walk_rest.specs.Plan.{Comparison, Plan};
 ghost use Rattle.walk_rest.specs.Listing.{IsRootPlan, first_options, manner_of};
 ghost use Rattle.walk_rest.specs.Rest.{start};
 ghost use Rattle.walk_steps.specs.Causes.{faults_due};
 ghost use Rattle.walk_steps.specs.Inside.{HasRest, levels_of};
-ghost use Rattle.walk_steps.specs.Listed.{waits_in};
+ghost use Rattle.walk_steps.specs.Listed.{IsToListOnTop, waits_in};
 ghost use Rattle.walk_steps.specs.Sound.{IsSound, opens};
 ghost use Rattle.walkdir.specs.Steps.{Begins};
 
@@ -162,6 +163,7 @@ impl<S> WalkDir<S> {
         ensures none_open { opens (levels_of result.inside) ≡ 0 }
         ensures none_waits { waits_in (levels_of result.inside) ≡ 0 }
         ensures none_due { faults_due (levels_of result.inside) ≡ 0 }
+        ensures none_to_list { (tree : Tree) (deepest : ℕ) → IsToListOnTop tree deepest result.inside.top 0 }
         ensures not_entered { result.gave_directory ≡ false }
     {
         IntoIter::new(disk, self.begun())

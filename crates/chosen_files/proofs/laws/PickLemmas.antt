@@ -97,13 +97,13 @@ module _ (tree : Tree) (is : IsTree tree) (top : NameList) (globs : List (List �
             omega (arith, long, l, m)
 
   -- of entries at some places in order, the chosen ones, and their paths below a root
-  record AreChosenOf (root : List ℕ) (places : List NameList) (paths : List (List ℕ)) : Type 0 where
-    chosen : List NameList
-    in_order : IsStrictlySortedBy name_list_cmp chosen
-    these : (q : NameList) → In q chosen ↔ (In q places × IsChosen tree top globs q)
-    names : List NameList
-    chosen_are : chosen ≡ map (λ below. top ++ below) names
-    paths_are : paths ≡ map (path_from root) names
+  pub record AreChosenOf (root : List ℕ) (places : List NameList) (paths : List (List ℕ)) : Type 0 where
+    pub chosen : List NameList
+    pub in_order : IsStrictlySortedBy name_list_cmp chosen
+    pub these : (q : NameList) → In q chosen ↔ (In q places × IsChosen tree top globs q)
+    pub names : List NameList
+    pub chosen_are : chosen ≡ map (λ below. top ++ below) names
+    pub paths_are : paths ≡ map (path_from root) names
 
   one_more : (root : List ℕ) (place : NameList) (places : List NameList) (paths more : List (List ℕ)) (within : IsWithin top place)
       → AllByRecursion (λ q. name_list_cmp place q ≡ Less) places → IsChosen tree top globs place → paths ≡ path_from root within.0 ∷ more
@@ -145,7 +145,7 @@ module _ (tree : Tree) (is : IsTree tree) (top : NameList) (globs : List (List �
       to_in q (inl e, c) = absurd (not (subst (λ (q : NameList). IsChosen tree top globs q) (sym e) c))
       to_in q (inr i, c) = (rest.these q).1 (i, c)
 
-  picked_of : (root : List ℕ) (places : List NameList) (items : List Item) (paths : List (List ℕ)) → AreEntriesAt tree top places items
+  pub picked_of : (root : List ℕ) (places : List NameList) (items : List Item) (paths : List (List ℕ)) → AreEntriesAt tree top places items
       → AllByRecursion (IsWithin top) places → IsStrictlySortedBy name_list_cmp places → Picks tree root (path_text top) globs items paths
       → AreChosenOf root places paths
   unfolding IsStrictlySortedBy

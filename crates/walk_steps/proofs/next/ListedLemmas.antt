@@ -127,7 +127,7 @@ length_sorted : {X : Type 0} (compare : X → X → Ordering) (xs : List X) → 
 length_sorted compare [] = refl
 length_sorted compare (x ∷ xs) = let e = length_sorted compare xs in let f = length_insert compare x (sorted compare xs) in omega (arith, e, f)
 
-length_order : (manner : Manner) (xs : List DirEntry) → length (in_order manner xs) ≡ length xs
+pub length_order : (manner : Manner) (xs : List DirEntry) → length (in_order manner xs) ≡ length xs
 length_order manner xs = by manner.sorts
   where
     by : (b : Bool) → length (cond b (sorted manner.compare xs) xs) ≡ length xs

@@ -1,6 +1,6 @@
 -- What is left of a walk once an entry was met.
-use Rattle.std.proofs.Common.{◌≡◌, ◌+◌, ◌≤◌, ◌⊎◌, ℕ, Bool, true, false, cond, List, [], ◌∷◌, ◌++◌, length, map, Option, Some, None, Err, refl, sym, subst, ◌∙◌, ap, arith, inl, inr, append-nil}
-use Rattle.std.specs.Prelude.{◌&&◌, nat_eq, nat_lt, option_map}
+use Rattle.std.proofs.Common.{◌≡◌, ◌+◌, ◌≤◌, ◌⊎◌, ℕ, Bool, true, false, cond, List, [], ◌∷◌, ◌++◌, length, map, Option, Some, None, Ok, Err, refl, sym, subst, ◌∙◌, ap, arith, inl, inr, append-nil}
+use Rattle.std.specs.Prelude.{◌↔◌, ◌&&◌, nat_eq, nat_lt, option_map}
 use Rattle.std.specs.declared.cmp.Ordering.{Ordering}
 use Rattle.sd_io.specs.Count.{HasRisen}
 use Rattle.sd_io.specs.Tree.{Node, Tree, is_directory_content}
@@ -125,12 +125,16 @@ fresh_opened Unread first faults empty faultless = (empty, faultless)
 fresh_opened (Open list) first faults empty faultless = tt
 fresh_opened (Kept kept) first faults empty faultless = tt
 
+-- a level that was read doesn't lie unread on top
+pub read_top : (level : Level) → IsRead level.entries → HasUnreadTop (Some level) → ⊥
+read_top level read has = let is : level ≡ has.level = cc has.on_top in subst IsRead (ap (λ (l : Level). l.entries) is ∙ has.unread) read
+
 module _ {S : Type 0} where
   pub came : (s now : DiskState) (sorts : Bool) (by : DirEntry → DirEntry → Ordering) (rest new : Rest) (item : Option Item) (inside : Inside S) → Comes rest item new → HasRest now sorts by inside new → s.faults ≤ now.faults
-      → (IsNextInto rest → HasUnreadTop inside.top) → TurnsTo s sorts by rest item now inside
+      → ((entry : DirEntry) → item ≡ Some (Ok entry) → IsNextInto rest ↔ HasUnreadTop inside.top) → TurnsTo s sorts by rest item now inside
   came s now sorts by rest new None inside c h le lies = record { cuts = 0; new = new; moves = come none c; left = h; allowed = allowed_none s.faults now.faults le }
   came s now sorts by rest new (Some item) inside c h le lies =
-      record { cuts = 0; new = new; is_step = record { mid = rest; moves = none; answers = inr c }; left = h; allowed = allowed_none s.faults now.faults le; enters = λ entry is. lies }
+      record { cuts = 0; new = new; is_step = record { mid = rest; moves = none; answers = inr c }; left = h; allowed = allowed_none s.faults now.faults le; enters = lies }
 
   -- where the level goes back on top
   pub record PutsBack (s now : DiskState) (sorts : Bool) (by : DirEntry → DirEntry → Ordering) (inside : Inside S) (level : Level) (entry : DirEntry) (rest : Rest) : Type 0 where
@@ -183,7 +187,8 @@ module _ {S : Type 0} where
           let same : i ≡ item = is i h.1 in
           came s now sorts by rest new item (with_top inside level)
           (record { below = t.below; part = t.part; was = t.was; faultless = t.faultless; comes = rw (t.first, e, same) (refl, refl) })
-          (taken_rest s now sorts by inside level entry rest plan p h.2) p.faults (λ next. absurd (past_not_into t.below t.part path i plan rest t.was e next))
+          (taken_rest s now sorts by inside level entry rest plan p h.2) p.faults
+          (λ other given. (λ next. absurd (past_not_into t.below t.part path i plan rest t.was e next), λ unread. absurd (read_top level p.read unread)))
       at (into folder before contents after plan) e h = absurd (out folder before after h.0)
 
   -- a call on it failed
@@ -264,7 +269,10 @@ module _ {S : Type 0} where
           (λ on. inr (device ∙ (t.device on ∙ ap (λ tree. device_to tree inside.root) (sym p.tree)))) in
           came s now sorts by rest ((t.below ++ outer ∷ []) ++ entered f contents ∷ []) (option_map item_of given) new
           (record { below = t.below; part = t.part; was = t.was; faultless = t.faultless; comes = rw (t.first, left) (e.before ∙ sym in_it.1, refl) }) has p.faults
-          (λ next. record { level = e.opened; folder = folder; on_top = e.top; folder_is = e.folder_is; unread = e.unread })
+          (λ other is. (
+            λ next. record { level = e.opened; folder = folder; on_top = e.top; folder_is = e.folder_is; unread = e.unread },
+            λ unread. record { below = t.below; part = t.part; is = t.was; first = t.first; folder = f; before = before; contents = contents; after = after; plan = plan; next = left },
+          ))
 
   -- ---- what see tells
 

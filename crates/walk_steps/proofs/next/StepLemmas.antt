@@ -274,9 +274,9 @@ module _ {S : Type 0} where
       }
 
   pub first_turn : (s : DiskState) (sorts : Bool) (by : DirEntry → DirEntry → Ordering) (inside : Inside S) (old new : Level) (entry : DirEntry) (rest : Rest) → HasRest s sorts by (with_top inside old) rest
-      → old.faults.items ≡ [] → old.first ≡ Some entry → new.folder ≡ old.folder → new.first ≡ None → new.entries ≡ old.entries → new.faults.items ≡ []
+      → old.faults.items ≡ [] → old.first ≡ Some entry → (old.entries ≡ Unread → ⊥) → new.folder ≡ old.folder → new.first ≡ None → new.entries ≡ old.entries → new.faults.items ≡ []
       → StepsTo s sorts by rest (Some (Ok entry)) s (with_top inside new)
-  first_turn s sorts by inside old new entry rest h faultless was folder now entries none_due =
+  first_turn s sorts by inside old new entry rest h faultless was read folder now entries none_due =
       let m = manner_of s.tree inside.options sorts by inside.root in
       let p = top_parts s sorts by inside old rest h in
       let answered : Part = record p.part { first = None } in
@@ -296,7 +296,10 @@ module _ {S : Type 0} where
           faults = p.top.faults ∙ (ap (map fault_of) (faultless ∙ sym none_due));
         }) (knows_relevel s.tree inside old new folder entries h.device);
         allowed = allowed_none s.faults s.faults (omega arith);
-        enters = λ other is next. absurd (first_not_into p.below p.part (item_of entry) rest p.rest_is due next);
+        enters = λ other is. (
+          λ next. absurd (first_not_into p.below p.part (item_of entry) rest p.rest_is due next),
+          λ has. absurd (read (sym entries ∙ (let same : new ≡ has.level = cc has.on_top in ap (λ (l : Level). l.entries) same ∙ has.unread))),
+        );
       }
 
   -- the same level in other memory

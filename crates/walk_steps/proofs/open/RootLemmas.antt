@@ -26,7 +26,7 @@ use Rattle.walk_steps.specs.Steps.{CannotBegin, LiesUnread, MovesTo, StepsTo}
 use Rattle.walk_steps.proofs.leave.SoundLemmas.{clear_unread, weight_kept}
 use Rattle.walk_steps.proofs.leave.WithinLemmas.{work_snoc}
 use Rattle.walk_steps.proofs.open.OpenLemmas.{clear_from, is_sound_top, keeps_none, keeps_top, no_top, sound_on, sound_top}
-use Rattle.walk_steps.proofs.next.StepLemmas.{allowed_none, allowed_one, parts_later, past_not_into, rest_of, top_parts}
+use Rattle.walk_steps.proofs.next.StepLemmas.{allowed_none, allowed_one, parts_later, rest_of, top_parts}
 use Rattle.walk_steps.proofs.next.MeetLemmas.{came, due_of_plan, next_gone, reads_all}
 
 -- ---- the root's path
@@ -235,7 +235,7 @@ module _ {S : Type 0} where
           let first : p.part.first ≡ None = p.top.first ∙ ap (option_map item_of) r.lies.first in
           came s now sorts by rest (p.below ++ record p.part { left = done } ∷ []) (Some (Err failed)) new
           (record { below = p.below; part = p.part; was = p.rest_is; faultless = p.top.faults ∙ ap (map fault_of) r.lies.faultless; comes = come_past p.below p.part inside.root (Some (Err failed)) done first is }) has r.faults
-          (λ next. absurd (past_not_into p.below p.part inside.root (Some (Err failed)) done rest p.rest_is is next))
+          (λ entry given. absurd (cc given))
 
   -- ---- what stays
 

@@ -1,5 +1,5 @@
 -- Entries that are taken, and lists that end.
-use Rattle.std.proofs.Common.{◌≡◌, ◌+◌, ◌≤◌, ◌⊎◌, ℕ, List, [], ◌∷◌, ◌++◌, length, length-append, Option, Some, None, Result, Ok, Err, ◌∙◌, ap, arith, inl, inr}
+use Rattle.std.proofs.Common.{◌≡◌, ◌+◌, ◌≤◌, List, [], ◌∷◌, ◌++◌, length-append, Option, None, Result, Ok, Err, ◌∙◌, ap, arith, inl, inr}
 use Rattle.std.specs.Prelude.{IfOk, OnOk}
 use Rattle.sd_io.specs.Disk.{DiskState}
 use Rattle.walk_rest.specs.declared.entry.DirEntry.{DirEntry}
@@ -8,7 +8,7 @@ use Rattle.walk_rest.specs.declared.level.Level.{Level}
 use Rattle.walk_rest.specs.Plan.{Item}
 use Rattle.walk_steps.specs.declared.inside.Inside.{Inside}
 use Rattle.walk_steps.specs.Inside.{levels_of, top_levels}
-use Rattle.walk_steps.specs.Progress.{EndsList, GivesDue, Progresses, TakesEntry, kept_in, kept_of}
+use Rattle.walk_steps.specs.Progress.{Progresses, kept_in, kept_of}
 use Rattle.walk_steps.specs.Steps.{Enters}
 
 pub kept_snoc : (xs : List Level) (x : Level) → kept_in (xs ++ x ∷ []) ≡ kept_in xs + kept_of x.entries

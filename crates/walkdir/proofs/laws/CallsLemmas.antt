@@ -1,8 +1,12 @@
 -- Calls of a walk, one after another.
 use Rattle.std.proofs.Common.{◌≡◌, ◌+◌, ◌≤◌, ◌⊎◌, ℕ, Bool, true, List, [], Option, Some, None, Err, refl, sym, subst, ap, arith, inl, inr}
-use Rattle.std.specs.Prelude.{IsTrue}
+use Rattle.std.specs.Prelude.{◌&&◌, IsTrue, is_some}
+use Rattle.std.proofs.lemmas.Bool.{false≢true}
 use Rattle.sd_io.specs.Disk.{DiskState}
 use Rattle.walk_rest.specs.declared.error.Error.TheVariants as error
+use Rattle.walk_rest.specs.declared.level.Entries.{Entries}
+use Rattle.walk_rest.specs.declared.level.Entries.TheVariants.{Unread, Open, Kept}
+use Rattle.walk_rest.specs.declared.level.Folder.{Folder}
 use Rattle.walk_rest.specs.declared.level.Level.{Level}
 use Rattle.walk_rest.specs.Listing.{manner_of}
 use Rattle.walk_rest.specs.Level.{HasParts, IsAllowed}
@@ -15,7 +19,7 @@ use Rattle.walk_steps.specs.Listed.{GivesListed, waits_in}
 use Rattle.walk_steps.specs.Steps.{HasUnreadTop, StepsTo}
 use Rattle.walkdir.specs.Calls.{Asks, Calls, all_below, all_told, no_more, gave, gave_none, skipped, asked}
 use Rattle.walk_steps.specs.Promises.{GivesNext, SkipsTop}
-use Rattle.walkdir.specs.Steps.{lies_unread}
+use Rattle.walkdir.specs.Steps.{is_unread, lies_unread}
 use Rattle.walkdir.proofs.WalkLemmas.{still_rest_after}
 
 -- ---- counts
@@ -43,6 +47,16 @@ told_allowed n old new x z none (inr h) = inr h
 
 pub unread_top : (top : Option Level) → HasUnreadTop top → lies_unread top ≡ true
 unread_top top h = rw (h.on_top, h.folder_is, h.unread) refl
+
+pub top_unread : (top : Option Level) → lies_unread top ≡ true → HasUnreadTop top
+top_unread None lies = absurd (false≢true lies)
+top_unread (Some level) lies = by level.folder level.entries refl refl lies
+  where
+    by : (folder : Option Folder) (entries : Entries) → level.folder ≡ folder → level.entries ≡ entries → (is_some folder && is_unread entries) ≡ true → HasUnreadTop (Some level)
+    by None entries f e lies = absurd (false≢true lies)
+    by (Some folder) Unread f e lies = record { level = level; folder = folder; on_top = refl; folder_is = f; unread = e }
+    by (Some folder) (Open list) f e lies = absurd (false≢true lies)
+    by (Some folder) (Kept kept) f e lies = absurd (false≢true lies)
 
 module _ {S : Type 0} where
   -- a walk that is over has a rest, in which nothing is left

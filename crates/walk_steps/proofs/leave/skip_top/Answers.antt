@@ -10,6 +10,7 @@ use Rattle.walk_steps.proofs.leave.WithinLemmas.{within_fewer}
 use Rattle.walk_steps.proofs.leave.OthersLemmas.{fresh_top, others_closed, shallow_split}
 use Rattle.walk_steps.proofs.next.StepLemmas.{top_is, skipped, skipped_none, rest_of, rest_parts, knows_at, no_items}
 use Rattle.walk_steps.proofs.next.CauseLemmas.{due_snoc}
+use Rattle.walk_steps.proofs.next.MeetLemmas.{read_top}
 use Rattle.walk_steps.proofs.take.WaitsLemmas.{waits_snoc}
 use Rattle.walk_steps.proofs.leave.skip_top.Given as given
 use Rattle.walk_steps.proofs.leave.skip_top.Goals as goal
@@ -120,3 +121,15 @@ returns-in-Some-pop-clause-due g c =
     let was = ap faults_due (was_in g c) in
     let all = due_snoc (c.pop.new.self.items ++ c.in-Some-pop.below ∷ []) c.in-Some.level in
     omega (arith, was, all)
+
+-- ---- what lies unread on top
+
+pub returns-in-None-clause-unread : goal.returns-in-None-clause-unread
+returns-in-None-clause-unread g c = λ unread.
+    let level = c.in-Some.level in
+    let was = top_is c.args.inside.now level (sym c.take.ensures.value ∙ c.in-Some.is) in
+    sym (was ∙ ap (λ (xs : List Level). xs ++ level ∷ []) (c.in-None.ensures.items ∙ append-nil c.pop.new.self.items))
+
+pub returns-in-Some-pop-clause-unread : goal.returns-in-Some-pop-clause-unread
+returns-in-Some-pop-clause-unread g c = λ unread.
+    absurd (read_top c.in-Some-pop.below (read_split c.pop.new.self.items c.in-Some-pop.below (subst AreRead c.in-Some-pop.ensures.items c.requires.read)).1 unread)

@@ -37,7 +37,8 @@ returns-in-Some-take-clause-turns g c = λ tells by rest same h.
     let faultless = no_items c.args.level.faults.items (let z = c.in_default.ensures.cases.0 in omega (arith, z, c.args.level.faults.ok.0)) in
     let popped = no_items c.pop.new.self.items (let z = c.in_default.ensures.cases.1 in omega (arith, z, c.pop.new.self.ok.0)) in
     first_turn (g.D.Disk.state c.args.disk.now) (g.S.Order.sorts c.args.inside.now.order) by c.args.inside.now c.args.level _ c.in-Some-take.entry rest h faultless
-    (sym c.take.ensures.value ∙ c.in-Some-take.is) refl c.take.ensures.after refl popped
+    (sym c.take.ensures.value ∙ c.in-Some-take.is)
+    (first_not c.args.level.entries c.args.level.first c.args.level.faults.items c.in-Some-take.entry c.requires.sound.fresh (sym c.take.ensures.value ∙ c.in-Some-take.is)) refl c.take.ensures.after refl popped
 
 pub returns-in-Some-take-clause-sound : goal.returns-in-Some-take-clause-sound
 returns-in-Some-take-clause-sound g c =

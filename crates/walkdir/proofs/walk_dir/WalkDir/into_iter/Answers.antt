@@ -3,9 +3,9 @@ use Rattle.walk_rest.specs.Rest.{start}
 use Rattle.walk_steps.specs.declared.inside.Inside.{Inside}
 use Rattle.walk_steps.specs.Causes.{faults_due}
 use Rattle.walk_steps.specs.Inside.{HasRest, levels_of}
-use Rattle.walk_steps.specs.Listed.{waits_in}
+use Rattle.walk_steps.specs.Listed.{IsToListOnTop, waits_in}
 use Rattle.walk_steps.specs.Sound.{IsSound, opens}
-use Rattle.walkdir.proofs.WalkLemmas.{begun_due, begun_opens, begun_rest, begun_sound, begun_waits}
+use Rattle.walkdir.proofs.WalkLemmas.{begun_due, begun_opens, begun_rest, begun_sound, begun_to_list, begun_waits}
 use Rattle.walkdir.proofs.walk_dir.WalkDir.into_iter.Goals as goal
 
 pub returns-clause-order : goal.returns-clause-order
@@ -37,3 +37,8 @@ returns-clause-none_waits g c =
 pub returns-clause-none_due : goal.returns-clause-none_due
 returns-clause-none_due g c =
     ap (λ (inside : Inside _). faults_due (levels_of inside)) c.new.ensures.inside ∙ begun_due c.args.self.options c.args.self.order c.args.self.root c.begun.result c.begun.ensures
+
+pub returns-clause-none_to_list : goal.returns-clause-none_to_list
+returns-clause-none_to_list g c = λ tree deepest.
+    subst (λ (inside : Inside _). IsToListOnTop tree deepest inside.top 0) (sym c.new.ensures.inside)
+    (begun_to_list tree deepest c.args.self.options c.args.self.order c.args.self.root c.begun.result c.begun.ensures)

@@ -1,0 +1,2 @@
+-- What the proofs about paths below a folder use.
+pub mod NamesLemmas

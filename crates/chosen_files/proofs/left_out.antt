@@ -1,0 +1,2 @@
+-- What the proofs about rules below a top use.
+pub mod AfterLemmas
