@@ -21,7 +21,7 @@ told_as_error (Ok report) = Ok report
 told_as_error (Err fault) = Err (of_apply fault)
 
 -- The plan of these lines is applied, or refused, with all that is promised of that.
-pub record AppliesPlan (change : Change) (lines : List PlanLine) (result : Result Report Error) (d : Course DiskState) : Type 0 where
+pub record AppliesLines (change : Change) (lines : List PlanLine) (result : Result Report Error) (d : Course DiskState) : Type 0 where
   pub answer : Result Report ApplyFault
   pub applies : Applies change lines answer d
   pub told : result ≡ told_as_error answer
@@ -62,7 +62,7 @@ pub record ReadsPlan (path : List ℕ) (result : Result (List PlanLine) Error) (
 
 -- The plan that was read is applied; where none was read, nothing more is done.
 abbrev pub ThenApplies : Change → Result (List PlanLine) Error → Result Report Error → Course DiskState → Type 0
-ThenApplies change (Ok lines) result d = AppliesPlan change lines result d
+ThenApplies change (Ok lines) result d = AppliesLines change lines result d
 ThenApplies change (Err failed) result d = (result ≡ Err failed) × (d.new ≡ d.old)
 
 -- What the applying of the plan that a file holds promises: the file is read, which leaves the tree as it is, and then its plan is applied.

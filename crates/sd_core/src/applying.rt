@@ -2,7 +2,7 @@
 
 ghost use Rattle.std.specs.Prelude.{◌≡◌};
 ghost use Rattle.sd_course.specs.Course.{course};
-ghost use Rattle.sd_core.specs.Apply.{AppliesFile, AppliesPlan, ReadsPlan};
+ghost use Rattle.sd_core.specs.Apply.{AppliesFile, AppliesLines, ReadsPlan};
 
 use crate::error::{of_apply, of_disk, of_plan};
 use crate::{Report, Result};
@@ -24,7 +24,7 @@ pub fn apply_plan<D: Disk, R: Replaces>(
     plan: &Plan,
     replacer: &R,
 ) -> Result<Report>
-    ensures { AppliesPlan (R.change replacer.now) plan.now result (course D.tells (D.state disk.old) (D.state disk.new)) }
+    ensures { AppliesLines (R.change replacer.now) plan.now result (course D.tells (D.state disk.old) (D.state disk.new)) }
 {
     planned_files::apply_plan(alloc, disk, plan, replacer).map_err(of_apply)
 }
