@@ -33,6 +33,7 @@ options =
     ∷ option (codes "root") None
     ∷ option (codes "demo") None
     ∷ option (codes "apply") None
+    ∷ option (codes "ignore") None
     ∷ []
 
 -- the two texts that must be there

@@ -17,6 +17,7 @@ pub record Texts : Type 0 where
   pub root : Option Text
   pub demo : Option Text
   pub apply : Option Text
+  pub ignore : Option Text
   pub find : Text
   pub replace_with : Text
   pub words : List Text
@@ -41,6 +42,7 @@ texts_in rows = record {
   root = first_of (codes "root") rows;
   demo = first_of (codes "demo") rows;
   apply = first_of (codes "apply") rows;
+  ignore = first_of (codes "ignore") rows;
   find = unwrap_or (first_of (codes "find") rows) [];
   replace_with = unwrap_or (first_of (codes "replace-with") rows) [];
   words = values_of (codes "words") rows;

@@ -24,6 +24,7 @@ texts_read m = record {
   root = text_of m.root;
   demo = text_of m.demo;
   apply = text_of m.apply;
+  ignore = text_of m.ignore;
   find = m.find.now;
   replace_with = m.replace_with.now;
   words = texts_lent m.words;

@@ -31,9 +31,13 @@ demo_clashes t = is_some t.demo && (is_some t.root || t.preview)
 abbrev pub apply_clashes : Texts → Bool
 apply_clashes t = is_some t.apply && (is_some t.root || is_some t.demo || t.preview || not (is_empty t.words))
 
+-- `--ignore` stands without `--root`, or with `-p`
+abbrev pub ignore_clashes : Texts → Bool
+ignore_clashes t = is_some t.ignore && (is_none t.root || t.preview)
+
 -- all that is given may stand together
 abbrev pub stand_together : Texts → Bool
-stand_together t = not (demo_clashes t || apply_clashes t)
+stand_together t = not (demo_clashes t || apply_clashes t || ignore_clashes t)
 
 -- the record of the texts, with their numbers
 abbrev pub options_with : Texts → ℕ → Option ℕ → Options
@@ -46,6 +50,7 @@ options_with t limit demo = record {
   root = t.root;
   demo = demo;
   apply = t.apply;
+  ignore = t.ignore;
   find = t.find;
   replace_with = t.replace_with;
   words = t.words;
@@ -62,6 +67,6 @@ order_by t =
 unfoldable pub order_of : List Text → Option Options
 order_of words = option_and_then order_by (texts_of words)
 
--- a tree command: an order with a root, without preview, and without a plan to apply
+-- a tree command: an order with a root, without preview, without a plan to apply, and without rules to ignore by
 abbrev pub is_tree_command : Options → Bool
-is_tree_command order = is_some order.root && not order.preview && is_none order.apply
+is_tree_command order = is_some order.root && not order.preview && is_none order.apply && is_none order.ignore

@@ -21,6 +21,7 @@ pub data Key : Type 0 where
   root : Key
   demo : Key
   apply : Key
+  ignore : Key
 
 -- the form of an option's word
 pub data Spelling : Type 0 where
@@ -40,6 +41,7 @@ key_name flags = codes "flags"
 key_name root = codes "root"
 key_name demo = codes "demo"
 key_name apply = codes "apply"
+key_name ignore = codes "ignore"
 
 -- the word of a flag
 abbrev pub flag_word : Flag → Spelling → Text
@@ -52,7 +54,7 @@ flag_word string_mode long = codes "--string-mode"
 flag_word line_mode short = codes "-l"
 flag_word line_mode long = codes "--line-mode"
 
--- the word of an option with a value; three have a long form alone
+-- the word of an option with a value; four have a long form alone
 abbrev pub key_word : Key → Spelling → Text
 key_word limit short = codes "-n"
 key_word limit long = codes "--max-replacements"
@@ -61,6 +63,7 @@ key_word flags long = codes "--flags"
 key_word root _ = codes "--root"
 key_word demo _ = codes "--demo"
 key_word apply _ = codes "--apply"
+key_word ignore _ = codes "--ignore"
 
 -- an option as it stands in plain words: a flag, or an option and its value
 pub data Part : Type 0 where
@@ -128,6 +131,7 @@ table parts find_word replace_word rest = record {
   root = value_of root parts;
   demo = value_of demo parts;
   apply = value_of apply parts;
+  ignore = value_of ignore parts;
   find = find_word;
   replace_with = replace_word;
   words = rest;
@@ -149,6 +153,7 @@ options_of dir find_word replace_word rest = record {
   root = dir;
   demo = None;
   apply = None;
+  ignore = None;
   find = find_word;
   replace_with = replace_word;
   words = rest;

@@ -64,12 +64,19 @@ fn with_options<'a>(alloc: Global, command: Command<'a>) -> Result<Command<'a>, 
     );
     let demo = option(alloc, "demo", "N", "Change a tree of N files in memory");
     let apply = option(alloc, "apply", "FILE", "Carry out the plan that FILE holds");
+    let ignore = option(
+        alloc,
+        "ignore",
+        "FILE",
+        "Leave out what the rules in FILE ignore",
+    );
     command
         .arg(limit)?
         .arg(flags)?
         .arg(root)?
         .arg(demo)?
-        .arg(apply)
+        .arg(apply)?
+        .arg(ignore)
 }
 
 /// The command with the words after its options too.

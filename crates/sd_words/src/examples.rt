@@ -26,6 +26,7 @@ pub fn options_are_read_as_in_the_examples()
     ensures root { AsksFor (codes "--root /t -- a b *") (record (a_by_b (codes "*" ∷ [])) { root = Some (codes "/t") }) }
     ensures demo { AsksFor (codes "--demo 2000 -- a b *") (record (a_by_b (codes "*" ∷ [])) { demo = Some 2000 }) }
     ensures apply { AsksFor (codes "--apply /p -- a b") (record (a_by_b []) { apply = Some (codes "/p") }) }
+    ensures ignore { AsksFor (codes "--root /t --ignore /r -- a b *") (record (a_by_b (codes "*" ∷ [])) { root = Some (codes "/t"); ignore = Some (codes "/r") }) }
 {}
 
 /// Values that stand in the word of their option, and options that stand together.
@@ -71,6 +72,8 @@ pub fn refused_words_are_as_in_the_examples()
     ensures option_twice { AsksForNothing (codes "-n 1 -n 2 a b") }
     ensures no_value { AsksForNothing (codes "a b --root") }
     ensures no_file { AsksForNothing (codes "a b --apply") }
+    ensures no_rules { AsksForNothing (codes "--root /t a b --ignore") }
+    ensures ignore_twice { AsksForNothing (codes "--root /t --ignore /r --ignore /r a b") }
     ensures apply_twice { AsksForNothing (codes "--apply /p --apply /p a b") }
     ensures value_of_a_flag { AsksForNothing (codes "--preview=x a b") }
     ensures dash_before_a_number { AsksForNothing (codes "-n -5 a b") }
@@ -124,6 +127,31 @@ pub fn applied_plans_are_as_in_the_examples()
     ensures one_word { AsksForNothing (codes "--apply /p -- a") }
 {}
 
+/// What rules to ignore by may stand with, and what they may not.
+#[tactic(auto, unfolding(crate::specs::Order::order_of, clap::proofs::OnLiterals::clap_on_literals))]
+pub fn ignore_rules_are_as_in_the_examples()
+    ensures after_a_sign { AsksFor (codes "--ignore=/r --root=/t a b") (record (a_by_b []) { root = Some (codes "/t"); ignore = Some (codes "/r") }) }
+    ensures after_the_words { AsksFor (codes "a b --ignore /r --root /t") (record (a_by_b []) { root = Some (codes "/t"); ignore = Some (codes "/r") }) }
+    ensures no_name { AsksFor (codes "--root /t --ignore= a b") (record (a_by_b []) { root = Some (codes "/t"); ignore = Some [] }) }
+    ensures line_mode { AsksFor (codes "--root /t --ignore /r -l a b") (record (a_by_b [])
+        { root = Some (codes "/t"); ignore = Some (codes "/r"); line_mode = true }) }
+    ensures limit { AsksFor (codes "--root /t --ignore /r -n 2 a b") (record (a_by_b [])
+        { root = Some (codes "/t"); ignore = Some (codes "/r"); replacements = 2 }) }
+    ensures fixed_strings { AsksFor (codes "--root /t --ignore /r -F a b") (record (a_by_b [])
+        { root = Some (codes "/t"); ignore = Some (codes "/r"); literal_mode = true }) }
+    ensures flags { AsksFor (codes "--root /t --ignore /r -f i a b") (record (a_by_b [])
+        { root = Some (codes "/t"); ignore = Some (codes "/r"); flags = Some (codes "i") }) }
+    ensures the_others { AsksFor (codes "--root /t --ignore=/r -lF -n 2 -f i -- a b *") (record (a_by_b (codes "*" ∷ []))
+        { root = Some (codes "/t"); ignore = Some (codes "/r"); line_mode = true; literal_mode = true; replacements = 2; flags = Some (codes "i") }) }
+    ensures no_root { AsksForNothing (codes "--ignore /r a b") }
+    ensures files { AsksForNothing (codes "--ignore /r -- a b x") }
+    ensures preview { AsksForNothing (codes "--root /t --ignore /r -p a b") }
+    ensures demo { AsksForNothing (codes "--ignore /r --demo 1 a b") }
+    ensures demo_and_root { AsksForNothing (codes "--root /t --ignore /r --demo 1 a b") }
+    ensures apply { AsksForNothing (codes "--ignore /r --apply /p a b") }
+    ensures apply_and_root { AsksForNothing (codes "--root /t --ignore /r --apply /p a b") }
+{}
+
 /// Which orders are tree commands.
 pub fn tree_commands_are_as_in_the_examples()
     ensures root { is_tree_command (options_of (Some (codes "/t")) (codes "a") (codes "b") []) ≡ true }
@@ -131,6 +159,7 @@ pub fn tree_commands_are_as_in_the_examples()
     ensures no_root { is_tree_command (a_by_b []) ≡ false }
     ensures preview { is_tree_command (record (a_by_b []) { preview = true; root = Some (codes "/t") }) ≡ false }
     ensures apply { is_tree_command (record (a_by_b []) { apply = Some (codes "/p"); root = Some (codes "/t") }) ≡ false }
+    ensures ignore { is_tree_command (record (a_by_b []) { ignore = Some (codes "/r"); root = Some (codes "/t") }) ≡ false }
 {}
 
 /// What is shown of the text of a mistake.

@@ -16,10 +16,11 @@ mod options;
 mod tests;
 
 pub use examples::{
-    applied_plans_are_as_in_the_examples, joined_words_are_read_as_in_the_examples,
-    mistakes_are_shown_as_in_the_examples, numbers_and_exclusions_are_as_in_the_examples,
-    options_are_read_as_in_the_examples, other_words_are_read_as_in_the_examples,
-    refused_words_are_as_in_the_examples, tree_commands_are_as_in_the_examples,
+    applied_plans_are_as_in_the_examples, ignore_rules_are_as_in_the_examples,
+    joined_words_are_read_as_in_the_examples, mistakes_are_shown_as_in_the_examples,
+    numbers_and_exclusions_are_as_in_the_examples, options_are_read_as_in_the_examples,
+    other_words_are_read_as_in_the_examples, refused_words_are_as_in_the_examples,
+    tree_commands_are_as_in_the_examples,
 };
 pub use fault::OptionsFault;
 pub use laws::{

@@ -33,6 +33,8 @@ pub struct Options {
     pub demo: Option<u64>,
     /// The file whose plan is applied.
     pub apply: Option<Text>,
+    /// The file whose rules say what below the root is left out.
+    pub ignore: Option<Text>,
     /// The text to find.
     pub find: Text,
     /// What takes its place.
@@ -44,8 +46,9 @@ pub struct Options {
 impl Options {
     /// Reads the words after the program's name. Answers `Usage` exactly where they ask for nothing that can be done: where
     /// the command doesn't take them, where a number isn't digits alone or is too great, where a demo stands with a root or
-    /// with preview, or where a plan is applied with one of these three or with words after the first two. A demand for help
-    /// is such a refusal. Want of memory may come at any words.
+    /// with preview, where a plan is applied with one of these three or with words after the first two, or where rules to
+    /// ignore by stand without a root or with preview. A demand for help is such a refusal. Want of memory may come at any
+    /// words.
     pub fn read(alloc: Global, words: &Words) -> Result<Options, OptionsFault>
         ensures read { MatchResult result (λ options. form.order_of words.now ≡ Some options) (Refuses (form.order_of words.now)) }
         ensures demo { IfOk result (λ options. (n : ℕ) → options.demo ≡ Some n → n ≤ form.demo_max) }
@@ -77,6 +80,7 @@ impl Options {
             root: owned(alloc, texts.root)?,
             demo,
             apply: owned(alloc, texts.apply)?,
+            ignore: owned(alloc, texts.ignore)?,
             find: Text::new(alloc, texts.find)?,
             replace_with: Text::new(alloc, texts.replace_with)?,
             words: all_owned(alloc, texts.words)?,
@@ -99,7 +103,7 @@ fn lent<'w>(alloc: Global, words: &'w Words) -> Result<Vec<&'w str>, NoMemory>
 fn stand_together(texts: &Matched<'_, '_>) -> bool
     ensures { result ≡ form.stand_together (texts_read texts.now) }
 {
-    !(demo_clashes(texts) || apply_clashes(texts))
+    !(demo_clashes(texts) || apply_clashes(texts) || ignore_clashes(texts))
 }
 
 /// Whether a demo stands with a root or with preview.
@@ -115,6 +119,13 @@ fn apply_clashes(texts: &Matched<'_, '_>) -> bool
 {
     texts.apply.is_some()
         && (texts.root.is_some() || texts.demo.is_some() || texts.preview || has_words(texts))
+}
+
+/// Whether rules to ignore by stand without a root, or with preview.
+fn ignore_clashes(texts: &Matched<'_, '_>) -> bool
+    ensures { result ≡ form.ignore_clashes (texts_read texts.now) }
+{
+    texts.ignore.is_some() && (texts.root.is_none() || texts.preview)
 }
 
 /// Whether words stand after the first two.

@@ -35,6 +35,7 @@ fn show_options(alloc: Global, options: &Options) -> Result<String, Fail> {
         write!(shown, "demo {count} ")?;
     }
     show_text(&mut shown, "apply", &options.apply)?;
+    show_text(&mut shown, "ignore", &options.ignore)?;
     write!(
         shown,
         "[{}] [{}]",
@@ -72,7 +73,7 @@ fn check_rows<R: Abort>(rt: &R, alloc: Global, rows: &[Row<'_>]) -> Result<(), F
     Ok(())
 }
 
-const OPTIONS: [Row<'static>; 22] = [
+const OPTIONS: [Row<'static>; 25] = [
     (&["a", "b"], "[a] [b]"),
     (&["-p", "a", "b"], "preview [a] [b]"),
     (&["--preview", "a", "b"], "preview [a] [b]"),
@@ -109,6 +110,20 @@ const OPTIONS: [Row<'static>; 22] = [
         &["--apply", "/p", "-lF", "-n", "2", "-f", "i", "a", "b"],
         "literal line limit 2 flags [i] apply [/p] [a] [b]",
     ),
+    (
+        &["--root", "/t", "--ignore", "/r", "--", "a", "b", "*"],
+        "root [/t] ignore [/r] [a] [b] [*]",
+    ),
+    (
+        &["--ignore=/r", "--root=/t", "a", "b"],
+        "root [/t] ignore [/r] [a] [b]",
+    ),
+    (
+        &[
+            "--root", "/t", "--ignore", "/r", "-lF", "-n", "2", "-f", "i", "a", "b",
+        ],
+        "literal line limit 2 flags [i] root [/t] ignore [/r] [a] [b]",
+    ),
     (&["--", "--foo", "-w", "--", "-p"], "[--foo] [-w] [--] [-p]"),
 ];
 
@@ -117,7 +132,7 @@ fn options_are_read_in_both_spellings(rt: HostRuntime) -> Result<(), Fail> {
     check_rows(&rt, rt.alloc(), &OPTIONS)
 }
 
-const REFUSALS: [Row<'static>; 14] = [
+const REFUSALS: [Row<'static>; 16] = [
     (
         &[],
         "error: the following required arguments were not provided:\n  <FIND>\n  <REPLACE_WITH>",
@@ -171,6 +186,14 @@ const REFUSALS: [Row<'static>; 14] = [
         &["--apply", "/p", "--apply", "/p", "a", "b"],
         "error: the argument '--apply <FILE>' cannot be used multiple times",
     ),
+    (
+        &["--root", "/t", "a", "b", "--ignore"],
+        "error: a value is required for '--ignore <FILE>' but none was supplied",
+    ),
+    (
+        &["--root", "/t", "--ignore", "/r", "--ignore", "/r", "a", "b"],
+        "error: the argument '--ignore <FILE>' cannot be used multiple times",
+    ),
 ];
 
 #[test]
@@ -183,7 +206,7 @@ fn refusals_of_the_command_are_shown_up_to_their_first_empty_line(
 /// What is shown where the command takes the words, and they ask for nothing that can be done.
 const INVALID: &str = "error: not a valid command line";
 
-const BROKEN_RULES: [Row<'static>; 12] = [
+const BROKEN_RULES: [Row<'static>; 16] = [
     (&["-n", "1x", "a", "b"], INVALID),
     (&["-n", "+1", "a", "b"], INVALID),
     (&["-n", "", "a", "b"], INVALID),
@@ -196,6 +219,18 @@ const BROKEN_RULES: [Row<'static>; 12] = [
     (&["--apply", "/p", "--demo", "10", "--", "a", "b"], INVALID),
     (&["--apply", "/p", "-p", "--", "a", "b"], INVALID),
     (&["--apply", "/p", "--", "a", "b", "*"], INVALID),
+    (&["--ignore", "/r", "--", "a", "b"], INVALID),
+    (
+        &["-p", "--root", "/t", "--ignore", "/r", "--", "a", "b"],
+        INVALID,
+    ),
+    (&["--ignore", "/r", "--demo", "10", "--", "a", "b"], INVALID),
+    (
+        &[
+            "--root", "/t", "--ignore", "/r", "--apply", "/p", "--", "a", "b",
+        ],
+        INVALID,
+    ),
 ];
 
 #[test]
@@ -222,6 +257,7 @@ Options:
       --root <DIR>                Change the files below DIR that fit a glob
       --demo <N>                  Change a tree of N files in memory
       --apply <FILE>              Carry out the plan that FILE holds
+      --ignore <FILE>             Leave out what the rules in FILE ignore
   -h, --help                      Print help
 ";
 

@@ -142,6 +142,7 @@ no_find (given plain.flags s v) = refl
 no_find (given plain.root s v) = refl
 no_find (given plain.demo s v) = refl
 no_find (given plain.apply s v) = refl
+no_find (given plain.ignore s v) = refl
 
 pub no_replace : (p : Part) → bytes_eq (part_name p) (codes "replace-with") ≡ false
 no_replace (on plain.preview s) = refl
@@ -153,6 +154,7 @@ no_replace (given plain.flags s v) = refl
 no_replace (given plain.root s v) = refl
 no_replace (given plain.demo s v) = refl
 no_replace (given plain.apply s v) = refl
+no_replace (given plain.ignore s v) = refl
 
 pub no_words : (p : Part) → bytes_eq (part_name p) (codes "words") ≡ false
 no_words (on plain.preview s) = refl
@@ -164,6 +166,7 @@ no_words (given plain.flags s v) = refl
 no_words (given plain.root s v) = refl
 no_words (given plain.demo s v) = refl
 no_words (given plain.apply s v) = refl
+no_words (given plain.ignore s v) = refl
 
 pub key_no_flag : (k : Key) (f : Flag) → bytes_eq (key_name k) (flag_name f) ≡ false
 key_no_flag plain.limit plain.preview = refl
@@ -186,6 +189,10 @@ key_no_flag plain.apply plain.preview = refl
 key_no_flag plain.apply plain.fixed_strings = refl
 key_no_flag plain.apply plain.string_mode = refl
 key_no_flag plain.apply plain.line_mode = refl
+key_no_flag plain.ignore plain.preview = refl
+key_no_flag plain.ignore plain.fixed_strings = refl
+key_no_flag plain.ignore plain.string_mode = refl
+key_no_flag plain.ignore plain.line_mode = refl
 
 pub flag_no_key : (f : Flag) (k : Key) → bytes_eq (flag_name f) (key_name k) ≡ false
 flag_no_key plain.preview plain.limit = refl
@@ -193,21 +200,25 @@ flag_no_key plain.preview plain.flags = refl
 flag_no_key plain.preview plain.root = refl
 flag_no_key plain.preview plain.demo = refl
 flag_no_key plain.preview plain.apply = refl
+flag_no_key plain.preview plain.ignore = refl
 flag_no_key plain.fixed_strings plain.limit = refl
 flag_no_key plain.fixed_strings plain.flags = refl
 flag_no_key plain.fixed_strings plain.root = refl
 flag_no_key plain.fixed_strings plain.demo = refl
 flag_no_key plain.fixed_strings plain.apply = refl
+flag_no_key plain.fixed_strings plain.ignore = refl
 flag_no_key plain.string_mode plain.limit = refl
 flag_no_key plain.string_mode plain.flags = refl
 flag_no_key plain.string_mode plain.root = refl
 flag_no_key plain.string_mode plain.demo = refl
 flag_no_key plain.string_mode plain.apply = refl
+flag_no_key plain.string_mode plain.ignore = refl
 flag_no_key plain.line_mode plain.limit = refl
 flag_no_key plain.line_mode plain.flags = refl
 flag_no_key plain.line_mode plain.root = refl
 flag_no_key plain.line_mode plain.demo = refl
 flag_no_key plain.line_mode plain.apply = refl
+flag_no_key plain.line_mode plain.ignore = refl
 
 -- no option has this name
 pub no_row : (name : Text) → ((p : Part) → bytes_eq (part_name p) name ≡ false) → (parts : List Part) → has_row name (map part_row parts) ≡ false

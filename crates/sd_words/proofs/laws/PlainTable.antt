@@ -130,6 +130,8 @@ key_later plain.demo first second [] = refl
 key_later plain.demo first second (word ∷ rest) = refl
 key_later plain.apply first second [] = refl
 key_later plain.apply first second (word ∷ rest) = refl
+key_later plain.ignore first second [] = refl
+key_later plain.ignore first second (word ∷ rest) = refl
 
 or_none : (o : Option Row) → first_some o None ≡ o
 or_none (Some r) = refl
@@ -186,6 +188,7 @@ key_unset plain.flags = refl
 key_unset plain.root = refl
 key_unset plain.demo = refl
 key_unset plain.apply = refl
+key_unset plain.ignore = refl
 
 key_reads : (k : Key) (parts : List Part) → key_read k (part_with (key_name k) parts) ≡ value_of k parts
 key_reads k [] = key_unset k
@@ -233,6 +236,7 @@ module _ (parts : List Part) (first second : Text) (rest : List Text) where
     root = key_field plain.root i;
     demo = key_field plain.demo i;
     apply = key_field plain.apply i;
+    ignore = key_field plain.ignore i;
     find = ap (λ o. unwrap_or (first_value o) []) find_row i;
     replace_with = ap (λ o. unwrap_or (first_value o) []) replace_row i;
     words = rest_field i;

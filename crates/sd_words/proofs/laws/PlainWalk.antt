@@ -101,6 +101,8 @@ key_walked plain.demo plain.short rows pending = refl
 key_walked plain.demo plain.long rows pending = refl
 key_walked plain.apply plain.short rows pending = refl
 key_walked plain.apply plain.long rows pending = refl
+key_walked plain.ignore plain.short rows pending = refl
+key_walked plain.ignore plain.long rows pending = refl
 
 key_fault : (k : Key) (s : Spelling) (rows : List Row) (pending : Pending) → owed rows pending ≡ [] → turn_fault shape [] (at rows pending) (key_word k s) ≡ []
 unfolding clap_on_literals
@@ -114,6 +116,8 @@ key_fault plain.demo plain.short rows pending e = ap (λ x. or_else x []) e
 key_fault plain.demo plain.long rows pending e = ap (λ x. or_else x []) e
 key_fault plain.apply plain.short rows pending e = ap (λ x. or_else x []) e
 key_fault plain.apply plain.long rows pending e = ap (λ x. or_else x []) e
+key_fault plain.ignore plain.short rows pending e = ap (λ x. or_else x []) e
+key_fault plain.ignore plain.long rows pending e = ap (λ x. or_else x []) e
 
 no_minus : (c : ℕ) (word : Text) → is_value (c ∷ word) ≡ true → (c == 45) ≡ false
 no_minus c word e = go (c == 45) refl e
@@ -154,6 +158,7 @@ value_after plain.flags rows v = refl
 value_after plain.root rows v = refl
 value_after plain.demo rows v = refl
 value_after plain.apply rows v = refl
+value_after plain.ignore rows v = refl
 
 value_rest : (k : Key) (rows : List Row) (v : Text) → step_fault shape 1 (value_step rows k v).0 (value_step rows k v).1 ≡ []
 unfolding clap_on_literals
@@ -162,6 +167,7 @@ value_rest plain.flags rows v = refl
 value_rest plain.root rows v = refl
 value_rest plain.demo rows v = refl
 value_rest plain.apply rows v = refl
+value_rest plain.ignore rows v = refl
 
 value_walked : (k : Key) (rows : List Row) (v : Text) → is_value v ≡ true → walked rules [] (waiting_for rows k) v ≡ at rows (Some (key_name k, v ∷ []))
 unfolding walked
@@ -181,6 +187,7 @@ value_logical plain.flags rows v = refl
 value_logical plain.root rows v = refl
 value_logical plain.demo rows v = refl
 value_logical plain.apply rows v = refl
+value_logical plain.ignore rows v = refl
 
 value_owed : (k : Key) (rows : List Row) (v : Text) → has_row (key_name k) rows ≡ false → owed rows (Some (key_name k, v ∷ [])) ≡ []
 value_owed plain.limit rows v n = ap (λ b. or_else [] (or_else (repeats b) [])) n
@@ -188,6 +195,7 @@ value_owed plain.flags rows v n = ap (λ b. or_else [] (or_else (repeats b) []))
 value_owed plain.root rows v n = ap (λ b. or_else [] (or_else (repeats b) [])) n
 value_owed plain.demo rows v n = ap (λ b. or_else [] (or_else (repeats b) [])) n
 value_owed plain.apply rows v n = ap (λ b. or_else [] (or_else (repeats b) [])) n
+value_owed plain.ignore rows v n = ap (λ b. or_else [] (or_else (repeats b) [])) n
 
 -- ---- rows
 
