@@ -10,6 +10,7 @@ use Rattle.sd_core.specs.Run.{Begins, IsRefusedFirst}
 use Rattle.sd_core.specs.Selection.{by_globs}
 use Rattle.sd_core.specs.TreeCommand.{TreeCommand}
 use Rattle.sd_core.specs.DemoCommand.{DemoCommand}
+use Rattle.sd_core.specs.Ignoring.{IgnoreCommand}
 use Rattle.sd_core.specs.InputCommand.{InputCommand, input_cap}
 use Rattle.sd_core.specs.NamedCommands.{FilesCommand, PreviewCommand}
 use Rattle.sd_core.specs.PlanCommand.{PlanCommand}
@@ -21,6 +22,7 @@ use Rattle.sd_core.specs.declared.ended.Why.TheVariants as why
 -- What a command promises that makes this change, by its mode, with the words after FIND and REPLACE_WITH; and that it makes no call on what it doesn't need.
 abbrev pub Command : Mode → Change → List (List ℕ) → Outside → Why → Type 0
 Command (mode.tree root) change words o ended = TreeCommand change (by_globs root words) o.same_disk o.same_out o.disk o.out ended × o.same_input
+Command (mode.ignoring root path) change words o ended = IgnoreCommand change root words path o.same_out o.disk o.out ended × o.same_input
 Command (mode.plan root) change words o ended = PlanCommand change (by_globs root words) o.same_disk o.same_out o.disk o.out ended × o.same_input
 Command (mode.apply path) change words o ended = ApplyCommand change path o.same_out o.disk o.out ended × o.same_input
 Command (mode.demo n) change words o ended = DemoCommand change n words o.same_out o.out ended × o.same_disk × o.same_input

@@ -17,6 +17,8 @@ use Rattle.sd_plan.specs.declared.fault.PlanFault.{PlanFault}
 use Rattle.sd_plan.specs.declared.fault.PlanFault.TheVariants as plan
 use Rattle.planned_files.specs.declared.fault.ApplyFault.{ApplyFault}
 use Rattle.planned_files.specs.declared.fault.ApplyFault.TheVariants as apply
+use Rattle.sd_ignore.specs.declared.fault.IgnoreFault.{IgnoreFault}
+use Rattle.sd_ignore.specs.declared.fault.IgnoreFault.TheVariants as ignore
 use Rattle.sd_core.specs.declared.error.Error.{Error}
 use Rattle.sd_core.specs.declared.error.Error.TheVariants as error
 
@@ -65,3 +67,7 @@ of_apply (apply.Stale path planned found) = error.Stale path planned found
 of_apply (apply.Differs path planned found) = error.Differs path planned found
 of_apply (apply.Failed jobs) = error.FailedProcessing jobs
 of_apply apply.NoMemory = error.NoMemory
+
+abbrev pub of_ignore : IgnoreFault → Error
+of_ignore (ignore.BadRule number) = error.BadRule number
+of_ignore ignore.NoMemory = error.NoMemory

@@ -7,6 +7,7 @@ pub mod Demo
 pub mod DemoCommand
 pub mod Errors
 pub mod Examples
+pub mod Ignoring
 pub mod InputCommand
 pub mod Mode
 pub mod NamedCommands

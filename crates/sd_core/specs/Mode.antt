@@ -7,7 +7,9 @@ use Rattle.sd_core.specs.declared.app.AppSource.TheVariants.{Stdin, Files}
 pub data Mode : Type 0 where
   -- the files below a root
   tree : List ℕ → Mode
-  -- the same, whose plan is written and nothing is changed
+  -- the same, but those that the rules in a file ignore
+  ignoring : List ℕ → List ℕ → Mode
+  -- the files below a root, whose plan is written and nothing is changed
   plan : List ℕ → Mode
   -- the files of the plan that a file holds
   apply : List ℕ → Mode
@@ -20,9 +22,10 @@ pub data Mode : Type 0 where
   -- the same, whose new texts are written and nothing is changed
   preview : Mode
 
-abbrev pub tree_mode : Bool → List ℕ → Mode
-tree_mode false root = tree root
-tree_mode true root = plan root
+abbrev pub tree_mode : Bool → Option (List ℕ) → List ℕ → Mode
+tree_mode false None root = tree root
+tree_mode false (Some path) root = ignoring root path
+tree_mode true rules root = plan root
 
 abbrev pub files_mode : Bool → Mode
 files_mode false = files
@@ -33,14 +36,14 @@ words_mode previews [] = stream
 words_mode previews (word ∷ words) = files_mode previews
 
 -- a root comes before a plan's file, that before a demo, and that before the words
-abbrev pub mode_by : Option (List ℕ) → Option (List ℕ) → Option ℕ → Bool → List (List ℕ) → Mode
-mode_by (Some root) path number previews words = tree_mode previews root
-mode_by None (Some path) number previews words = apply path
-mode_by None None (Some n) previews words = demo n
-mode_by None None None previews words = words_mode previews words
+abbrev pub mode_by : Option (List ℕ) → Option (List ℕ) → Option (List ℕ) → Option ℕ → Bool → List (List ℕ) → Mode
+mode_by (Some root) rules path number previews words = tree_mode previews rules root
+mode_by None rules (Some path) number previews words = apply path
+mode_by None rules None (Some n) previews words = demo n
+mode_by None rules None None previews words = words_mode previews words
 
 abbrev pub mode_of : Options → Mode
-mode_of options = mode_by options.root options.apply options.demo options.preview options.words
+mode_of options = mode_by options.root options.ignore options.apply options.demo options.preview options.words
 
 -- ---- of an app
 

@@ -7,6 +7,7 @@ ghost use Rattle.sd_replace.specs.Replacer.{replacement_of};
 ghost use Rattle.sd_core.specs.Mode.{IsSourceOf, app_mode, app_words, words_mode};
 ghost use Rattle.sd_core.specs.Command.{Command};
 ghost use Rattle.sd_core.specs.DemoCommand.{DemoCommand};
+ghost use Rattle.sd_core.specs.Ignoring.{IgnoreCommand};
 ghost use Rattle.sd_core.specs.Outside.{outside};
 ghost use Rattle.sd_core.specs.PlanCommand.{PlanCommand};
 ghost use Rattle.sd_core.specs.ApplyCommand.{ApplyCommand};
@@ -15,6 +16,7 @@ ghost use Rattle.sd_core.specs.Selection.{by_globs};
 ghost use Rattle.sd_core.specs.TreeCommand.{TreeCommand};
 
 use crate::applying::apply_file;
+use crate::ignoring::sweep_by_file;
 use crate::printing::print_report;
 use crate::{App, AppSource, Error, Result, Why, plan, sweep, sweep_demo};
 use sd_base::{Globs, NoMemory, Words};
@@ -37,6 +39,28 @@ pub fn tree_command<D: Disk, O: Sink>(
         (course D.tells (D.state disk.old) (D.state disk.new)) (course O.tells (O.state out.old) (O.state out.new)) result }
 {
     match sweep(alloc, disk, root, globs, replacer) {
+        Err(error) => Why::Fault(error),
+        Ok(report) => match print_report(out, &report) {
+            Ok(()) => Why::Done,
+            Err(_) => Why::Print,
+        },
+    }
+}
+
+/// Rewrites the chosen files below a root that the rules in a file don't ignore, and prints the report.
+pub fn ignore_command<D: Disk, O: Sink>(
+    alloc: Global,
+    disk: &mut D,
+    out: &mut O,
+    root: &str,
+    globs: &Globs,
+    rules: &str,
+    replacer: &Replacer,
+) -> Why
+    ensures { IgnoreCommand (Changes (replacement_of replacer.now)) root.now globs.now rules.now (out.new ≡ out.old)
+        (course D.tells (D.state disk.old) (D.state disk.new)) (course O.tells (O.state out.old) (O.state out.new)) result }
+{
+    match sweep_by_file(alloc, disk, root, globs, rules, replacer) {
         Err(error) => Why::Fault(error),
         Ok(report) => match print_report(out, &report) {
             Ok(()) => Why::Done,

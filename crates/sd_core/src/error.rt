@@ -9,6 +9,7 @@ use many_files::{FailedJobs, FilesFault};
 use named_files::PreviewFault;
 use planned_files::ApplyFault;
 use sd_base::{NoMemory, Text};
+use sd_ignore::IgnoreFault;
 use sd_io::DiskFault;
 use sd_plan::{Digest, PlanFault};
 use sd_replace::{InvalidReplaceCapture, ReplacerFault};
@@ -72,6 +73,12 @@ pub enum Error {
     /// The text of a file is the text of no plan.
     #[error("not a plan")]
     NotAPlan,
+    /// The bytes of a rules file aren't UTF-8. Nothing was written.
+    #[error("the rules are not UTF-8 text")]
+    RulesNotText,
+    /// The line of a rules file with this number, counted from 1, is the first that is bad. Nothing was written.
+    #[error("invalid rule in line {0}")]
+    BadRule(u64),
     /// There is no memory left.
     #[error("out of memory")]
     NoMemory,
@@ -206,5 +213,15 @@ pub(crate) fn of_apply(fault: ApplyFault) -> Error
         },
         ApplyFault::Failed(jobs) => Error::FailedProcessing(jobs),
         ApplyFault::NoMemory => Error::NoMemory,
+    }
+}
+
+/// The fault of a text that has no rules.
+pub(crate) fn of_ignore(fault: IgnoreFault) -> Error
+    ensures { result ≡ form.of_ignore fault }
+{
+    match fault {
+        IgnoreFault::BadRule(number) => Error::BadRule(number),
+        IgnoreFault::NoMemory => Error::NoMemory,
     }
 }

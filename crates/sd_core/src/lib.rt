@@ -14,6 +14,7 @@ mod demo;
 mod ended;
 mod error;
 mod examples;
+mod ignoring;
 mod laws;
 mod planning;
 mod printing;
@@ -28,12 +29,14 @@ pub use ended::{Ended, Why};
 pub use error::{Error, Result};
 pub use examples::{sweeps_fail_as_in_the_examples, trees_are_rewritten_as_in_the_examples};
 pub use file_rewrite::{JobFault, Rewrite, replace_file};
+pub use ignoring::sweep_ignoring;
 pub use laws::{
     a_crash_leaves_chosen_files_old_or_new, a_crash_leaves_rewritten_files_new,
     a_plan_ends_with_the_report, a_plan_of_a_tree_leads_apart,
 };
 pub use many_files::{FailedJobs, Report};
 pub use planning::plan;
+pub use sd_ignore::Ignore;
 pub use sd_plan::{Digest, Plan, PlanFault, PlanLine, read_plan, write_plan};
 pub use sd_words::{Options, OptionsFault};
 pub use sweeping::{sweep, sweep_capped};

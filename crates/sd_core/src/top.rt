@@ -17,7 +17,9 @@ ghost use Rattle.sd_core.specs.Selection.{by_globs};
 ghost use Rattle.sd_core.specs.TreeCommand.{DoesTreeCommand};
 
 use crate::asking::replacer_of;
-use crate::commands::{apply_command, demo_command, plan_command, tree_command, words_command};
+use crate::commands::{
+    apply_command, demo_command, ignore_command, plan_command, tree_command, words_command,
+};
 use crate::error::of_replacer;
 use crate::printing::print_error;
 use crate::{Ended, Error, Why};
@@ -152,7 +154,18 @@ fn begin<D: Disk, S: Source, O: Sink>(
             words,
             &replacer,
         ),
-        (Some(root), _, _) => tree_command(alloc, disk, out, root.as_str(), words, &replacer),
+        (Some(root), _, _) => match &options.ignore {
+            Some(rules) => ignore_command(
+                alloc,
+                disk,
+                out,
+                root.as_str(),
+                words,
+                rules.as_str(),
+                &replacer,
+            ),
+            None => tree_command(alloc, disk, out, root.as_str(), words, &replacer),
+        },
         (None, Some(path), _) => apply_command(alloc, disk, out, path.as_str(), &replacer),
         (None, None, Some(n)) => demo_command(alloc, out, n, words, &replacer),
         (None, None, None) => {

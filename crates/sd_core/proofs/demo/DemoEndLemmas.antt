@@ -181,6 +181,8 @@ module _ (change : Change) (n : ℕ) (globs : List (List ℕ)) (old new : DiskSt
     for_memory (error.Stale path planned found) f want = want
     for_memory (error.Differs path planned found) f want = want
     for_memory error.NotAPlan f want = want
+    for_memory error.RulesNotText f want = want
+    for_memory (error.BadRule number) f want = want
 
     pub refused_for_memory : (result : Result Report Error) → IfErr result (SweepFails change (by_globs (path_text demo_place) globs) (2 ^ 32) (course true old new)) → IfErr result (IsForMemory new.tree)
         → IfErr result (DemoWantsMemory n)
@@ -202,6 +204,8 @@ as_refusal n globs error.InputTooLong m = m
 as_refusal n globs (error.Stale path planned found) m = m
 as_refusal n globs (error.Differs path planned found) m = m
 as_refusal n globs error.NotAPlan m = m
+as_refusal n globs error.RulesNotText m = m
+as_refusal n globs (error.BadRule number) m = m
 
 -- by its first invalid glob
 told_so : (n : ℕ) (globs : List (List ℕ)) (place : ℕ) (fault : Error) (result : Result Report Error) → IsFirstInvalid globs place → result ≡ Err fault

@@ -193,6 +193,8 @@ early change selection cap d error.InputTooLong same f = absurd f
 early change selection cap d (error.Stale path planned found) same f = absurd f
 early change selection cap d (error.Differs path planned found) same f = absurd f
 early change selection cap d error.NotAPlan same f = absurd f
+early change selection cap d error.RulesNotText same f = absurd f
+early change selection cap d (error.BadRule number) same f = absurd f
 
 pub refused_early : (change : Change) (selection : Selection) (cap : ℕ) (same_disk : Type 0) (tells : Bool) (s0 s1 : DiskState) (failed : Error)
     → SelectingFails selection cap (course tells s0 s1) failed → ((place : ℕ) → IsFirstInvalid selection.globs place → same_disk × IsErrOrMemory {A = Report} (error.BadGlob place) (Err failed))

@@ -43,4 +43,6 @@ not_refused readable options replacement error.InputTooLong asked h = h
 not_refused readable options replacement (error.Stale path planned found) asked h = h
 not_refused readable options replacement (error.Differs path planned found) asked h = h
 not_refused readable options replacement error.NotAPlan asked h = h
+not_refused readable options replacement error.RulesNotText asked h = h
+not_refused readable options replacement (error.BadRule number) asked h = h
 not_refused readable options replacement error.NoMemory asked h = h

@@ -42,6 +42,7 @@ module _ (options : Options) (o : Outside) where
 
     ordered_by : (m : Mode) → Command m (Changes replacement) options.words o came → came ≡ why.Usage → ⊥
     ordered_by (mode.tree root) c = prints_so line_of c.0.result o.same_out o.out c.0.prints
+    ordered_by (mode.ignoring root path) c = prints_so line_of c.0.result o.same_out o.out c.0.prints
     ordered_by (mode.plan root) c = prints_so text_of c.0.result o.same_out o.out c.0.prints
     ordered_by (mode.apply path) c = prints_so line_of c.0.result o.same_out o.out c.0.prints
     ordered_by (mode.demo n) c = prints_so line_of c.0.result o.same_out o.out c.0.prints

@@ -1,0 +1,2 @@
+-- What a sweep under rules uses.
+pub mod KeptLemmas
