@@ -14,8 +14,9 @@ use Rattle.sd_io.specs.Crashes.{LeavesSince, IsDurable}
 use Rattle.sd_io.proofs.WayLemmas.{same_or_other}
 use Rattle.sd_io.proofs.CrashLemmas.{since_more}
 use Rattle.sd_change.specs.Change.{Change, FileChange, IsOne}
+use Rattle.file_exchange.specs.Reserved.{Free, FirstFree}
 use Rattle.file_rewrite.specs.Rewritten.{IsOld, IsNew, IsOldOrNew, IsLeft}
-use Rattle.file_rewrite.specs.OneFile.{RewritesFile, LeavesFile, IsNewAt, IsFreeBy}
+use Rattle.file_rewrite.specs.OneFile.{RewritesFile, LeavesFile, IsNewAt, IsFirstFreeBy}
 use Rattle.file_rewrite.specs.declared.rewrite.Rewrite.{Rewrite}
 use Rattle.file_rewrite.specs.declared.fault.JobFault.{JobFault}
 use Rattle.file_rewrite.specs.declared.fault.JobFault.TheVariants as job
@@ -129,6 +130,10 @@ one_or_none flag bytes new_bytes is =
 abbrev pub At : NameList → NameList → Type 0
 At place q = q ≡ place
 
+-- the first free name is a free one
+free_too : {tree : Tree} {folder q : NameList} → FirstFree tree folder q → Free tree folder q
+free_too first = record { reserved = first.reserved; free = first.free }
+
 module _ (change : Change) (path : List ℕ) (old new : DiskState) (place : NameList) (leads : reached old.tree path true ≡ Some place) where
   pub keeps : (result : OneEnd) → ReplacesOne change path result old new → KeepsAll old.tree new.tree
   keeps result one = one_keeps change path result old new one.rewritten one.left
@@ -191,7 +196,7 @@ module _ (change : Change) (path : List ℕ) (old new : DiskState) (place : Name
       | inr is_new ↦ inr (inl (here ∙ is_place l.place l.leads, subst (IsNew (FileChange change) old.tree new.tree) (sym here) is_new))
     ]
     | inr apart ↦ elim (some_or_not l.temporary q) [
-      | inl is ↦ inr (inr (l.place, is_place l.place l.leads, l.was_free q is))
+      | inl is ↦ inr (inr (l.place, is_place l.place l.leads, free_too (l.was_free q is)))
       | inr elsewhere ↦ inl (l.others q apart elsewhere)
     ]
   ]
@@ -208,8 +213,8 @@ module _ (change : Change) (path : List ℕ) (old new : DiskState) (place : Name
   pub crash_here : (result : OneEnd) → ReplacesOne change path result old new
       → LeavesSince (IsNewOne (At place) (FileChange change) old.tree) (IsFreeBeside (At place) old.tree) old new
   crash_here result one =
-      since_more (IsNewAt change old.tree path) (IsNewOne (At place) (FileChange change) old.tree) (IsFreeBy old.tree path) (IsFreeBeside (At place) old.tree) old new
-      (λ q content n. (is_place q n.0, n.1)) (λ q aside. (aside.place, is_place aside.place aside.leads, aside.free)) one.crash
+      since_more (IsNewAt change old.tree path) (IsNewOne (At place) (FileChange change) old.tree) (IsFirstFreeBy old.tree path) (IsFreeBeside (At place) old.tree) old new
+      (λ q content n. (is_place q n.0, n.1)) (λ q aside. (aside.place, is_place aside.place aside.leads, free_too aside.first)) one.crash
 
   pub durable_here : (result : OneEnd) → ReplacesOne change path result old new → IsOk result → IsDurable (IsChangedOne (At place) (FileChange change) old.tree) old new
   durable_here (Ok rewrite) one done = record {
