@@ -2,10 +2,11 @@
 //!
 //! A line is a path, or `!` and the text of a fault.
 
-use chosen_files::{Choice, ChoiceFault, GlobsError, choose_capped, read_globs};
+use chosen_files::{Choice, ChoiceFault, GlobsError, choose_capped, choose_kept, read_globs};
 use glob_match::Glob;
 use mem_io::MemDisk;
 use sd_base::Text;
+use sd_ignore::Ignore;
 use sd_io::Globs;
 use std::alloc::Global;
 use std::test::Fail;
@@ -91,5 +92,31 @@ pub(crate) fn chooses(
     wanted: &str,
 ) -> Result<bool, Fail> {
     let given = chosen(alloc, disk, root, globs, cap)?;
+    Ok(given.as_str() == wanted)
+}
+
+/// What is chosen below a root under rules of what is ignored.
+fn asked_under(
+    alloc: Global,
+    disk: &mut MemDisk,
+    root: &str,
+    globs: &[Glob],
+    rules: &Ignore,
+) -> Result<Choice, ChoiceFault> {
+    choose_kept(alloc, disk, root, globs, rules, 1000)
+}
+
+/// Whether this text is what is chosen of all files below a root under the rules of a text.
+pub(crate) fn keeps(
+    alloc: Global,
+    disk: &mut MemDisk,
+    root: &str,
+    rules: &str,
+    wanted: &str,
+) -> Result<bool, Fail> {
+    let globs = read_texts(alloc, &["**"])?;
+    let rules = Ignore::read(alloc, rules)?;
+    let choice = asked_under(alloc, disk, root, &globs, &rules);
+    let given = text_of(alloc, &choice)?;
     Ok(given.as_str() == wanted)
 }

@@ -1,4 +1,5 @@
-//! Tests of the choice of the files that a command on a tree works on, by public calls alone: on disks that fail, and what refuses globs.
+//! Tests of the choice of the files that a command on a tree works on, by public calls alone: on disks that fail,
+//! under rules of what is ignored, and what refuses globs.
 #![tactic(auto)]
 
 #[cfg(test)]
@@ -9,3 +10,5 @@ mod disks;
 mod failing;
 #[cfg(test)]
 mod globs;
+#[cfg(test)]
+mod ignoring;
