@@ -10,7 +10,7 @@ _sd() {
             case ${COMP_WORDS[i]} in
                 --) plain=1; continue ;;
                 --root | --demo | --apply) no_files=1; ((i++)); continue ;;
-                -n | --max-replacements | -f | --flags) ((i++)); continue ;;
+                --ignore | -n | --max-replacements | -f | --flags) ((i++)); continue ;;
                 --root=* | --demo=* | --apply=*) no_files=1; continue ;;
                 -?*) continue ;;
             esac
@@ -25,7 +25,7 @@ _sd() {
                 mapfile -t COMPREPLY < <(compgen -d -- "$word")
                 return
                 ;;
-            --apply)
+            --apply | --ignore)
                 compopt -o filenames 2>/dev/null
                 mapfile -t COMPREPLY < <(compgen -f -- "$word")
                 return
@@ -40,7 +40,7 @@ _sd() {
         esac
         if [[ $word == -* ]]; then
             mapfile -t COMPREPLY < <(compgen -W '-p --preview -F --fixed-strings -s --string-mode -l --line-mode
-                -n --max-replacements -f --flags --root --demo --apply -h --help --' -- "$word")
+                -n --max-replacements -f --flags --root --ignore --demo --apply -h --help --' -- "$word")
             return
         fi
     fi

@@ -16,7 +16,7 @@ function __sd_takes_files
                     set plain yes
                 case --root --demo --apply '--root=*' '--demo=*' '--apply=*'
                     return 1
-                case -n --max-replacements -f --flags
+                case --ignore -n --max-replacements -f --flags
                     set skip yes
                 case '-*'
                 case '*'
@@ -36,6 +36,7 @@ complete -c sd -s l -l line-mode -d 'Search each line by itself'
 complete -c sd -s n -l max-replacements -x -d 'Replace at most so many matches, 0 for all'
 complete -c sd -s f -l flags -x -d 'Flags of the search' -a 'i\t"Either case" c\t"As it is written" w\t"Whole words" s\t". takes line feeds" e\t"^ and \$ are of the whole text" m\t"^ and \$ are of each line"'
 complete -c sd -l root -x -a '(__fish_complete_directories)' -d 'Change the files below a folder that fit a glob'
+complete -c sd -l ignore -r -F -d 'Leave out what the rules in a file ignore'
 complete -c sd -l demo -x -d 'Change a tree of so many files in memory'
 complete -c sd -l apply -r -F -d 'Carry out the plan that a file holds'
 complete -c sd -s h -l help -d 'Print help'
