@@ -99,6 +99,8 @@ fn name_of(fault: &Fault) -> &'static str {
         Fault::Stale { .. } => "Stale",
         Fault::Differs { .. } => "Differs",
         Fault::NotAPlan => "NotAPlan",
+        Fault::RulesNotText => "RulesNotText",
+        Fault::BadRule(_) => "BadRule",
         Fault::NoMemory => "NoMemory",
     }
 }
