@@ -1,0 +1,2 @@
+-- What the proofs about listing use.
+pub mod OpenLemmas
