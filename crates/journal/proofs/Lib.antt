@@ -10,3 +10,4 @@ pub mod FinishingLemmas
 pub mod RecoveringLemmas
 pub mod FindingLemmas
 pub mod ReadingLemmas
+pub mod PlanningLemmas

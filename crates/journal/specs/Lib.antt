@@ -8,3 +8,4 @@ pub mod Finding
 pub mod Reading
 pub mod Faults
 pub mod Recovering
+pub mod Planning

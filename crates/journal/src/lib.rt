@@ -8,6 +8,7 @@ mod finding;
 mod finishing;
 mod naming;
 mod placing;
+mod planning;
 mod reading;
 mod recovering;
 mod stages;
