@@ -11,3 +11,4 @@ pub mod RecoveringLemmas
 pub mod FindingLemmas
 pub mod ReadingLemmas
 pub mod PlanningLemmas
+pub mod ChangingLemmas

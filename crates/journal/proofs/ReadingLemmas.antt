@@ -76,7 +76,7 @@ text_refused tells s t path kind bytes text.NoMemory reads none = tt
 
 -- ---- a stage is read
 
-some_is : {T : Type 0} (o : Option T) → IsSome o → (x : T) × (o ≡ Some x)
+pub some_is : {T : Type 0} (o : Option T) → IsSome o → (x : T) × (o ≡ Some x)
 some_is None is = absurd (cc is)
 some_is (Some x) is = (x, refl)
 

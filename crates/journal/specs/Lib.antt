@@ -9,3 +9,4 @@ pub mod Reading
 pub mod Faults
 pub mod Recovering
 pub mod Planning
+pub mod Changing

@@ -2,6 +2,7 @@
 #![tactic(auto)]
 
 mod beside;
+mod changing;
 mod clearing;
 mod fault;
 mod finding;
@@ -13,5 +14,6 @@ mod reading;
 mod recovering;
 mod stages;
 
+pub use changing::change_files;
 pub use fault::JournalFault;
 pub use recovering::recover;
