@@ -1,0 +1,12 @@
+pub mod Keeping
+pub mod Beside
+pub mod Placing
+pub mod Clearing
+pub mod Naming
+pub mod Finishing
+pub mod Finding
+pub mod Reading
+pub mod Faults
+pub mod Recovering
+pub mod Planning
+pub mod Changing
