@@ -14,7 +14,8 @@ use Rattle.sd_io.proofs.CrashLemmas.{since_more}
 use Rattle.file_exchange.specs.Reserved.{Free}
 use Rattle.file_exchange.specs.Exchange.{HasBytes}
 use Rattle.file_exchange.specs.Crash.{Exchange, IsNewFile, IsPutForGood}
-use Rattle.file_rewrite.specs.OneFile.{IsFreeBy}
+use Rattle.file_exchange.proofs.PlaceLemmas.{is_free}
+use Rattle.file_rewrite.specs.OneFile.{IsFirstFreeBy}
 use Rattle.file_rewrite.specs.Putting.{PutsFile, IsPutAt}
 use Rattle.journal_text.specs.declared.line.Line.{Line}
 use Rattle.journal_text.specs.Journal.{text_of}
@@ -91,9 +92,9 @@ module _ (work : Work) (lines : List Line) (line : Line) (has_line : Contains li
   }
 
   -- its bytes were given to `put_file`
-  put_since : (t : DiskState) (path bytes : List ℕ) → path ≡ line.path → bytes ≡ f.1 → LeavesSince (IsPutAt bytes s.tree path) (IsFreeBy s.tree path) s t
+  put_since : (t : DiskState) (path bytes : List ℕ) → path ≡ line.path → bytes ≡ f.1 → LeavesSince (IsPutAt bytes s.tree path) (IsFirstFreeBy s.tree path) s t
       → LeavesSince (IsNewFile s.tree f.0 f.1) (Free s.tree (parent_of f.0)) s t
-  put_since t path bytes named are since = since_more (IsPutAt bytes s.tree path) (IsNewFile s.tree f.0 f.1) (IsFreeBy s.tree path) (Free s.tree (parent_of f.0)) s t
+  put_since t path bytes named are since = since_more (IsPutAt bytes s.tree path) (IsNewFile s.tree f.0 f.1) (IsFirstFreeBy s.tree path) (Free s.tree (parent_of f.0)) s t
       (λ q content n.
       let here : q ≡ f.0 = same_Some _ _ (sym n.0 ∙ leads path named) in
       record {
@@ -103,10 +104,10 @@ module _ (work : Work) (lines : List Line) (line : Line) (has_line : Contains li
         was = ap (file_at s.tree) (sym here) ∙ n.1.was;
         content_is = n.1.content_is ∙ ap (λ (b : List ℕ). file b n.1.mode) are;
       })
-      (λ q free. subst (λ (x : NameList). Free s.tree (parent_of x) q) (same_Some free.place f.0 (sym free.leads ∙ leads path named)) free.free)
+      (λ q free. subst (λ (x : NameList). Free s.tree (parent_of x) q) (same_Some free.place f.0 (sym free.leads ∙ leads path named)) (is_free free.first))
       since
 
-  pub put_kept : (t : DiskState) (path bytes : List ℕ) → path ≡ line.path → bytes ≡ f.1 → LeavesSince (IsPutAt bytes s.tree path) (IsFreeBy s.tree path) s t → KeepsSettled s t
+  pub put_kept : (t : DiskState) (path bytes : List ℕ) → path ≡ line.path → bytes ≡ f.1 → LeavesSince (IsPutAt bytes s.tree path) (IsFirstFreeBy s.tree path) s t → KeepsSettled s t
       → KeepsPhase placing work lines s t
   put_kept t path bytes named are since keeps = record {
     passes = placed_free work p.is_work lines p.is_for s holds p.phase_now t f has (put_since t path bytes named are since);
