@@ -1,0 +1,7 @@
+//! Tests of journalled changes, by public calls alone.
+#![tactic(auto)]
+
+#[cfg(test)]
+mod changes;
+#[cfg(test)]
+mod replacers;
