@@ -37,6 +37,18 @@ fn made_of_many(
     builder.build_many(alloc, patterns)
 }
 
+/// The same of several literals.
+fn made_of_literals(
+    alloc: Global,
+    builder: &RegexMatcherBuilder,
+    literals: &Patterns,
+) -> Result<RegexMatcher, Refusal> {
+    if !fit_together(literals) {
+        return Err(NoMemory.into());
+    }
+    builder.build_literals(alloc, literals)
+}
+
 /// The patterns of a case.
 fn patterns_of(alloc: Global, case: &Case<'_>) -> Result<Patterns, Error> {
     let mut patterns = Patterns::new(alloc);
@@ -55,7 +67,11 @@ pub fn made(alloc: Global, case: &Case<'_>) -> Result<Result<RegexMatcher, Refus
         }
         Some(_) => {
             let patterns = patterns_of(alloc, case)?;
-            Ok(made_of_many(alloc, &builder_of(case)?, &patterns))
+            let builder = builder_of(case)?;
+            Ok(match case.setting("literals") {
+                None => made_of_many(alloc, &builder, &patterns),
+                Some(_) => made_of_literals(alloc, &builder, &patterns),
+            })
         }
     }
 }

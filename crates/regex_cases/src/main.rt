@@ -2,8 +2,9 @@
 //!
 //! The arguments name the tables; `case_reader` says how a table is written. The settings of a section are the options of a
 //! builder, set in their order: `case_insensitive=yes`, `line_terminator=10`, `ban_byte=none`. The first field of a case is its
-//! pattern. Where the section has a setting `patterns`, so many fields are, of which one matcher is built. Each kind of case that is
-//! known here has its line below: its name, how many fields follow the patterns, and what is asked.
+//! pattern. Where the section has a setting `patterns`, so many fields are, of which one matcher is built; a setting `literals=yes` has it
+//! built as of literals. Each kind of case that is known here has its line below: its name, how many fields follow the patterns, and what is
+//! asked.
 #![tactic(auto)]
 
 mod asking;
@@ -14,7 +15,7 @@ mod replacing;
 mod telling;
 
 use anyhow::Error;
-use case_reader::{Answers, Case, CaseFault, run};
+use case_reader::{Answers, Case, kind_of, run};
 use fields::Fields;
 use grep_regex::RegexMatcher;
 use std::alloc::Global;
@@ -49,43 +50,31 @@ enum Question {
     ReplaceFrom,
 }
 
-/// The kinds of case by their names, and how many fields of each follow its patterns.
-const KINDS: &[(&str, usize, Kind)] = &[
-    ("build", 0, Kind::Build),
-    ("says", 0, Kind::Says),
-    ("find", 1, Kind::Ask(Question::Find)),
-    ("find_all", 1, Kind::Ask(Question::FindAll)),
-    ("is_match", 1, Kind::Ask(Question::IsMatch)),
-    ("confirms", 1, Kind::Ask(Question::Confirms)),
-    ("group", 2, Kind::Ask(Question::Group)),
-    ("group_from", 3, Kind::Ask(Question::GroupFrom)),
-    ("named", 1, Kind::Ask(Question::Named)),
-    ("count", 0, Kind::Ask(Question::Count)),
-    ("non_matching", 0, Kind::Ask(Question::NonMatching)),
-    ("skips", 1, Kind::Ask(Question::Skips)),
-    ("terminator", 0, Kind::Ask(Question::Terminator)),
-    ("replace", 2, Kind::Ask(Question::Replace)),
-    ("replace_from", 3, Kind::Ask(Question::ReplaceFrom)),
+/// The kinds of case by their names, and how many fields of each follow its patterns at least and at most.
+const KINDS: &[(&str, usize, usize, Kind)] = &[
+    ("build", 0, 0, Kind::Build),
+    ("says", 0, 0, Kind::Says),
+    ("find", 1, 1, Kind::Ask(Question::Find)),
+    ("find_all", 1, 1, Kind::Ask(Question::FindAll)),
+    ("is_match", 1, 1, Kind::Ask(Question::IsMatch)),
+    ("confirms", 1, 1, Kind::Ask(Question::Confirms)),
+    ("group", 2, 2, Kind::Ask(Question::Group)),
+    ("group_from", 3, 3, Kind::Ask(Question::GroupFrom)),
+    ("named", 1, 1, Kind::Ask(Question::Named)),
+    ("count", 0, 0, Kind::Ask(Question::Count)),
+    ("non_matching", 0, 0, Kind::Ask(Question::NonMatching)),
+    ("skips", 1, 1, Kind::Ask(Question::Skips)),
+    ("terminator", 0, 0, Kind::Ask(Question::Terminator)),
+    ("replace", 2, 2, Kind::Ask(Question::Replace)),
+    ("replace_from", 3, 3, Kind::Ask(Question::ReplaceFrom)),
 ];
-
-/// The kind of a case. Refuses an unknown one, and another number of fields.
-fn kind_of(case: &Case<'_>) -> Result<Kind, CaseFault> {
-    let name = case.kind();
-    let follow = Fields::of(case)?.count()?;
-    for (known, wanted, kind) in KINDS {
-        if *known == name && *wanted == follow {
-            return Ok(*kind);
-        }
-    }
-    Err(CaseFault::Kind)
-}
 
 /// What matchers answer.
 struct Matchers;
 
 impl Answers for Matchers {
     fn answer(&self, alloc: Global, case: &Case<'_>) -> Answer {
-        match kind_of(case)? {
+        match kind_of(case, Fields::of(case)?.count()?, KINDS)? {
             Kind::Build => building::build(alloc, case),
             Kind::Says => building::says(alloc, case),
             Kind::Ask(question) => ask(alloc, case, question),

@@ -60,6 +60,7 @@ const SETTINGS: &[(&str, Setting)] = &[
     ("line_terminator", Setting::LineTerminator),
     ("ban_byte", Setting::BanByte),
     ("patterns", Setting::OfCases),
+    ("literals", Setting::OfCases),
     ("wanted", Setting::OfCases),
 ];
 
