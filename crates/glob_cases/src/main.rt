@@ -9,7 +9,7 @@ mod globs;
 mod references;
 
 use anyhow::Error;
-use case_reader::{Answers, Case, CaseFault, run};
+use case_reader::{Answers, Case, kind_of, run};
 use std::alloc::Global;
 use std::process::ExitCode;
 
@@ -29,39 +29,27 @@ enum Kind {
     Expand,
 }
 
-/// The kinds of case by their names, and how many fields each asks about.
-const KINDS: &[(&str, usize, Kind)] = &[
-    ("fits", 2, Kind::Fits),
-    ("fits", 4, Kind::Fits),
-    ("steps", 2, Kind::Steps),
-    ("steps", 4, Kind::Steps),
-    ("valid", 1, Kind::Valid),
-    ("captures", 2, Kind::Captures),
-    ("captures", 4, Kind::Captures),
-    ("has_captures", 2, Kind::HasCaptures),
-    ("reference", 1, Kind::Reference),
-    ("interpolate", 1, Kind::Interpolate),
-    ("expand", 1, Kind::Expand),
+/// The kinds of case by their names, and how many fields each asks about at least and at most.
+const KINDS: &[(&str, usize, usize, Kind)] = &[
+    ("fits", 2, 2, Kind::Fits),
+    ("fits", 4, 4, Kind::Fits),
+    ("steps", 2, 2, Kind::Steps),
+    ("steps", 4, 4, Kind::Steps),
+    ("valid", 1, 1, Kind::Valid),
+    ("captures", 2, 2, Kind::Captures),
+    ("captures", 4, 4, Kind::Captures),
+    ("has_captures", 2, 2, Kind::HasCaptures),
+    ("reference", 1, 1, Kind::Reference),
+    ("interpolate", 1, 1, Kind::Interpolate),
+    ("expand", 1, 1, Kind::Expand),
 ];
-
-/// The kind of a case. Refuses an unknown one, and another number of fields.
-fn kind_of(case: &Case<'_>) -> Result<Kind, CaseFault> {
-    let name = case.kind();
-    let fields = case.inputs();
-    for (known, count, kind) in KINDS {
-        if *known == name && *count == fields {
-            return Ok(*kind);
-        }
-    }
-    Err(CaseFault::Kind)
-}
 
 /// What globs and references answer.
 struct Matching;
 
 impl Answers for Matching {
     fn answer(&self, alloc: Global, case: &Case<'_>) -> Answer {
-        match kind_of(case)? {
+        match kind_of(case, case.inputs(), KINDS)? {
             Kind::Fits => globs::fits(alloc, case),
             Kind::Steps => globs::steps(alloc, case),
             Kind::Valid => globs::valid(alloc, case),

@@ -44,7 +44,7 @@ mod shown;
 mod tree;
 
 use anyhow::Error;
-use case_reader::{Answers, Case, CaseFault, run};
+use case_reader::{Answers, Case, kind_of, run};
 use shown::Wanted;
 use std::alloc::Global;
 use std::process::ExitCode;
@@ -57,7 +57,7 @@ struct Program;
 
 impl Answers for Program {
     fn answer(&self, alloc: Global, case: &Case<'_>) -> Answer {
-        match kind_of(case)? {
+        match kind_of(case, case.inputs(), KINDS)? {
             Kind::Run(wanted) => shown::answer(alloc, case, wanted),
             Kind::Fails => answered(alloc, failing::difference(alloc, case)?),
             Kind::Help => answered(alloc, help::difference(alloc, case)?),
@@ -97,17 +97,6 @@ const KINDS: &[(&str, usize, usize, Kind)] = &[
     ("capped", 2, 2, Kind::Capped),
     ("text", 1, 1, Kind::Text),
 ];
-
-/// What is asked of a case. Refuses a name that is none of a kind, and another number of fields.
-fn kind_of(case: &Case<'_>) -> Result<Kind, CaseFault> {
-    let (name, fields) = (case.kind(), case.inputs());
-    for (kind_name, least, most, kind) in KINDS {
-        if *kind_name == name && *least <= fields && fields <= *most {
-            return Ok(*kind);
-        }
-    }
-    Err(CaseFault::Kind)
-}
 
 /// `yes`, or what differs.
 fn answered(alloc: Global, difference: Option<Vec<u8>>) -> Answer {

@@ -11,7 +11,7 @@ mod replacing;
 mod texts;
 
 use anyhow::Error;
-use case_reader::{Answers, Case, CaseFault, run};
+use case_reader::{Answers, Case, kind_of, run};
 use std::alloc::Global;
 use std::process::ExitCode;
 
@@ -31,36 +31,24 @@ enum Kind {
     Unescape,
 }
 
-/// The kinds of case by their names, and how many fields each asks about.
-const KINDS: &[(&str, usize, Kind)] = &[
-    ("replace", 3, Kind::Replace),
-    ("replace_flags", 4, Kind::ReplaceFlags),
-    ("replace_limit", 4, Kind::ReplaceLimit),
-    ("refused", 2, Kind::Refused),
-    ("says", 2, Kind::Says),
-    ("ambiguous", 1, Kind::Ambiguous),
-    ("says_ambiguous", 1, Kind::SaysAmbiguous),
-    ("unescape", 1, Kind::Unescape),
+/// The kinds of case by their names, and how many fields each asks about at least and at most.
+const KINDS: &[(&str, usize, usize, Kind)] = &[
+    ("replace", 3, 3, Kind::Replace),
+    ("replace_flags", 4, 4, Kind::ReplaceFlags),
+    ("replace_limit", 4, 4, Kind::ReplaceLimit),
+    ("refused", 2, 2, Kind::Refused),
+    ("says", 2, 2, Kind::Says),
+    ("ambiguous", 1, 1, Kind::Ambiguous),
+    ("says_ambiguous", 1, 1, Kind::SaysAmbiguous),
+    ("unescape", 1, 1, Kind::Unescape),
 ];
-
-/// The kind of a case. Refuses an unknown one, and another number of fields.
-fn kind_of(case: &Case<'_>) -> Result<Kind, CaseFault> {
-    let name = case.kind();
-    let fields = case.inputs();
-    for (known, count, kind) in KINDS {
-        if *known == name && *count == fields {
-            return Ok(*kind);
-        }
-    }
-    Err(CaseFault::Kind)
-}
 
 /// What replacers answer.
 struct Replacers;
 
 impl Answers for Replacers {
     fn answer(&self, alloc: Global, case: &Case<'_>) -> Answer {
-        match kind_of(case)? {
+        match kind_of(case, case.inputs(), KINDS)? {
             Kind::Replace => replacing::replace(alloc, case),
             Kind::ReplaceFlags => replacing::replace_flags(alloc, case),
             Kind::ReplaceLimit => replacing::replace_limit(alloc, case),
