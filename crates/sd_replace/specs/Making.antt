@@ -1,5 +1,5 @@
 -- Which replacer texts and flags ask for, and why none is made.
-use Rattle.std.specs.Prelude.{◌≡◌, ◌≢◌, ℕ, Bool, true, false, List, [], ◌∷◌, Option, Some, None, unwrap_or}
+use Rattle.std.specs.Prelude.{◌≡◌, ◌≢◌, ℕ, Bool, true, false, List, [], ◌∷◌, Option, Some, None, Result, IfErr, IfOk, unwrap_or}
 use Rattle.grep_regex.specs.Building.{IsBuilt, IsRefused}
 use Rattle.grep_regex.specs.declared.error.ErrorKind.{ErrorKind}
 use Rattle.grep_regex.specs.declared.error.ErrorKind.TheVariants as kind
@@ -7,6 +7,7 @@ use Rattle.grep_regex.specs.declared.options.Options.{Options}
 use Rattle.sd_replace.specs.Ambiguous.{ambiguity}
 use Rattle.sd_replace.specs.Flags.{line_options_of, options_of}
 use Rattle.sd_replace.specs.Replacement.{Replacement}
+use Rattle.sd_replace.specs.Replacer.{replacement_of}
 use Rattle.sd_replace.specs.Unescaped.{unescaped}
 use Rattle.sd_replace.specs.declared.error.ReplaceFault.{ReplaceFault}
 use Rattle.sd_replace.specs.declared.error.ReplaceFault.TheVariants as text_fault
@@ -14,6 +15,7 @@ use Rattle.sd_replace.specs.declared.error.ReplacerFault.{ReplacerFault}
 use Rattle.sd_replace.specs.declared.error.ReplacerFault.TheVariants as fault
 use Rattle.sd_replace.specs.declared.replacer.Counted.{Counted}
 use Rattle.sd_replace.specs.declared.replacer.Counted.TheVariants.{OverAll, InEachLine}
+use Rattle.sd_replace.specs.declared.replacer.Replacer.{Replacer}
 use Rattle.sd_replace.specs.declared.replacer.Substitute.{Substitute}
 use Rattle.sd_replace.specs.declared.replacer.Substitute.TheVariants.{Literal, Expanded}
 
@@ -72,6 +74,11 @@ abbrev pub IsReplacerRefused : Asked → ReplacerFault → Type 0
 IsReplacerRefused a (fault.InvalidReplaceCapture told) = (a.is_literal ≡ false) × (ambiguity a.replace_with ≡ Some told)
 IsReplacerRefused a (fault.Regex error) = IsUnambiguous a.is_literal a.replace_with × IsUnreadable (asked_options a) a.find error.kind
 IsReplacerRefused a fault.NoMemory = Unit {0}
+
+-- the replacer that is asked for is made, or there is a reason why not
+pub record MakesReplacer (a : Asked) (result : Result Replacer ReplacerFault) : Type 0 where
+  pub made : IfOk result (λ replacer. IsAskedFor a (replacement_of replacer))
+  pub refused : IfErr result (IsReplacerRefused a)
 
 -- ---- what each test refuses
 

@@ -7,9 +7,8 @@ ghost use Rattle.grep_regex.specs.Building.{IsAscii, IsBuilt, MatchesAreClear};
 ghost use Rattle.grep_matcher.specs.NoMatch.{IsInNoMatch};
 ghost use Rattle.grep_regex.specs.Matching.{end_at};
 ghost use Rattle.grep_regex.specs.Options.{terminator};
-ghost use Rattle.sd_replace.specs.Making.{AnAskedReplacementIsReadable, IsAskedFor, IsReplacerRefused, OneReplacement, asked};
+ghost use Rattle.sd_replace.specs.Making.{AnAskedReplacementIsReadable, MakesReplacer, OneReplacement, asked};
 ghost use Rattle.sd_replace.specs.Making.{IsFindRefused, IsTextRefused, IsUnambiguous, options_for, substitute_for};
-ghost use Rattle.sd_replace.specs.Replacer.{replacement_of};
 ghost use Rattle.sd_replace.specs.Unescaped.{unescaped};
 ghost use Rattle.sd_replace.specs.declared.replacer.Counted.TheVariants.{OverAll, InEachLine};
 
@@ -18,12 +17,9 @@ use crate::error::ReplacerFault;
 use crate::flags::{builder_of, line_builder_of};
 use crate::replacer::{Counted, Replacer, Substitute};
 use crate::unescaping::unescape;
-use grep_regex::{Error, RegexFault, RegexMatcher, RegexMatcherBuilder};
+use grep_regex::{RegexMatcher, RegexMatcherBuilder};
 use sd_base::{NoMemory, Text};
 use std::alloc::Global;
-
-/// A text to find has fewer than this many bytes.
-const FIND_BYTES: usize = 1 << 32;
 
 impl Replacer {
     /// A replacer of a text to find, and of a text that takes the place of each match, of at most so many; 0 replaces all.
@@ -43,10 +39,7 @@ impl Replacer {
         flags: Option<&str>,
         replacements: u64,
     ) -> Result<Replacer, ReplacerFault>
-        ensures made { IfOk result (λ replacer. IsAskedFor
-            (asked find.now replace_with.now is_literal (option_copied flags.entry) replacements OverAll) (replacement_of replacer)) }
-        ensures refused { IfErr result (IsReplacerRefused
-            (asked find.now replace_with.now is_literal (option_copied flags.entry) replacements OverAll)) }
+        ensures { MakesReplacer (asked find.now replace_with.now is_literal (option_copied flags.entry) replacements OverAll) result }
     {
         Replacer::made(
             alloc,
@@ -69,10 +62,7 @@ impl Replacer {
         flags: Option<&str>,
         replacements: u64,
     ) -> Result<Replacer, ReplacerFault>
-        ensures made { IfOk result (λ replacer. IsAskedFor
-            (asked find.now replace_with.now is_literal (option_copied flags.entry) replacements InEachLine) (replacement_of replacer)) }
-        ensures refused { IfErr result (IsReplacerRefused
-            (asked find.now replace_with.now is_literal (option_copied flags.entry) replacements InEachLine)) }
+        ensures { MakesReplacer (asked find.now replace_with.now is_literal (option_copied flags.entry) replacements InEachLine) result }
     {
         Replacer::made(
             alloc,
@@ -95,9 +85,7 @@ impl Replacer {
         replacements: u64,
         counted: Counted,
     ) -> Result<Replacer, ReplacerFault>
-        ensures made { IfOk result (λ replacer. IsAskedFor
-            (asked find.now replace_with.now is_literal (Some letters.now) replacements counted) (replacement_of replacer)) }
-        ensures refused { IfErr result (IsReplacerRefused (asked find.now replace_with.now is_literal (Some letters.now) replacements counted)) }
+        ensures { MakesReplacer (asked find.now replace_with.now is_literal (Some letters.now) replacements counted) result }
     {
         let substitute = substitute_of(alloc, replace_with, is_literal)?;
         Replacer::of_find(
@@ -200,8 +188,7 @@ fn unescaped_text(alloc: Global, text: &str) -> Result<Text, NoMemory>
     }
 }
 
-/// The matcher of a text to find. It is refused where none is built, and so where the text has 2^32 bytes or more, which is read as
-/// nothing. Want of memory may come at any time.
+/// The matcher of a text to find. It is refused where none is built. Want of memory may come at any time.
 fn matcher_of(
     alloc: Global,
     builder: &RegexMatcherBuilder,
@@ -212,9 +199,6 @@ fn matcher_of(
     ensures clear { IfOk result (λ matcher. MatchesAreClear builder.now (tree_of matcher.searcher)) }
     ensures refused { IfErr result (IsFindRefused builder.now find.now) }
 {
-    if find.len() >= FIND_BYTES {
-        return Err(ReplacerFault::Regex(Error::from(RegexFault::Grammar)));
-    }
     let matcher = builder.build(alloc, find)?;
     Ok(matcher)
 }
