@@ -1,6 +1,6 @@
 #!/bin/sh
-# Installs the program, its manual page and its completions below ${DESTDIR:-}${PREFIX:-/usr/local}; with --uninstall takes
-# these files away again. What is installed needs nothing else of this folder.
+# Installs the programs that programs.txt names, their manual pages and completions, below ${DESTDIR:-}${PREFIX:-/usr/local}; with --uninstall
+# takes these files away again. What is installed needs nothing else of this folder.
 set -eu
 top=$(dirname "$(readlink -f "$0")")
 prefix=${DESTDIR:-}${PREFIX:-/usr/local}
@@ -24,11 +24,13 @@ take() {
 
 # each_file COMMAND: of all that is installed
 each_file() {
-    "$1" crates/sd/out/sd bin/sd 755
-    "$1" docs/sd.1 share/man/man1/sd.1 644
-    "$1" completions/sd.bash share/bash-completion/completions/sd 644
-    "$1" completions/_sd share/zsh/site-functions/_sd 644
-    "$1" completions/sd.fish share/fish/vendor_completions.d/sd.fish 644
+    for name in $(grep -v '^#' "$top/programs.txt"); do
+        "$1" "crates/$name/out/$name" "bin/$name" 755
+        "$1" "docs/$name.1" "share/man/man1/$name.1" 644
+        "$1" "completions/$name.bash" "share/bash-completion/completions/$name" 644
+        "$1" "completions/_$name" "share/zsh/site-functions/_$name" 644
+        "$1" "completions/$name.fish" "share/fish/vendor_completions.d/$name.fish" 644
+    done
 }
 
 case "$#:${1:-}" in
