@@ -27,9 +27,7 @@ fn main(rt: HostRuntime) -> Result<()> {
     let paths = paths_below(rt.alloc(), &mut HostDisk::new(&rt), folder, &glob)?;
     let matcher = RegexMatcher::new_line_matcher(rt.alloc(), pattern)?;
     let mut disk = HostDisk::new(&rt);
-    let shown = paths
-        .iter()
-        .try_for_each(|path| show(&rt, &mut disk, &matcher, path.as_str()));
+    let shown = show_all(&rt, &mut disk, &matcher, &paths);
     drop(matcher);
     shown
 }
@@ -48,12 +46,25 @@ fn paths_below<D: Disk>(alloc: Global, disk: &mut D, root: &str, glob: &Glob) ->
     Ok(paths)
 }
 
+/// Prints the lines that match, file by file.
+fn show_all<D: Disk>(
+    rt: &HostRuntime,
+    disk: &mut D,
+    matcher: &RegexMatcher,
+    paths: &[Text],
+) -> Result<()> {
+    for path in paths {
+        show(rt, disk, matcher, path.as_str())?;
+    }
+    Ok(())
+}
+
 /// Prints the lines of a file that match, if it is text.
 fn show<D: Disk>(rt: &HostRuntime, disk: &mut D, matcher: &RegexMatcher, path: &str) -> Result<()> {
     let bytes = disk.read_file(rt.alloc(), path)?;
     for (index, line) in str::from_utf8(&bytes).unwrap_or("").lines().enumerate() {
         if matcher.is_match(line.as_bytes())? {
-            println!(rt; "{path}:{}:{line}", index + 1)?;
+            println!(rt; "{path}:{}:{line}", index.saturating_add(1))?;
         }
     }
     Ok(())

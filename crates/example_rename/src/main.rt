@@ -9,10 +9,9 @@ ghost use Rattle.sd_io.specs.Disk.{SameTree};
 ghost use Rattle.sd_io.specs.Files.{LeadsNowhere, Renames};
 
 use anyhow::{Error, Result};
-use mem_io::{BuildFault, MemDisk};
+use mem_io::MemDisk;
 use sd_io::{Disk, DiskFault};
 use sd_replace::Replacer;
-use std::alloc::Global;
 use std::{env, io};
 
 fn main(rt: HostRuntime) -> Result<()> {
@@ -21,28 +20,26 @@ fn main(rt: HostRuntime) -> Result<()> {
         return Err(Error::msg("the words are FIND REPLACE_WITH"));
     };
     let names = io::read_to_string(rt.alloc(), rt.stdin())?;
-    let mut disk = disk_of(rt.alloc(), &names)?;
     let replacer = Replacer::new(rt.alloc(), find, replace_with, false, None, 1)?;
-    let shown = names
-        .lines()
-        .try_for_each(|name| show(&rt, &mut disk, &replacer, name));
-    drop(replacer);
+    let mut disk = MemDisk::new(rt.alloc());
+    let renamed = rename_all(&rt, &mut disk, &replacer, &names);
     drop(disk);
-    shown
+    drop(replacer);
+    renamed
 }
 
-/// A disk in memory with an empty file of each name.
-fn disk_of(alloc: Global, names: &str) -> Result<MemDisk, BuildFault> {
-    let mut disk = MemDisk::new(alloc);
+/// Makes an empty file of each name, and renames it.
+fn rename_all(rt: &HostRuntime, disk: &mut MemDisk, by: &Replacer, names: &str) -> Result<()> {
     for name in names.lines() {
         disk.add_file(name, b"", 0o644)?;
+        show(rt, disk, by, name)?;
     }
-    Ok(disk)
+    Ok(())
 }
 
 /// Renames a file by its name, and prints what became of it.
-fn show<D: Disk>(rt: &HostRuntime, disk: &mut D, replacer: &Replacer, name: &str) -> Result<()> {
-    let new = String::from_utf8(replacer.replace(name.as_bytes())?)?;
+fn show<D: Disk>(rt: &HostRuntime, disk: &mut D, by: &Replacer, name: &str) -> Result<()> {
+    let new = String::from_utf8(by.replace(name.as_bytes())?)?;
     match rename(disk, name, &new)? {
         true => println!(rt; "{name} -> {new}")?,
         false => println!(rt; "{name} stays")?,
