@@ -1,6 +1,8 @@
-//! Tests of what is rewritten, a file and a stream, by public calls alone.
+//! Tests of what is rewritten, a file and a stream, and of the line of an error, by public calls alone.
 #![tactic(auto)]
 
+#[cfg(test)]
+mod errors;
 #[cfg(test)]
 mod files;
 #[cfg(test)]

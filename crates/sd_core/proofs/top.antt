@@ -2,3 +2,4 @@
 pub mod AskLemmas
 pub mod CarryLemmas
 pub mod RunLemmas
+pub mod TellLemmas

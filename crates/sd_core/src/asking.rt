@@ -1,9 +1,7 @@
 //! The replacer that the options of a command ask for.
 
-ghost use Rattle.std.specs.Prelude.{IfOk, IfErr};
-ghost use Rattle.sd_replace.specs.Making.{IsReplacerRefused};
-ghost use Rattle.sd_replace.specs.Replacer.{replacement_of};
-ghost use Rattle.sd_core.specs.Asked.{IsReplacerOf, asked_of};
+ghost use Rattle.sd_replace.specs.Making.{MakesReplacer};
+ghost use Rattle.sd_core.specs.Asked.{asked_of};
 
 use sd_base::Text;
 use sd_replace::{Replacer, ReplacerFault};
@@ -13,8 +11,7 @@ use std::alloc::Global;
 /// The replacer that the options ask for. It is refused where outside literal mode the replacement text is ambiguous, or else
 /// where no matcher is built of the text to find. Want of memory may come at any time.
 pub fn replacer_of(alloc: Global, options: &Options) -> Result<Replacer, ReplacerFault>
-    ensures made { IfOk result (λ replacer. IsReplacerOf options.now (replacement_of replacer)) }
-    ensures refused { IfErr result (IsReplacerRefused (asked_of options.now)) }
+    ensures { MakesReplacer (asked_of options.now) result }
 {
     let find = options.find.as_str();
     let replace_with = options.replace_with.as_str();

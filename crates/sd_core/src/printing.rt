@@ -1,4 +1,4 @@
-//! What a command prints. No memory is taken for it.
+//! The printing of a report. No memory is taken for it.
 
 ghost use Rattle.std.specs.Prelude.{◌≡◌, ◌+◌, ◌≤◌, true, [], ◌++◌, length, IsTrue, OnOk, OnErr, IsErr};
 ghost use Rattle.sd_io.specs.Count.{HasRisen};
@@ -8,8 +8,6 @@ ghost use Rattle.sd_core.specs.Report as form;
 use itoa::Buffer;
 use many_files::Report;
 use sd_io::{Failed, Sink};
-use std::fmt;
-use std::fmt::{Display, Write};
 use std::marker::Model;
 use stream_rewrite::write_all;
 
@@ -83,25 +81,4 @@ pub(crate) fn print_report<O: Sink>(out: &mut O, report: &Report) -> Result<(), 
     ensures cause { IsErr result → HasRisen (O.state out.old).faults (O.state out.new).faults }
 {
     write_all(out, line_of(report).as_bytes())
-}
-
-/// A sink to which texts are written.
-#[derive(Drop)]
-struct Texting<'a, O: Sink> {
-    sink: &'a mut O,
-}
-
-impl<O: Sink> Write for Texting<'_, O> {
-    fn write_str(&mut self, text: &str) -> fmt::Result {
-        match write_all(self.sink, text.as_bytes()) {
-            Ok(()) => Ok(()),
-            Err(_) => Err(fmt::Error),
-        }
-    }
-}
-
-/// Prints `error: ` and a line with the text. A fault is passed over.
-pub(crate) fn print_error<E: Sink, T: Display>(err: &mut E, text: &T) {
-    let mut texting = Texting { sink: err };
-    let _printed = writeln!(texting, "error: {text}");
 }

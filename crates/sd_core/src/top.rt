@@ -1,8 +1,9 @@
 //! The program, from its words to its status.
 
-ghost use Rattle.std.specs.Prelude.{◌≡◌, ◌≤◌, ℕ, List, IsTrue, None, Some};
+ghost use Rattle.std.specs.Prelude.{◌≡◌, ◌≢◌, ◌≤◌, ℕ, List, IsTrue, None, Some};
 ghost use Rattle.sd_course.specs.Course.{course};
 ghost use Rattle.sd_words.specs.Order.{order_of};
+ghost use Rattle.sd_words.specs.Refusal.{refusal_text};
 ghost use Rattle.sd_words.specs.declared.options.Options.{Options};
 ghost use Rattle.sd_replace.specs.Replacement.{Replacement, Changes};
 ghost use Rattle.sd_replace.specs.Replacer.{replacement_of};
@@ -11,6 +12,7 @@ ghost use Rattle.sd_core.specs.Command.{CarriesOut, Command};
 ghost use Rattle.sd_core.specs.Mode as mode;
 ghost use Rattle.sd_core.specs.Mode.{mode_of};
 ghost use Rattle.sd_core.specs.Outside.{outside};
+ghost use Rattle.sd_core.specs.Printing.{TellsText, TellsWhy};
 ghost use Rattle.sd_core.specs.Run as form;
 ghost use Rattle.sd_core.specs.Run.{Asks, IsOrMemory};
 ghost use Rattle.sd_core.specs.Selection.{by_globs};
@@ -21,10 +23,10 @@ use crate::commands::{
     apply_command, demo_command, ignore_command, plan_command, tree_command, words_command,
 };
 use crate::error::of_replacer;
-use crate::printing::print_error;
 use crate::{Ended, Error, Why};
+use error_line::{print_shown, print_text};
 use sd_base::Words;
-use sd_io::{Disk, Sink, Source};
+use sd_io::{Disk, Failed, Sink, Source};
 use sd_replace::{Replacer, an_asked_replacement_is_readable};
 use sd_words::{Options, OptionsFault};
 use std::alloc::Global;
@@ -38,7 +40,7 @@ use std::alloc::Global;
 ///
 /// However it ends, its answer has its cause. A tree command leaves each of these files wholly old or wholly new, also after a
 /// crash at any moment; a demo and standard input leave the disk alone; a preview changes nothing. Whatever goes wrong is
-/// printed to `err`, after `error: `, and a fault there is passed over.
+/// printed to `err`, as `error: `, a text and a newline, without memory, and a fault there is passed over.
 pub fn run<D: Disk, S: Source, O: Sink, E: Sink>(
     alloc: Global,
     words: &Words,
@@ -57,6 +59,7 @@ pub fn run<D: Disk, S: Source, O: Sink, E: Sink>(
         (course D.tells (D.state disk.old) (D.state disk.new)) (course S.tells (S.state input.old) (S.state input.new))
         (course O.tells (O.state out.old) (O.state out.new))) result.why }
     ensures err_kept { result.why ≡ Why.Done → err.new ≡ err.old }
+    ensures err_told { result.why ≢ Why.Done → TellsWhy words.now result.why (course E.tells (E.state err.old) (E.state err.new)) }
 {
     match Options::read(alloc, words) {
         Err(fault) => refuse(err, &fault),
@@ -67,12 +70,13 @@ pub fn run<D: Disk, S: Source, O: Sink, E: Sink>(
     }
 }
 
-/// Prints why the words ask for nothing.
+/// Prints why the words ask for nothing. A fault there is passed over.
 fn refuse<E: Sink>(err: &mut E, fault: &OptionsFault) -> Ended
     ensures why { result.why ≡ form.of_words fault.now }
     ensures status { result.status ≡ form.status_of result.why }
+    ensures told { TellsText (refusal_text fault.now) (course E.tells (E.state err.old) (E.state err.new)) }
 {
-    print_error(err, fault);
+    let _printed = print_text(err, fault.text());
     let why = match fault {
         OptionsFault::Usage(_) => Why::Usage,
         OptionsFault::NoMemory => Why::Fault(Error::NoMemory),
@@ -83,28 +87,30 @@ fn refuse<E: Sink>(err: &mut E, fault: &OptionsFault) -> Ended
     }
 }
 
-/// Prints what went wrong, where something did.
+/// Prints what went wrong, where something did. A fault there is passed over.
 fn end_with<E: Sink>(err: &mut E, why: Why) -> Ended
     ensures why { result.why ≡ why }
     ensures status { result.status ≡ form.status_of why }
     ensures err_kept { why ≡ Why.Done → err.new ≡ err.old }
+    ensures told { why ≢ Why.Done → (words : List (List ℕ)) → TellsWhy words why (course E.tells (E.state err.old) (E.state err.new)) }
 {
-    print_why(err, &why);
+    let _printed = print_why(err, &why);
     Ended {
         status: why.status(),
         why,
     }
 }
 
-/// Prints the text of an end that isn't the wanted one.
-fn print_why<E: Sink>(err: &mut E, why: &Why)
-    ensures { why.now ≡ Why.Done → err.new ≡ err.old }
+/// Prints the text of an end that isn't the wanted one. Refuses with a counted fault alone.
+fn print_why<E: Sink>(err: &mut E, why: &Why) -> Result<(), Failed>
+    ensures kept { why.now ≡ Why.Done → err.new ≡ err.old }
+    ensures told { why.now ≢ Why.Done → (words : List (List ℕ)) → TellsWhy words why.now (course E.tells (E.state err.old) (E.state err.new)) }
 {
     match why {
-        Why::Done => {}
-        Why::Usage => print_error(err, &"not a valid command line"),
-        Why::Fault(error) => print_error(err, error),
-        Why::Print => print_error(err, &"the report could not be written"),
+        Why::Done => Ok(()),
+        Why::Usage => print_text(err, "not a valid command line"),
+        Why::Fault(error) => print_shown(err, error),
+        Why::Print => print_text(err, "the report could not be written"),
     }
 }
 

@@ -7,18 +7,42 @@ ghost use Rattle.sd_words.specs.Refusal as form;
 use clap::error::ErrorKind;
 use sd_base::{NoMemory, Text};
 use std::alloc::{AllocError, Global};
+use std::error::Error;
 use std::fmt;
-use thiserror::Error;
 
 /// Why there are no options.
-#[derive(Drop, Error)]
+#[derive(Drop)]
 pub enum OptionsFault {
     /// The words are no command line of the program. Has the text for the user, where there is one and memory for it.
-    #[error("{}", usage_text(.0))]
     Usage(Option<Text>),
     /// There is no memory left.
-    #[error("out of memory")]
     NoMemory,
+}
+
+impl OptionsFault {
+    /// Its text for the user: what the words' parse said, where it carries that, or else a fixed text.
+    pub fn text(&self) -> &str
+        ensures { result.now ≡ form.refusal_text self.now }
+    {
+        match self {
+            OptionsFault::Usage(Some(text)) => text.as_str(),
+            OptionsFault::Usage(None) => "not a valid command line",
+            OptionsFault::NoMemory => "out of memory",
+        }
+    }
+}
+
+impl Error for OptionsFault {}
+
+/// A fault shows as its text.
+impl fmt::Display for OptionsFault {
+    ghost use Rattle.std.specs.Prelude.{Some};
+
+    ghost output = { λ fault. Some (form.refusal_text fault) };
+
+    fn fmt<W: fmt::Write>(&self, f: &mut fmt::Formatter<W>) -> fmt::Result {
+        f.write_str(self.text())
+    }
 }
 
 /// A fault shows as its text.
@@ -47,14 +71,6 @@ impl From<AllocError> for OptionsFault {
 
     fn from(_error: AllocError) -> OptionsFault {
         OptionsFault::NoMemory
-    }
-}
-
-/// The text of a usage fault.
-fn usage_text(text: &Option<Text>) -> &str {
-    match text {
-        Some(text) => text.as_str(),
-        None => "not a valid command line",
     }
 }
 

@@ -3,7 +3,7 @@
 ghost use Rattle.std.specs.Prelude.{◌≡◌, ◌≤◌, ℕ, IfOk, MatchResult, Some, map, not};
 ghost use Rattle.clap.specs.Walk.{is_empty};
 ghost use Rattle.sd_words.specs.Order as form;
-ghost use Rattle.sd_words.specs.OrderRead.{Refuses, or_usage};
+ghost use Rattle.sd_words.specs.OrderRead.{Refuses, RefusesTexts, or_usage};
 ghost use Rattle.sd_words.specs.MatchedRead.{text_of, texts_lent, texts_read};
 
 use crate::OptionsFault;
@@ -47,10 +47,10 @@ impl Options {
     /// Reads the words after the program's name. Answers `Usage` exactly where they ask for nothing that can be done: where
     /// the command doesn't take them, where a number isn't digits alone or is too great, where a demo stands with a root or
     /// with preview, where a plan is applied with one of these three or with words after the first two, or where rules to
-    /// ignore by stand without a root or with preview. A demand for help is such a refusal. Want of memory may come at any
-    /// words.
+    /// ignore by stand without a root or with preview. A demand for help is such a refusal. `Usage` has a text of its own only
+    /// where the command doesn't take the words. Want of memory may come at any words.
     pub fn read(alloc: Global, words: &Words) -> Result<Options, OptionsFault>
-        ensures read { MatchResult result (λ options. form.order_of words.now ≡ Some options) (Refuses (form.order_of words.now)) }
+        ensures read { MatchResult result (λ options. form.order_of words.now ≡ Some options) (Refuses words.now) }
         ensures demo { IfOk result (λ options. (n : ℕ) → options.demo ≡ Some n → n ≤ form.demo_max) }
     {
         let texts = lent(alloc, words)?;
@@ -63,7 +63,7 @@ impl Options {
 
     /// The options of matched texts.
     fn of(alloc: Global, texts: &Matched<'_, '_>) -> Result<Options, OptionsFault>
-        ensures read { MatchResult result (λ options. form.order_by (texts_read texts.now) ≡ Some options) (Refuses (form.order_by (texts_read texts.now))) }
+        ensures read { MatchResult result (λ options. form.order_by (texts_read texts.now) ≡ Some options) (RefusesTexts (texts_read texts.now)) }
         ensures demo { IfOk result (λ options. (n : ℕ) → options.demo ≡ Some n → n ≤ form.demo_max) }
     {
         if !stand_together(texts) {

@@ -27,19 +27,19 @@ use Rattle.sd_core.specs.declared.ended.Why.TheVariants as why
 
 -- ---- the words ask for nothing that can be done, or there was no memory to see what
 
-module _ (words : List (List ℕ)) (fault : OptionsFault) (refuses : Refuses (order_of words) fault) (ended : Why) (is : ended ≡ of_words fault) where
+module _ (words : List (List ℕ)) (fault : OptionsFault) (refuses : Refuses words fault) (ended : Why) (is : ended ≡ of_words fault) where
   none_refused : (order : Options) → order_of words ≡ Some order → IsRefusedFirst order ended
   none_refused order asked = by fault refuses is
     where
-      by : (f : OptionsFault) → Refuses (order_of words) f → ended ≡ of_words f → IsRefusedFirst order ended
-      by (words_fault.Usage text) none e = absurd (none-some order (sym none ∙ asked))
+      by : (f : OptionsFault) → Refuses words f → ended ≡ of_words f → IsRefusedFirst order ended
+      by (words_fault.Usage text) none e = absurd (none-some order (sym none.0 ∙ asked))
       by words_fault.NoMemory none e = inl e
 
   unordered : (order : Options) → order_of words ≡ Some order → ended ≢ why.Usage
   unordered order asked usage = by fault refuses is
     where
-      by : (f : OptionsFault) → Refuses (order_of words) f → ended ≡ of_words f → ⊥
-      by (words_fault.Usage text) none e = none-some order (sym none ∙ asked)
+      by : (f : OptionsFault) → Refuses words f → ended ≡ of_words f → ⊥
+      by (words_fault.Usage text) none e = none-some order (sym none.0 ∙ asked)
       by words_fault.NoMemory none e = let f : 2 ≡ 1 = ap status_of (sym usage ∙ e) in omega (arith, f)
 
   -- no command begins
@@ -60,8 +60,8 @@ module _ (words : List (List ℕ)) (fault : OptionsFault) (refuses : Refuses (or
   pub usage_asks_nothing : ended ≡ why.Usage → order_of words ≡ None
   usage_asks_nothing usage = by fault refuses is
     where
-      by : (f : OptionsFault) → Refuses (order_of words) f → ended ≡ of_words f → order_of words ≡ None
-      by (words_fault.Usage text) none e = none
+      by : (f : OptionsFault) → Refuses words f → ended ≡ of_words f → order_of words ≡ None
+      by (words_fault.Usage text) none e = none.0
       by words_fault.NoMemory none e = let f : 2 ≡ 1 = ap status_of (sym usage ∙ e) in absurd (omega (arith, f))
 
   pub none_done : (status : ℕ) → status ≡ status_of ended → status ≡ 0 → ⊥

@@ -1,6 +1,6 @@
 -- What a parse of the command says of the order.
-use Rattle.std.proofs.Common.{◌≡◌, ◌∙◌, ap, ap₂, cond, inl, inr, refl, sym, true, false, List, [], ◌∷◌, Option, Some, None, arith, ne_eqb}
-use Rattle.std.specs.Prelude.{option_and_then}
+use Rattle.std.proofs.Common.{◌≡◌, ◌∙◌, ap, ap₂, cond, inl, inr, refl, sym, true, false, List, [], ◌∷◌, Some, None, arith, ne_eqb}
+use Rattle.std.specs.Prelude.{option_and_then, MatchResult, Result, Ok, Err}
 use Rattle.clap.specs.Words.{App, HasKind, IsAmong, Kinds, Row, Text, fault_of, is_simple, is_simple_and_free, kind_of, matches_of}
 use Rattle.clap.specs.Walk.{is_empty}
 use Rattle.clap.specs.declared.error.Error.{Error}
@@ -9,7 +9,7 @@ use Rattle.clap.specs.declared.error.kind.ErrorKind.TheVariants.{OutOfMemory}
 use Rattle.sd_words.specs.Command.{command}
 use Rattle.sd_words.specs.Matched.{Texts, texts_in, texts_of}
 use Rattle.sd_words.specs.Order.{order_by, order_of}
-use Rattle.sd_words.specs.OrderRead.{IsRefusalOf, Refuses}
+use Rattle.sd_words.specs.OrderRead.{IsRefusalOf, Refuses, RefusesTexts}
 use Rattle.sd_words.specs.declared.options.Options.{Options}
 use Rattle.sd_words.specs.declared.fault.OptionsFault.{OptionsFault}
 use Rattle.sd_words.specs.declared.fault.OptionsFault.TheVariants as fault
@@ -35,18 +35,26 @@ among : (k : ErrorKind) (kinds : Kinds) → IsAmong k kinds → is_empty kinds �
 among k [] h = absurd h
 among k (x ∷ xs) h = ne_eqb _ _ (λ e. omega arith)
 
--- a parse that was refused, and not for memory: there is no order
-pub no_order : (app : App) (given words : List Text) (e : Error) → app ≡ command → given ≡ words → (is_simple_and_free app ≡ true → HasKind (fault_of app given) e)
-    → (kind_of e ≡ OutOfMemory → ⊥) → order_of words ≡ None
-unfolding order_of
-no_order app given words e is same refused kind =
-    ap (λ b. option_and_then order_by (cond b (Some (texts_in (matches_of command words))) None))
+-- a parse that was refused, and not for memory: there are no texts
+pub no_texts : (app : App) (given words : List Text) (e : Error) → app ≡ command → given ≡ words → (is_simple_and_free app ≡ true → HasKind (fault_of app given) e)
+    → (kind_of e ≡ OutOfMemory → ⊥) → texts_of words ≡ None
+no_texts app given words e is same refused kind =
+    ap (λ b. cond b (Some (texts_in (matches_of command words))) None)
     (ap is_empty (sym (ap₂ fault_of is same)) ∙ go (refused (ap is_simple_and_free is ∙ is_free_command)))
   where
     go : HasKind (fault_of app given) e → is_empty (fault_of app given) ≡ false
     go (inl oom) = absurd (kind oom)
     go (inr h) = among (kind_of e) (fault_of app given) h
 
-pub refusal_of : (order : Option Options) (e : Error) (f : OptionsFault) → IsRefusalOf e f → ((kind_of e ≡ OutOfMemory → ⊥) → order ≡ None) → Refuses order f
-refusal_of order e (fault.Usage text) h none = none h
-refusal_of order e fault.NoMemory h none = tt
+-- words that the command doesn't take ask for nothing
+pub refusal_of : (words : List Text) (e : Error) (f : OptionsFault) → IsRefusalOf e f → ((kind_of e ≡ OutOfMemory → ⊥) → texts_of words ≡ None) → Refuses words f
+unfolding order_of
+refusal_of words e (fault.Usage text) h none = (ap (option_and_then order_by) (none h), λ taken. absurd (taken (none h)))
+refusal_of words e fault.NoMemory h none = tt
+
+-- words that it takes ask for what their texts ask for
+pub reads_of : (words : List Text) (t : Texts) (result : Result Options OptionsFault) → order_by t ≡ order_of words
+    → MatchResult result (λ options. order_by t ≡ Some options) (RefusesTexts t) → MatchResult result (λ options. order_of words ≡ Some options) (Refuses words)
+reads_of words t (Ok options) same read = sym same ∙ read
+reads_of words t (Err (fault.Usage text)) same read = (sym same ∙ read.0, λ taken. read.1)
+reads_of words t (Err fault.NoMemory) same read = tt

@@ -1,6 +1,7 @@
 use Rattle.std.proofs.Common.{◌∙◌, ap, refl, sym}
 use Rattle.sd_core.specs.Run.{status_of}
 use Rattle.sd_core.proofs.top.RunLemmas.{none_carries, is_usage, usage_asks_nothing, none_done, not_done, done, carries_so, none_unordered, usage_so, headline_so}
+use Rattle.sd_core.proofs.top.TellLemmas.{words_told, end_told}
 use Rattle.sd_core.proofs.top.run.Goals as goal
 
 -- ---- the words ask for nothing that can be done
@@ -23,6 +24,9 @@ returns-in-Err-clause-carries g c = none_carries _ _ c.in-Err.ensures.read _ c.r
 pub returns-in-Err-clause-err_kept : goal.returns-in-Err-clause-err_kept
 returns-in-Err-clause-err_kept g c = λ done. absurd (not_done _ _ c.in-Err.ensures.read _ c.refuse.ensures.why done)
 
+pub returns-in-Err-clause-err_told : goal.returns-in-Err-clause-err_told
+returns-in-Err-clause-err_told g c = λ other. words_told c.args.words.now _ c.in-Err.fault c.in-Err.ensures.read _ c.refuse.ensures.why c.refuse.ensures.told
+
 -- ---- they ask for something
 
 pub returns-in-Ok-clause-carries : goal.returns-in-Ok-clause-carries
@@ -44,3 +48,6 @@ returns-in-Ok-clause-no_order g c = λ none. absurd (none_unordered _ c.in-Ok.op
 
 pub returns-in-Ok-clause-err_kept : goal.returns-in-Ok-clause-err_kept
 returns-in-Ok-clause-err_kept g c = λ done. c.end_with.ensures.err_kept (sym c.end_with.ensures.why ∙ done)
+
+pub returns-in-Ok-clause-err_told : goal.returns-in-Ok-clause-err_told
+returns-in-Ok-clause-err_told g c = λ other. end_told c.args.words.now _ _ _ c.end_with.ensures.why c.end_with.ensures.told other

@@ -1,0 +1,2 @@
+-- What the printing of a line uses.
+pub mod LineLemmas
