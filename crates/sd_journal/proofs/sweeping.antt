@@ -1,0 +1,2 @@
+-- What a journalled sweep uses.
+pub mod WorkLemmas
