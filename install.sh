@@ -1,5 +1,5 @@
 #!/bin/sh
-# Installs the program, its manual page and its completions below ${DESTDIR:-}${PREFIX:-/usr/local}; with --uninstall takes
+# Installs the programs, their manual pages and their completions below ${DESTDIR:-}${PREFIX:-/usr/local}; with --uninstall takes
 # these files away again. What is installed needs nothing else of this folder.
 set -eu
 top=$(dirname "$(readlink -f "$0")")
@@ -24,11 +24,13 @@ take() {
 
 # each_file COMMAND: of all that is installed
 each_file() {
-    "$1" crates/sd/out/sd bin/sd 755
-    "$1" docs/sd.1 share/man/man1/sd.1 644
-    "$1" completions/sd.bash share/bash-completion/completions/sd 644
-    "$1" completions/_sd share/zsh/site-functions/_sd 644
-    "$1" completions/sd.fish share/fish/vendor_completions.d/sd.fish 644
+    for program in sd sd_journal; do
+        "$1" "crates/$program/out/$program" "bin/$program" 755
+        "$1" "docs/$program.1" "share/man/man1/$program.1" 644
+        "$1" "completions/$program.bash" "share/bash-completion/completions/$program" 644
+        "$1" "completions/_$program" "share/zsh/site-functions/_$program" 644
+        "$1" "completions/$program.fish" "share/fish/vendor_completions.d/$program.fish" 644
+    done
 }
 
 case "$#:${1:-}" in
