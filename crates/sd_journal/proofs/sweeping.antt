@@ -1,4 +1,5 @@
 -- What a journalled sweep uses.
+pub mod PathLemmas
 pub mod WorkLemmas
 pub mod CountLemmas
 pub mod SweepLemmas

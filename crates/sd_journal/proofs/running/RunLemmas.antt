@@ -1,6 +1,6 @@
 -- How a run answers, from what its words ask for.
-use Rattle.std.proofs.Common.{◌≡◌, ◌∙◌, ℕ, List, [], ◌∷◌, ap, subst, sym, inl, inr, arith, codes}
-use Rattle.std.specs.Prelude.{◌⊎◌, Option, Some, None, Result, Ok, Err, slice_get}
+use Rattle.std.proofs.Common.{◌≡◌, ◌∙◌, ℕ, Bool, false, List, [], ◌∷◌, ap, subst, sym, inl, inr, arith, codes}
+use Rattle.std.specs.Prelude.{◌⊎◌, IsTrue, Option, Some, None, Result, Ok, Err, slice_get}
 use Rattle.std.proofs.lemmas.Option.{same_Some, none-some}
 use Rattle.sd_io.specs.Disk.{DiskState}
 use Rattle.sd_io.specs.Streams.{SinkState}
@@ -19,6 +19,10 @@ use Rattle.sd_journal.specs.declared.error.JournalError.{JournalError}
 use Rattle.sd_journal.specs.declared.error.JournalError.TheVariants as error
 use Rattle.sd_journal.specs.declared.ended.JournalWhy.{JournalWhy}
 use Rattle.sd_journal.specs.declared.ended.JournalWhy.TheVariants as why
+
+-- a test that failed doesn't hold
+pub not_asked : (b : Bool) → b ≡ false → IsTrue b → ⊥
+not_asked b no_it yes_it = cc (sym no_it ∙ yes_it)
 
 not_one : ◌≡◌ {A = ℕ} 2 1 → ⊥
 not_one e = omega (arith, e)
