@@ -1,5 +1,4 @@
 -- What a journalled sweep uses.
-pub mod PathLemmas
 pub mod WorkLemmas
 pub mod CountLemmas
 pub mod SweepLemmas

@@ -53,7 +53,7 @@ module _ (change : Change) (tree : Tree) where
   all_files : (paths : List (List ℕ)) (places : List NameList) (lines : List PlanLine) → map (λ path. reached tree path true) paths ≡ map (λ place. Some place) places
       → ((place : NameList) → Contains places place → IsNonemptyFile tree place) → PlansFiles change tree paths lines
       → (length lines ≡ length places) × CountsFiles change tree places (changed_in lines) (replaced_in lines)
-  all_files [] [] [] lead files plans = (refl, refl, refl)
+  all_files [] [] [] lead files plans = (refl, (refl, refl))
   all_files [] [] (line ∷ lines) lead files plans = absurd plans
   all_files [] (place ∷ places) lines lead files plans = absurd (nothing (Some place) (map (λ place. Some place) places) lead)
     where

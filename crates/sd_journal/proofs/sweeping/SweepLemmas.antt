@@ -24,7 +24,6 @@ use Rattle.sd_core.specs.Sweep.{sweep_cap}
 use Rattle.sd_core.specs.declared.error.Error.{Error}
 use Rattle.sd_core.specs.declared.error.Error.TheVariants as sweep
 use Rattle.sd_core.proofs.SelectionLemmas.{globs_select}
-use Rattle.sd_journal.specs.Errors.{of_sweep}
 use Rattle.sd_journal.specs.Work.{changed_paths, IsWorkOf, IsFresh}
 use Rattle.sd_journal.specs.Sweep.{CountsPlan, CountsChosen, IsOldOrBetween, IsAllNew, IsErrOrMemory, SweepsJournalled}
 use Rattle.sd_journal.specs.declared.error.JournalError.{JournalError}
@@ -60,26 +59,6 @@ lists_then s t u first second =
       open_count = second.open_count ∙ first.open_count;
       open_most = omega (arith, one, count, two);
     }
-
--- ---- no plan is made
-
-told : Result (List PlanLine) Error → Result Report JournalError
-told (Ok lines) = Err error.NoMemory
-told (Err refused) = Err (of_sweep refused)
-
-pub unplanned : (change : Change) (root : List ℕ) (globs : List (List ℕ)) (same_disk : Type 0) (refused : Error) (d : Course DiskState)
-    → PlansTree change (by_globs root globs) sweep_cap same_disk (Err refused) d → SweepsJournalled change root globs same_disk (Err (of_sweep refused)) d
-unplanned change root globs same_disk refused d plans = record {
-  kept = λ known folder leads fresh. inl plans.same;
-  changed = λ known folder leads fresh. tt;
-  counted = λ known. tt;
-  few = λ known. tt;
-  bad_glob = λ place at.
-      let (same, is) = plans.bad_glob place at in
-      (same, elim is [ inl e ↦ inl (ap told e) | inr e ↦ inr (ap told e) ]);
-  lists = plans.lists;
-  never_falls = plans.never_falls;
-}
 
 -- ---- a plan is made
 

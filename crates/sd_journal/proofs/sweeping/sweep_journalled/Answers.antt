@@ -1,20 +1,6 @@
-use Rattle.std.proofs.Common.{◌≡◌, sym, subst}
-use Rattle.std.specs.Prelude.{Err}
-use Rattle.sd_course.specs.Course.{course}
-use Rattle.sd_journal.specs.Sweep.{SweepsJournalled}
-use Rattle.sd_journal.specs.declared.error.JournalError.{JournalError}
-use Rattle.sd_journal.proofs.sweeping.SweepLemmas.{unplanned, swept}
+use Rattle.std.proofs.Common.{◌≡◌}
+use Rattle.sd_journal.proofs.sweeping.SweepLemmas.{swept}
 use Rattle.sd_journal.proofs.sweeping.sweep_journalled.Goals as goal
-
-pub returns-in-Err : goal.returns-in-Err
-returns-in-Err g c =
-    let change = g.R.Replaces.change c.args.replacer.now in
-    let s = g.D.Disk.state c.args.disk.now in
-    let t = g.D.Disk.state c.plan.new.disk in
-    let root = c.args.root.now in
-    let globs = c.args.globs.now in
-    subst (λ (failed : JournalError). SweepsJournalled change root globs (c.plan.new.disk ≡ c.args.disk.now) (Err failed) (course g.D.Disk.tells s t)) (sym c.of_sweep.ensures)
-    (unplanned change root globs (c.plan.new.disk ≡ c.args.disk.now) c.in-Err.refused (course g.D.Disk.tells s t) c.in-Err.ensures)
 
 pub returns-in-Ok : goal.returns-in-Ok
 returns-in-Ok g c =

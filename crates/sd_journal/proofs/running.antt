@@ -1,2 +1,0 @@
--- What a run uses.
-pub mod RunLemmas
