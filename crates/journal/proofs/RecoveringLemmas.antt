@@ -327,17 +327,16 @@ answered of (Ok a) q x cases is p = p
 answered of (Err fault) (Ok a) x cases is p = absurd cases
 answered of (Err fault) (Err e) x cases is p = absurd (cc is)
 
+same_fault : {T F : Type 0} (h k : F) (r : Result T F) → r ≡ Err h → r ≡ Err k → h ≡ k
+same_fault h k r e i = cc
+
 -- a fault that was told as another
 pub told_as : {T E F : Type 0} (of : E → F) (P : F → Type 0) (r : Result T E) (q : Result T F) (f : F) → MatchResult r (λ x. q ≡ Ok x) (λ fault. IsErrAnd q (λ e. e ≡ of fault)) → q ≡ Err f
     → ((e : E) → r ≡ Err e → P (of e)) → P f
 told_as of P (Ok a) q f cases is p = absurd (cc (sym cases ∙ is))
 told_as of P (Err e) (Ok x) f cases is p = absurd cases
 told_as of P (Err e) (Err h) f cases is p =
-    let same : h ≡ f = err_is h f is in
-    subst P (sym cases ∙ same) (p e refl)
-  where
-    err_is : (h f : F) → Err {T = T} h ≡ Err f → h ≡ f
-    err_is h f e = cc
+    subst P (sym cases ∙ same_fault h f (Err h) refl is) (p e refl)
 
 pub new_at_the_end : (work : Work) (lines : List Line) (s : DiskState) → HoldsPresent s → IsIn cleared work lines s → AllNew work s.tree
 new_at_the_end work lines s holds is f has = (present_in cleared work lines s holds is f.0).file f has refl

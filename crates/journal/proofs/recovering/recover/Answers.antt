@@ -1,6 +1,7 @@
 use Rattle.std.proofs.Common.{◌≡◌, ℕ, inl, inr, refl, ◌∙◌, ap, sym, subst, arith}
 use Rattle.sd_io.specs.Tree.{Tree}
 use Rattle.sd_io.specs.Lists.{IsNoDirectory, directory_of}
+use Rattle.sd_course.specs.Course.{course}
 use Rattle.journal.specs.declared.fault.JournalFault.TheVariants as fault
 use Rattle.journal.specs.Clearing.{LeavesNoMore}
 use Rattle.journal.specs.Reading.{NoneStands}
@@ -215,7 +216,7 @@ returns-in_err-map_err-clause-fails g c =
     let to_synced = c.in_ok-sync_dir.ensures.lists.listed in
     let to_finished = c.finish.ensures.lists.listed in
     refused_as _ c.from_residual-in_err-map_err.result _ c.from_residual-in_err-map_err.ensures.1
-    (told_as fault.Unfinished _ c.finish.result c.map_err.result c.in_err-map_err.field-0.0 c.map_err.ensures.cases c.in_err-map_err.was
+    (told_as fault.Unfinished (RecoverFails (course g.D.Disk.tells s (g.D.Disk.state c.finish.new.disk)) root) c.finish.result c.map_err.result c.in_err-map_err.field-0.0 c.map_err.ensures.cases c.in_err-map_err.was
     (λ job is. (
       omega (arith, rose, to_looked, to_synced, to_finished),
       (λ told. (lines, all_same s.tree s2.tree root lines ((c.in_ok-sync_dir.ensures.synced told).tree ∙ c.is_directory.ensures.tree.tree) (read_if told).0)),
