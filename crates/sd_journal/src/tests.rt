@@ -66,6 +66,7 @@ fn text_and_other(alloc: Global) -> Result<MemDisk, Fail> {
 }
 
 const SWEEP: &[&str] = &["--root", "/t", "--", "one", "1", "*.txt"];
+
 const RECOVER: &[&str] = &["--recover", "/t"];
 
 #[test]
@@ -193,7 +194,10 @@ fn a_crash_is_recovered(rt: HostRuntime) -> Result<(), Fail> {
             let mut image = disk.crash(alloc, choice)?;
             let status = status_of(alloc, &mut image, RECOVER)?;
             let whole = is_whole(alloc, &image)?;
-            assert!(rt; status == 0 && whole, "cut off at call {call}, choice {choice}");
+            assert!(rt;
+                status == 0 && whole,
+                "cut off at call {call}, choice {choice}"
+            );
         }
     }
     Ok(())

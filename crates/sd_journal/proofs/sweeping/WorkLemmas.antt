@@ -216,7 +216,7 @@ module _ (change : Change) (one : IsOne change) (tree : Tree) where
       let (here, more) = both (reached tree path true) (Some place) (map (λ path. reached tree path true) paths) (map (λ place. Some place) places) lead in
       let rest = own_places paths places lines plans more sorted in
       let apart = all_places (λ q. same_place place q ≡ false) (files_of paths places lines plans)
-          (λ f i. other_place place f.0 (less_than_all place places less f.0 (told paths places lines plans more f i).0)) in
+      (λ f i. other_place place f.0 (less_than_all place places less f.0 (told paths places lines plans more f i).0)) in
       by apart rest line.changed
     where
       by : AllByRecursion (λ q. same_place place q ≡ false) (map (λ f. f.0) (files_of paths places lines plans)) → IsDistinct same_place (map (λ f. f.0) (files_of paths places lines plans)) → (b : Bool)

@@ -33,5 +33,5 @@ returns-clause-refused g c =
     let wrote : second ≡ first ++ decimal c.args.files = c.in_ok-write_all-2.ensures.written told ∙ ap (λ (text : List ℕ). first ++ text) digits in
     refused_so c.write_all-3.result (c.write_all-3.ensures.refused told)
     (λ some.
-        behind held (codes "recovered ") (decimal c.args.files ++ codes "\n") first now (c.in_ok-write_all.ensures.written told)
-        (behind first (decimal c.args.files) (codes "\n") second now wrote some))
+    behind held (codes "recovered ") (decimal c.args.files ++ codes "\n") first now (c.in_ok-write_all.ensures.written told)
+    (behind first (decimal c.args.files) (codes "\n") second now wrote some))
