@@ -1,13 +1,18 @@
 -- A change is recovered.
-use Rattle.std.specs.Prelude.{◌≡◌, ℕ, true, List, Some, ⊤}
+use Rattle.std.specs.Prelude.{◌≡◌, ◌<◌, ◌⊎◌, ◌++◌, ◌∷◌, [], ℕ, true, List, length, Some, None, IsTrue, ⊤}
+use Rattle.sd_io.specs.Tree.{NameList, Tree, node_at}
+use Rattle.sd_io.specs.Paths.{reached}
 use Rattle.sd_io.specs.Lists.{directory_of}
 use Rattle.sd_io.specs.Files.{LeadsNowhere}
 use Rattle.sd_io.specs.Disk.{DiskState}
 use Rattle.sd_course.specs.Course.{Course, AsTold, DiskFailed}
-use Rattle.change_phases.specs.Between.{Work, IsWork}
+use Rattle.journal_text.specs.declared.line.Line.{Line}
+use Rattle.change_phases.specs.Between.{Work, IsWork, journal_name}
 use Rattle.change_phases.specs.Recovery.{IsRecoverable}
 use Rattle.journal.specs.declared.fault.JournalFault.{JournalFault}
 use Rattle.journal.specs.declared.fault.JournalFault.TheVariants as fault
+use Rattle.journal.specs.Clearing.{LeavesNoMore}
+use Rattle.journal.specs.Reading.{NoneStands, OtherStands, AllStand, StagesFail}
 
 -- the change was of files below this root, and can be recovered from
 pub record MayRecover (work : Work) (root : List ℕ) (state : DiskState) : Type 0 where
@@ -38,3 +43,34 @@ RootFails d root fault.BadJournal = ⊥
 RootFails d root (fault.StageMissing path) = ⊥
 RootFails d root (fault.StageDiffers path planned found) = ⊥
 RootFails d root fault.NoMemory = ⊤
+
+-- ---- what is answered, and refused
+
+-- 0 where no journal stood, and nothing was written; else the number of its lines, whose stages all stood
+abbrev pub IsRecovered : DiskState → List ℕ → ℕ → DiskState → Type 0
+IsRecovered old root count new = (NoneStands old.tree root × (count ≡ 0) × LeavesNoMore old new) ⊎ ((lines : List Line) × AllStand old.tree root lines × (count ≡ length lines))
+
+-- Why a change isn't recovered: the root leads nowhere, what stands in the journal's place is none, or a stage isn't what its line tells; or a step that
+-- writes was refused, where the journal and all its stages stood. Else the disk counted a fault, or there is no memory left.
+abbrev pub RecoverFails : Course DiskState → List ℕ → JournalFault → Type 0
+RecoverFails d root fault.RootMissing = AsTold d.tells (LeadsNowhere d.old root true) (DiskFailed d)
+RecoverFails d root (fault.File refused) = DiskFailed d
+RecoverFails d root fault.Pending = ⊥
+RecoverFails d root (fault.TempName folder) = ⊥
+RecoverFails d root (fault.Unfinished job) = (d.old.listed < d.new.listed) × (IsTrue d.tells → (lines : List Line) × AllStand d.old.tree root lines)
+RecoverFails d root fault.BadJournal = AsTold d.tells (OtherStands d.old.tree root) (d.old.listed < d.new.listed)
+RecoverFails d root (fault.StageMissing path) = StagesFail d root (fault.StageMissing path)
+RecoverFails d root (fault.StageDiffers path planned found) = StagesFail d root (fault.StageDiffers path planned found)
+RecoverFails d root fault.NoMemory = ⊤
+
+-- the change isn't begun to be carried out: nothing was written
+abbrev pub IsBeforeWriting : JournalFault → Type 0
+IsBeforeWriting fault.RootMissing = ⊤
+IsBeforeWriting (fault.File refused) = ⊤
+IsBeforeWriting fault.Pending = ⊤
+IsBeforeWriting (fault.TempName folder) = ⊤
+IsBeforeWriting (fault.Unfinished job) = ⊥
+IsBeforeWriting fault.BadJournal = ⊤
+IsBeforeWriting (fault.StageMissing path) = ⊤
+IsBeforeWriting (fault.StageDiffers path planned found) = ⊤
+IsBeforeWriting fault.NoMemory = ⊤

@@ -1,18 +1,19 @@
 //! The recovery of a change that was cut off.
 
-ghost use Rattle.std.specs.Prelude.{◌≡◌, ◌≤◌, ◌⊎◌, ◌↔◌, IsTrue, IsSome, Some, IfOk, IfErr, OnOk};
+ghost use Rattle.std.specs.Prelude.{◌≡◌, ◌≤◌, ◌⊎◌, ◌↔◌, true, IsTrue, IsSome, Some, IfOk, IfErr, OnOk};
 ghost use Rattle.sd_io.specs.Disk.{SameTree, SameLists};
+ghost use Rattle.sd_io.specs.Paths.{reached};
 ghost use Rattle.sd_io.specs.Lists.{directory_of};
 ghost use Rattle.sd_course.specs.Course.{course};
 ghost use Rattle.change_phases.specs.Between.{Work, AllOld, AllNew};
 ghost use Rattle.journal.specs.Keeping.{KeepsBetween};
+ghost use Rattle.journal.specs.Clearing.{LeavesNoMore};
 ghost use Rattle.journal.specs.Finding.{LeavesLists};
-ghost use Rattle.journal.specs.Recovering.{MayRecover, IsMisread, RootFails};
+ghost use Rattle.journal.specs.Recovering.{MayRecover, IsMisread, IsRecovered, RecoverFails, IsBeforeWriting, RootFails};
 
 use crate::JournalFault;
-use crate::finding::find_entry;
 use crate::finishing::finish;
-use crate::reading::{check_stages, journal_path, read_standing};
+use crate::reading::read_in_root;
 use sd_io::{Disk, DiskFault};
 use std::alloc::Global;
 
@@ -31,6 +32,9 @@ pub fn recover<D: Disk>(alloc: Global, disk: &mut D, root: &str) -> Result<u128,
     ensures recovered { IsTrue D.tells → (work : Work) → MayRecover work root.now (D.state disk.old)
         → OnOk result (AllOld work (D.state disk.new).tree ⊎ AllNew work (D.state disk.new).tree) }
     ensures readable { IsTrue D.tells → (work : Work) → MayRecover work root.now (D.state disk.old) → IfErr result (λ fault. IsMisread fault → ⊥) }
+    ensures answer { IsTrue D.tells → IfOk result (λ count. IsRecovered (D.state disk.old) root.now count (D.state disk.new)) }
+    ensures fails { IfErr result (RecoverFails (course D.tells (D.state disk.old) (D.state disk.new)) root.now) }
+    ensures unwritten { IsTrue D.tells → IfErr result (λ fault. IsBeforeWriting fault → LeavesNoMore (D.state disk.old) (D.state disk.new)) }
     ensures lists { LeavesLists (D.state disk.old) (D.state disk.new) }
     ensures never_falls { (D.state disk.old).faults ≤ (D.state disk.new).faults }
 {
@@ -38,19 +42,18 @@ pub fn recover<D: Disk>(alloc: Global, disk: &mut D, root: &str) -> Result<u128,
         return Ok(0);
     }
     disk.sync_dir(root)?;
-    let Some(kind) = find_entry(alloc, disk, root, JOURNAL_NAME)? else {
+    let Some(standing) = read_in_root(alloc, disk, root)? else {
         return Ok(0);
     };
-    let path = journal_path(alloc, disk, root)?;
-    let journal = read_standing(alloc, disk, path.as_str(), kind)?;
-    check_stages(alloc, disk, &journal)?;
-    finish(alloc, disk, root, path.as_str(), &journal).map_err(JournalFault::Unfinished)?;
-    Ok(journal.len() as u128)
+    let path = standing.path.as_str();
+    finish(alloc, disk, root, path, &standing.journal).map_err(JournalFault::Unfinished)?;
+    Ok(standing.journal.len() as u128)
 }
 
 /// Whether a root leads to a directory. Refuses `RootMissing` where it leads to no node.
 pub(crate) fn is_directory<D: Disk>(disk: &mut D, root: &str) -> Result<bool, JournalFault>
     ensures kind { IsTrue D.tells → IfOk result (λ is. IsTrue is ↔ IsSome (directory_of (D.state disk.old).tree root.now)) }
+    ensures leads { IsTrue D.tells → OnOk result (IsSome (reached (D.state disk.old).tree root.now true)) }
     ensures fails { IfErr result (RootFails (course D.tells (D.state disk.old) (D.state disk.new)) root.now) }
     ensures tree { SameTree (D.state disk.old) (D.state disk.new) }
     ensures lists { SameLists (D.state disk.old) (D.state disk.new) }

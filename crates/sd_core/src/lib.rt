@@ -24,6 +24,7 @@ mod top;
 
 pub use app::{App, AppSource, replace_stream};
 pub use applying::apply_plan;
+pub use asking::replacer_of;
 pub use demo::sweep_demo;
 pub use ended::{Ended, Why};
 pub use error::{Error, Result};
@@ -36,6 +37,7 @@ pub use laws::{
 };
 pub use many_files::{FailedJobs, Report};
 pub use planning::plan;
+pub use printing::print_report;
 pub use sd_ignore::Ignore;
 pub use sd_plan::{Digest, Plan, PlanFault, PlanLine, read_plan, write_plan};
 pub use sd_words::{Options, OptionsFault};

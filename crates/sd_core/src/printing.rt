@@ -74,7 +74,7 @@ fn line_of(report: &Report) -> Line
 }
 
 /// Prints a report's line. Refuses with a counted fault of the sink alone, after a prefix of the line.
-pub(crate) fn print_report<O: Sink>(out: &mut O, report: &Report) -> Result<(), Failed>
+pub fn print_report<O: Sink>(out: &mut O, report: &Report) -> Result<(), Failed>
     ensures printed { IsTrue O.tells → OnOk result ((O.state out.new).held ≡ (O.state out.old).held ++ form.line_of report.now) }
     ensures refused { IsTrue O.tells → OnErr result (AppendsPrefix (O.state out.old).held (form.line_of report.now) (O.state out.new).held) }
     ensures never_falls { (O.state out.old).faults ≤ (O.state out.new).faults }

@@ -1,8 +1,15 @@
-use Rattle.std.proofs.Common.{inr, refl, ◌∙◌}
+use Rattle.std.proofs.Common.{◌≡◌, ℕ, inl, inr, refl, ◌∙◌, ap, sym, subst, arith}
+use Rattle.sd_io.specs.Tree.{Tree}
+use Rattle.sd_io.specs.Lists.{IsNoDirectory, directory_of}
 use Rattle.sd_course.specs.Course.{course}
-use Rattle.journal.specs.Recovering.{IsMisread}
-use Rattle.journal.proofs.ReadingLemmas.{refused_as}
-use Rattle.journal.proofs.RecoveringLemmas.{recover_same, between_on, same_trees, no_directory, kept_on, whole_on, paths_on, is_not_bad, placing_on, journal_not_misread, stages_right, answered, new_at_the_end}
+use Rattle.journal.specs.declared.fault.JournalFault.TheVariants as fault
+use Rattle.journal.specs.Clearing.{LeavesNoMore}
+use Rattle.journal.specs.Reading.{NoneStands}
+use Rattle.journal.specs.Recovering.{IsMisread, RecoverFails, IsBeforeWriting}
+use Rattle.journal.proofs.FindingLemmas.{look_refused}
+use Rattle.journal.proofs.ClearingLemmas.{no_more_same}
+use Rattle.journal.proofs.ReadingLemmas.{refused_as, is_directory_there, look_fails, all_same}
+use Rattle.journal.proofs.RecoveringLemmas.{recover_same, between_on, same_trees, no_directory, kept_on, whole_on, paths_on, is_not_other, placing_on, read_right, no_folder, missing_since, fails_since, no_more_on, before_writing, told_as, answered, new_at_the_end}
 use Rattle.journal.proofs.recovering.recover.Goals as goal
 
 pub returns-in_err-is_directory-clause-kept : goal.returns-in_err-is_directory-clause-kept
@@ -27,15 +34,31 @@ returns-in_err-sync_dir-clause-kept g c =
     let s2 = g.D.Disk.state c.sync_dir.new.self in
     recover_same work c.args.root.now s s2 m (same_trees s s1 s2 c.is_directory.ensures.tree c.in_err-sync_dir.ensures.refused)
 
-pub returns-in_err-kind-clause-kept : goal.returns-in_err-kind-clause-kept
-returns-in_err-kind-clause-kept g c =
+pub returns-in_err-standing-clause-kept : goal.returns-in_err-standing-clause-kept
+returns-in_err-standing-clause-kept g c =
     λ told work m.
     let s = g.D.Disk.state c.args.disk.now in
     let s1 = g.D.Disk.state c.is_directory.new.disk in
     let s2 = g.D.Disk.state c.sync_dir.new.self in
     let holds = g.met.D.Disk.holds_present c.is_directory.new.disk told in
     let y = c.in_ok-sync_dir.ensures.synced told in
-    kept_on work c.args.root.now s s1 s2 m c.is_directory.ensures.tree holds y (g.D.Disk.state c.find_entry.new.disk) c.find_entry.ensures.tree
+    kept_on work c.args.root.now s s1 s2 m c.is_directory.ensures.tree holds y (g.D.Disk.state c.read_in_root.new.disk) (c.read_in_root.ensures.tree told)
+
+pub returns-in_err-standing-clause-readable : goal.returns-in_err-standing-clause-readable
+returns-in_err-standing-clause-readable g c =
+    λ told work m.
+    let root = c.args.root.now in
+    let s = g.D.Disk.state c.args.disk.now in
+    let s1 = g.D.Disk.state c.is_directory.new.disk in
+    let s2 = g.D.Disk.state c.sync_dir.new.self in
+    let s3 = g.D.Disk.state c.read_in_root.new.disk in
+    let holds = g.met.D.Disk.holds_present c.is_directory.new.disk told in
+    let y = c.in_ok-sync_dir.ensures.synced told in
+    let same = c.is_directory.ensures.tree in
+    refused_as (λ f. IsMisread f → ⊥) c.from_residual-in_err-standing.result c.in_err-standing.field-0.0 c.from_residual-in_err-standing.ensures.1
+    (read_right work root s2 s3 g.D.Disk.tells told (g.met.D.Disk.is_tree c.sync_dir.new.self told) (g.met.D.Disk.holds_present c.sync_dir.new.self told)
+    (is_not_other work root s s1 s2 m same holds y) (λ lines stands. placing_on work root s s1 s2 m same holds y lines stands s2 (record { tree = refl; clock = refl; outcomes = refl }))
+    c.in_err-standing.field-0.0 c.in_err-standing.ensures.fails)
 
 pub returns-in_default-clause-kept : goal.returns-in_default-clause-kept
 returns-in_default-clause-kept g c =
@@ -45,7 +68,7 @@ returns-in_default-clause-kept g c =
     let s2 = g.D.Disk.state c.sync_dir.new.self in
     let holds = g.met.D.Disk.holds_present c.is_directory.new.disk told in
     let y = c.in_ok-sync_dir.ensures.synced told in
-    kept_on work c.args.root.now s s1 s2 m c.is_directory.ensures.tree holds y (g.D.Disk.state c.find_entry.new.disk) c.find_entry.ensures.tree
+    kept_on work c.args.root.now s s1 s2 m c.is_directory.ensures.tree holds y (g.D.Disk.state c.read_in_root.new.disk) (c.read_in_root.ensures.tree told)
 
 pub returns-in_default-clause-recovered : goal.returns-in_default-clause-recovered
 returns-in_default-clause-recovered g c =
@@ -55,178 +78,183 @@ returns-in_default-clause-recovered g c =
     let s2 = g.D.Disk.state c.sync_dir.new.self in
     let holds = g.met.D.Disk.holds_present c.is_directory.new.disk told in
     let y = c.in_ok-sync_dir.ensures.synced told in
-    whole_on work c.args.root.now s s1 s2 m c.is_directory.ensures.tree holds y (g.D.Disk.state c.find_entry.new.disk) (g.met.D.Disk.holds_present c.sync_dir.new.self told)
-    c.find_entry.ensures.tree (rw c.in_default.is at (c.in_ok-kind.ensures.found told))
-
-pub returns-in_err-path-clause-kept : goal.returns-in_err-path-clause-kept
-returns-in_err-path-clause-kept g c =
-    λ told work m.
-    let s = g.D.Disk.state c.args.disk.now in
-    let s1 = g.D.Disk.state c.is_directory.new.disk in
-    let s2 = g.D.Disk.state c.sync_dir.new.self in
-    let holds = g.met.D.Disk.holds_present c.is_directory.new.disk told in
-    let y = c.in_ok-sync_dir.ensures.synced told in
-    kept_on work c.args.root.now s s1 s2 m c.is_directory.ensures.tree holds y (g.D.Disk.state c.journal_path.new.disk)
-    (same_trees s2 (g.D.Disk.state c.find_entry.new.disk) (g.D.Disk.state c.journal_path.new.disk) c.find_entry.ensures.tree c.journal_path.ensures.tree)
-
-pub returns-in_err-journal-clause-kept : goal.returns-in_err-journal-clause-kept
-returns-in_err-journal-clause-kept g c =
-    λ told work m.
-    let s = g.D.Disk.state c.args.disk.now in
-    let s1 = g.D.Disk.state c.is_directory.new.disk in
-    let s2 = g.D.Disk.state c.sync_dir.new.self in
-    let s3 = g.D.Disk.state c.find_entry.new.disk in
-    let s4 = g.D.Disk.state c.journal_path.new.disk in
-    let s5 = g.D.Disk.state c.read_standing.new.disk in
-    let holds = g.met.D.Disk.holds_present c.is_directory.new.disk told in
-    let y = c.in_ok-sync_dir.ensures.synced told in
-    let to_path = same_trees s2 s3 s4 c.find_entry.ensures.tree c.journal_path.ensures.tree in
-    let to_journal = same_trees s2 s4 s5 to_path c.read_standing.ensures.tree in
-    kept_on work c.args.root.now s s1 s2 m c.is_directory.ensures.tree holds y s5 to_journal
-
-pub returns-in_err-journal-clause-readable : goal.returns-in_err-journal-clause-readable
-returns-in_err-journal-clause-readable g c =
-    λ told work m.
-    let s = g.D.Disk.state c.args.disk.now in
-    let s1 = g.D.Disk.state c.is_directory.new.disk in
-    let s2 = g.D.Disk.state c.sync_dir.new.self in
-    let s3 = g.D.Disk.state c.find_entry.new.disk in
-    let s4 = g.D.Disk.state c.journal_path.new.disk in
-    let s5 = g.D.Disk.state c.read_standing.new.disk in
-    let holds = g.met.D.Disk.holds_present c.is_directory.new.disk told in
-    let y = c.in_ok-sync_dir.ensures.synced told in
-    let to_path = same_trees s2 s3 s4 c.find_entry.ensures.tree c.journal_path.ensures.tree in
-    let to_journal = same_trees s2 s4 s5 to_path c.read_standing.ensures.tree in
-    let same = c.is_directory.ensures.tree in
-    let root = c.args.root.now in
-    let finds = rw c.in-Some.is at (c.in_ok-kind.ensures.found told) in
-    let path = c.as_str.result.now in
-    let are = paths_on work root s s1 s2 m same holds y s3 c.find_entry.ensures.tree path (λ folder leads. c.as_str.ensures.same ∙ c.in_ok-path.ensures.path told folder leads) in
-    let is = g.met.D.Disk.is_tree c.journal_path.new.disk told in
-    refused_as (λ f. IsMisread f → ⊥) c.from_residual-in_err-journal.result c.in_err-journal.field-0.0 c.from_residual-in_err-journal.ensures.1
-    (journal_not_misread (course g.D.Disk.tells s4 s5) path c.in-Some.kind told (is_not_bad work root s s1 s2 m same holds y c.in-Some.kind finds s4 to_path is path are)
-    c.in_err-journal.field-0.0 c.in_err-journal.ensures.fails)
-
-pub returns-in_err-check_stages-clause-kept : goal.returns-in_err-check_stages-clause-kept
-returns-in_err-check_stages-clause-kept g c =
-    λ told work m.
-    let s = g.D.Disk.state c.args.disk.now in
-    let s1 = g.D.Disk.state c.is_directory.new.disk in
-    let s2 = g.D.Disk.state c.sync_dir.new.self in
-    let s3 = g.D.Disk.state c.find_entry.new.disk in
-    let s4 = g.D.Disk.state c.journal_path.new.disk in
-    let s5 = g.D.Disk.state c.read_standing.new.disk in
-    let holds = g.met.D.Disk.holds_present c.is_directory.new.disk told in
-    let y = c.in_ok-sync_dir.ensures.synced told in
-    let to_path = same_trees s2 s3 s4 c.find_entry.ensures.tree c.journal_path.ensures.tree in
-    let to_journal = same_trees s2 s4 s5 to_path c.read_standing.ensures.tree in
-    let s6 = g.D.Disk.state c.check_stages.new.disk in
-    kept_on work c.args.root.now s s1 s2 m c.is_directory.ensures.tree holds y s6 (same_trees s2 s5 s6 to_journal (c.check_stages.ensures.tree told))
-
-pub returns-in_err-check_stages-clause-readable : goal.returns-in_err-check_stages-clause-readable
-returns-in_err-check_stages-clause-readable g c =
-    λ told work m.
-    let s = g.D.Disk.state c.args.disk.now in
-    let s1 = g.D.Disk.state c.is_directory.new.disk in
-    let s2 = g.D.Disk.state c.sync_dir.new.self in
-    let s3 = g.D.Disk.state c.find_entry.new.disk in
-    let s4 = g.D.Disk.state c.journal_path.new.disk in
-    let s5 = g.D.Disk.state c.read_standing.new.disk in
-    let holds = g.met.D.Disk.holds_present c.is_directory.new.disk told in
-    let y = c.in_ok-sync_dir.ensures.synced told in
-    let to_path = same_trees s2 s3 s4 c.find_entry.ensures.tree c.journal_path.ensures.tree in
-    let to_journal = same_trees s2 s4 s5 to_path c.read_standing.ensures.tree in
-    let same = c.is_directory.ensures.tree in
-    let root = c.args.root.now in
-    let finds = rw c.in-Some.is at (c.in_ok-kind.ensures.found told) in
-    let path = c.as_str.result.now in
-    let are = paths_on work root s s1 s2 m same holds y s3 c.find_entry.ensures.tree path (λ folder leads. c.as_str.ensures.same ∙ c.in_ok-path.ensures.path told folder leads) in
-    let is = g.met.D.Disk.is_tree c.journal_path.new.disk told in
-    let s6 = g.D.Disk.state c.check_stages.new.disk in
-    let lines = c.in_ok-journal.journal in
-    let placing = placing_on work root s s1 s2 m same holds y c.in-Some.kind finds s4 to_path is path are lines (c.in_ok-journal.ensures.read told) s5 to_journal in
-    refused_as (λ f. IsMisread f → ⊥) c.from_residual-in_err-check_stages.result c.in_err-check_stages.field-0.0 c.from_residual-in_err-check_stages.ensures.1
-    (stages_right work lines s5 (g.met.D.Disk.is_tree c.read_standing.new.disk told) (g.met.D.Disk.holds_present c.read_standing.new.disk told) placing
-    (course g.D.Disk.tells s5 s6) told refl c.in_err-check_stages.field-0.0 c.in_err-check_stages.ensures.fails)
+    whole_on work c.args.root.now s s1 s2 m c.is_directory.ensures.tree holds y (g.D.Disk.state c.read_in_root.new.disk) (g.met.D.Disk.holds_present c.sync_dir.new.self told)
+    (c.read_in_root.ensures.tree told) (rw c.in_default.is at (c.in_ok-standing.ensures.read told))
 
 pub returns-in_err-map_err-clause-kept : goal.returns-in_err-map_err-clause-kept
 returns-in_err-map_err-clause-kept g c =
     λ told work m.
+    let root = c.args.root.now in
     let s = g.D.Disk.state c.args.disk.now in
     let s1 = g.D.Disk.state c.is_directory.new.disk in
     let s2 = g.D.Disk.state c.sync_dir.new.self in
-    let s3 = g.D.Disk.state c.find_entry.new.disk in
-    let s4 = g.D.Disk.state c.journal_path.new.disk in
-    let s5 = g.D.Disk.state c.read_standing.new.disk in
+    let s3 = g.D.Disk.state c.read_in_root.new.disk in
+    let s4 = g.D.Disk.state c.finish.new.disk in
     let holds = g.met.D.Disk.holds_present c.is_directory.new.disk told in
     let y = c.in_ok-sync_dir.ensures.synced told in
-    let to_path = same_trees s2 s3 s4 c.find_entry.ensures.tree c.journal_path.ensures.tree in
-    let to_journal = same_trees s2 s4 s5 to_path c.read_standing.ensures.tree in
     let same = c.is_directory.ensures.tree in
-    let root = c.args.root.now in
-    let finds = rw c.in-Some.is at (c.in_ok-kind.ensures.found told) in
-    let path = c.as_str.result.now in
-    let are = paths_on work root s s1 s2 m same holds y s3 c.find_entry.ensures.tree path (λ folder leads. c.as_str.ensures.same ∙ c.in_ok-path.ensures.path told folder leads) in
-    let is = g.met.D.Disk.is_tree c.journal_path.new.disk told in
-    let paths = paths_on work root s s1 s2 m same holds y s3 c.find_entry.ensures.tree c.as_str-2.result.now (λ folder leads. c.as_str-2.ensures.same ∙ c.in_ok-path.ensures.path told folder leads) in
-    let s6 = g.D.Disk.state c.check_stages.new.disk in
-    let s7 = g.D.Disk.state c.finish.new.disk in
-    let to_stages = same_trees s2 s5 s6 to_journal (c.check_stages.ensures.tree told) in
-    let lines = c.in_ok-journal.journal in
-    let placing = placing_on work root s s1 s2 m same holds y c.in-Some.kind finds s4 to_path is path are lines (c.in_ok-journal.ensures.read told) s6 to_stages in
-    between_on work s s6 s7 (kept_on work root s s1 s2 m same holds y s6 to_stages) (c.finish.ensures.kept told work paths placing)
+    let now = c.read_in_root.ensures.tree told in
+    let (all, path_is) = rw c.in-Some.is at (c.in_ok-standing.ensures.read told) in
+    let paths = paths_on work root s s1 s2 m same holds y all.journal.folder all.journal.leads c.as_str-path.result.now (c.as_str-path.ensures.same ∙ path_is) in
+    let placing = placing_on work root s s1 s2 m same holds y c.in-Some.standing.journal all.journal s3 now in
+    between_on work s s3 s4 (kept_on work root s s1 s2 m same holds y s3 now) (c.finish.ensures.kept told work paths placing)
 
 pub returns-clause-kept : goal.returns-clause-kept
 returns-clause-kept g c =
     λ told work m.
+    let root = c.args.root.now in
     let s = g.D.Disk.state c.args.disk.now in
     let s1 = g.D.Disk.state c.is_directory.new.disk in
     let s2 = g.D.Disk.state c.sync_dir.new.self in
-    let s3 = g.D.Disk.state c.find_entry.new.disk in
-    let s4 = g.D.Disk.state c.journal_path.new.disk in
-    let s5 = g.D.Disk.state c.read_standing.new.disk in
+    let s3 = g.D.Disk.state c.read_in_root.new.disk in
+    let s4 = g.D.Disk.state c.finish.new.disk in
     let holds = g.met.D.Disk.holds_present c.is_directory.new.disk told in
     let y = c.in_ok-sync_dir.ensures.synced told in
-    let to_path = same_trees s2 s3 s4 c.find_entry.ensures.tree c.journal_path.ensures.tree in
-    let to_journal = same_trees s2 s4 s5 to_path c.read_standing.ensures.tree in
     let same = c.is_directory.ensures.tree in
-    let root = c.args.root.now in
-    let finds = rw c.in-Some.is at (c.in_ok-kind.ensures.found told) in
-    let path = c.as_str.result.now in
-    let are = paths_on work root s s1 s2 m same holds y s3 c.find_entry.ensures.tree path (λ folder leads. c.as_str.ensures.same ∙ c.in_ok-path.ensures.path told folder leads) in
-    let is = g.met.D.Disk.is_tree c.journal_path.new.disk told in
-    let paths = paths_on work root s s1 s2 m same holds y s3 c.find_entry.ensures.tree c.as_str-2.result.now (λ folder leads. c.as_str-2.ensures.same ∙ c.in_ok-path.ensures.path told folder leads) in
-    let s6 = g.D.Disk.state c.check_stages.new.disk in
-    let s7 = g.D.Disk.state c.finish.new.disk in
-    let to_stages = same_trees s2 s5 s6 to_journal (c.check_stages.ensures.tree told) in
-    let lines = c.in_ok-journal.journal in
-    let placing = placing_on work root s s1 s2 m same holds y c.in-Some.kind finds s4 to_path is path are lines (c.in_ok-journal.ensures.read told) s6 to_stages in
-    between_on work s s6 s7 (kept_on work root s s1 s2 m same holds y s6 to_stages) (c.finish.ensures.kept told work paths placing)
+    let now = c.read_in_root.ensures.tree told in
+    let (all, path_is) = rw c.in-Some.is at (c.in_ok-standing.ensures.read told) in
+    let paths = paths_on work root s s1 s2 m same holds y all.journal.folder all.journal.leads c.as_str-path.result.now (c.as_str-path.ensures.same ∙ path_is) in
+    let placing = placing_on work root s s1 s2 m same holds y c.in-Some.standing.journal all.journal s3 now in
+    between_on work s s3 s4 (kept_on work root s s1 s2 m same holds y s3 now) (c.finish.ensures.kept told work paths placing)
 
 pub returns-clause-recovered : goal.returns-clause-recovered
 returns-clause-recovered g c =
     λ told work m.
+    let root = c.args.root.now in
     let s = g.D.Disk.state c.args.disk.now in
     let s1 = g.D.Disk.state c.is_directory.new.disk in
     let s2 = g.D.Disk.state c.sync_dir.new.self in
-    let s3 = g.D.Disk.state c.find_entry.new.disk in
-    let s4 = g.D.Disk.state c.journal_path.new.disk in
-    let s5 = g.D.Disk.state c.read_standing.new.disk in
+    let s3 = g.D.Disk.state c.read_in_root.new.disk in
+    let s4 = g.D.Disk.state c.finish.new.disk in
     let holds = g.met.D.Disk.holds_present c.is_directory.new.disk told in
     let y = c.in_ok-sync_dir.ensures.synced told in
-    let to_path = same_trees s2 s3 s4 c.find_entry.ensures.tree c.journal_path.ensures.tree in
-    let to_journal = same_trees s2 s4 s5 to_path c.read_standing.ensures.tree in
     let same = c.is_directory.ensures.tree in
-    let root = c.args.root.now in
-    let finds = rw c.in-Some.is at (c.in_ok-kind.ensures.found told) in
-    let path = c.as_str.result.now in
-    let are = paths_on work root s s1 s2 m same holds y s3 c.find_entry.ensures.tree path (λ folder leads. c.as_str.ensures.same ∙ c.in_ok-path.ensures.path told folder leads) in
-    let is = g.met.D.Disk.is_tree c.journal_path.new.disk told in
-    let paths = paths_on work root s s1 s2 m same holds y s3 c.find_entry.ensures.tree c.as_str-2.result.now (λ folder leads. c.as_str-2.ensures.same ∙ c.in_ok-path.ensures.path told folder leads) in
-    let s6 = g.D.Disk.state c.check_stages.new.disk in
-    let s7 = g.D.Disk.state c.finish.new.disk in
-    let to_stages = same_trees s2 s5 s6 to_journal (c.check_stages.ensures.tree told) in
-    let lines = c.in_ok-journal.journal in
-    let placing = placing_on work root s s1 s2 m same holds y c.in-Some.kind finds s4 to_path is path are lines (c.in_ok-journal.ensures.read told) s6 to_stages in
+    let now = c.read_in_root.ensures.tree told in
+    let (all, path_is) = rw c.in-Some.is at (c.in_ok-standing.ensures.read told) in
+    let paths = paths_on work root s s1 s2 m same holds y all.journal.folder all.journal.leads c.as_str-path.result.now (c.as_str-path.ensures.same ∙ path_is) in
+    let placing = placing_on work root s s1 s2 m same holds y c.in-Some.standing.journal all.journal s3 now in
     let cleared = answered _ c.finish.result c.map_err.result _ c.map_err.ensures.cases c.in_ok-map_err.was (c.finish.ensures.done told work paths placing) in
-    inr (new_at_the_end work lines s7 (g.met.D.Disk.holds_present c.finish.new.disk told) cleared)
+    inr (new_at_the_end work c.in-Some.standing.journal s4 (g.met.D.Disk.holds_present c.finish.new.disk told) cleared)
+
+-- ---- what is answered
+
+pub returns-then-not-branch-clause-answer : goal.returns-then-not-branch-clause-answer
+returns-then-not-branch-clause-answer g c =
+    λ told.
+    let s = g.D.Disk.state c.args.disk.now in
+    let none = no_folder s.tree c.args.root.now c.in_ok-is_directory.field-0 (g.met.D.Disk.is_tree c.args.disk.now told) (c.in_ok-is_directory.ensures.leads told)
+    (c.in_ok-is_directory.ensures.kind told) c.if-not-branch.true in
+    inl (none, refl, no_more_same s (g.D.Disk.state c.is_directory.new.disk) c.is_directory.ensures.tree)
+
+pub returns-in_default-clause-answer : goal.returns-in_default-clause-answer
+returns-in_default-clause-answer g c =
+    λ told.
+    let root = c.args.root.now in
+    let s = g.D.Disk.state c.args.disk.now in
+    let s1 = g.D.Disk.state c.is_directory.new.disk in
+    let s2 = g.D.Disk.state c.sync_dir.new.self in
+    let s3 = g.D.Disk.state c.read_in_root.new.disk in
+    let y = c.in_ok-sync_dir.ensures.synced told in
+    let same = c.is_directory.ensures.tree in
+    let none = subst (λ (t : Tree). NoneStands t root) (y.tree ∙ same.tree) (rw c.in_default.is at (c.in_ok-standing.ensures.read told)) in
+    inl (none, refl, no_more_on s s1 s2 s3 root same (g.met.D.Disk.holds_present c.is_directory.new.disk told) y (c.read_in_root.ensures.tree told))
+
+pub returns-clause-answer : goal.returns-clause-answer
+returns-clause-answer g c =
+    λ told.
+    let root = c.args.root.now in
+    let s = g.D.Disk.state c.args.disk.now in
+    let s2 = g.D.Disk.state c.sync_dir.new.self in
+    let y = c.in_ok-sync_dir.ensures.synced told in
+    let same = c.is_directory.ensures.tree in
+    let lines = c.in-Some.standing.journal in
+    let (all, path_is) = rw c.in-Some.is at (c.in_ok-standing.ensures.read told) in
+    inr (lines, all_same s.tree s2.tree root lines (y.tree ∙ same.tree) all, c.len.ensures)
+
+-- ---- why it is refused
+
+pub returns-in_err-is_directory-clause-fails : goal.returns-in_err-is_directory-clause-fails
+returns-in_err-is_directory-clause-fails g c =
+    let root = c.args.root.now in
+    let s = g.D.Disk.state c.args.disk.now in
+    let s1 = g.D.Disk.state c.is_directory.new.disk in
+    refused_as _ c.from_residual.result _ c.from_residual.ensures.1 (missing_since g.D.Disk.tells s s1 root c.in_err-is_directory.field-0.0 c.in_err-is_directory.ensures.fails)
+
+pub returns-in_err-sync_dir-clause-fails : goal.returns-in_err-sync_dir-clause-fails
+returns-in_err-sync_dir-clause-fails g c =
+    let root = c.args.root.now in
+    let s = g.D.Disk.state c.args.disk.now in
+    let s1 = g.D.Disk.state c.is_directory.new.disk in
+    let s2 = g.D.Disk.state c.sync_dir.new.self in
+    let f = c.in_err-sync_dir.field-0.0 in
+    refused_as _ c.from_residual-in_err-sync_dir.result _ c.from_residual-in_err-sync_dir.ensures.1
+    (look_fails g.D.Disk.tells s s1 s2 root (IsNoDirectory s1 root) c.is_directory.ensures.never_falls
+    (λ told none. is_directory_there s.tree root ((c.in_ok-is_directory.ensures.kind told).0 c.if-not-branch.false) (ap (λ (t : Tree). directory_of t root) (sym c.is_directory.ensures.tree.tree) ∙ none))
+    f (look_refused g.D.Disk.tells s1 s2 (IsNoDirectory s1 root) f c.in_err-sync_dir.ensures.absent c.in_err-sync_dir.ensures.not_taken c.in_err-sync_dir.ensures.cause))
+
+pub returns-in_err-standing-clause-fails : goal.returns-in_err-standing-clause-fails
+returns-in_err-standing-clause-fails g c =
+    let root = c.args.root.now in
+    let s = g.D.Disk.state c.args.disk.now in
+    let s2 = g.D.Disk.state c.sync_dir.new.self in
+    let low = c.is_directory.ensures.never_falls in
+    let low_then = c.in_ok-sync_dir.ensures.cause.never_falls in
+    refused_as _ c.from_residual-in_err-standing.result _ c.from_residual-in_err-standing.ensures.1
+    (fails_since g.D.Disk.tells s s2 (g.D.Disk.state c.read_in_root.new.disk) root (λ told. (c.in_ok-sync_dir.ensures.synced told).tree ∙ c.is_directory.ensures.tree.tree)
+    (omega (arith, low, low_then)) (c.in_ok-sync_dir.ensures.lists.listed ∙ c.is_directory.ensures.lists.listed)
+    c.in_err-standing.field-0.0 c.in_err-standing.ensures.fails)
+
+pub returns-in_err-map_err-clause-fails : goal.returns-in_err-map_err-clause-fails
+returns-in_err-map_err-clause-fails g c =
+    let root = c.args.root.now in
+    let s = g.D.Disk.state c.args.disk.now in
+    let s2 = g.D.Disk.state c.sync_dir.new.self in
+    let lines = c.in-Some.standing.journal in
+    let rose = rw c.in-Some.is at c.in_ok-standing.ensures.listed in
+    let read_if = rw c.in-Some.is at c.in_ok-standing.ensures.read in
+    let to_looked = c.is_directory.ensures.lists.listed in
+    let to_synced = c.in_ok-sync_dir.ensures.lists.listed in
+    let to_finished = c.finish.ensures.lists.listed in
+    refused_as _ c.from_residual-in_err-map_err.result _ c.from_residual-in_err-map_err.ensures.1
+    (told_as fault.Unfinished (RecoverFails (course g.D.Disk.tells s (g.D.Disk.state c.finish.new.disk)) root) c.finish.result c.map_err.result c.in_err-map_err.field-0.0 c.map_err.ensures.cases c.in_err-map_err.was
+    (λ job is. (
+      omega (arith, rose, to_looked, to_synced, to_finished),
+      (λ told. (lines, all_same s.tree s2.tree root lines ((c.in_ok-sync_dir.ensures.synced told).tree ∙ c.is_directory.ensures.tree.tree) (read_if told).0)),
+    )))
+
+-- ---- nothing was written
+
+pub returns-in_err-is_directory-clause-unwritten : goal.returns-in_err-is_directory-clause-unwritten
+returns-in_err-is_directory-clause-unwritten g c =
+    λ told.
+    let s = g.D.Disk.state c.args.disk.now in
+    let s1 = g.D.Disk.state c.is_directory.new.disk in
+    before_writing s s1 c.from_residual.result (no_more_same s s1 c.is_directory.ensures.tree)
+
+pub returns-in_err-sync_dir-clause-unwritten : goal.returns-in_err-sync_dir-clause-unwritten
+returns-in_err-sync_dir-clause-unwritten g c =
+    λ told.
+    let s = g.D.Disk.state c.args.disk.now in
+    let s1 = g.D.Disk.state c.is_directory.new.disk in
+    let s2 = g.D.Disk.state c.sync_dir.new.self in
+    before_writing s s2 c.from_residual-in_err-sync_dir.result (no_more_same s s2 (same_trees s s1 s2 c.is_directory.ensures.tree c.in_err-sync_dir.ensures.refused))
+
+pub returns-in_err-standing-clause-unwritten : goal.returns-in_err-standing-clause-unwritten
+returns-in_err-standing-clause-unwritten g c =
+    λ told.
+    let s = g.D.Disk.state c.args.disk.now in
+    let s1 = g.D.Disk.state c.is_directory.new.disk in
+    let s2 = g.D.Disk.state c.sync_dir.new.self in
+    let s3 = g.D.Disk.state c.read_in_root.new.disk in
+    let y = c.in_ok-sync_dir.ensures.synced told in
+    before_writing s s3 c.from_residual-in_err-standing.result
+    (no_more_on s s1 s2 s3 c.args.root.now c.is_directory.ensures.tree (g.met.D.Disk.holds_present c.is_directory.new.disk told) y (c.read_in_root.ensures.tree told))
+
+pub returns-in_err-map_err-clause-unwritten : goal.returns-in_err-map_err-clause-unwritten
+returns-in_err-map_err-clause-unwritten g c =
+    λ told.
+    let s = g.D.Disk.state c.args.disk.now in
+    let s4 = g.D.Disk.state c.finish.new.disk in
+    refused_as (λ f. IsBeforeWriting f → LeavesNoMore s s4) c.from_residual-in_err-map_err.result _ c.from_residual-in_err-map_err.ensures.1
+    (told_as fault.Unfinished (λ f. IsBeforeWriting f → LeavesNoMore s s4) c.finish.result c.map_err.result c.in_err-map_err.field-0.0 c.map_err.ensures.cases c.in_err-map_err.was
+    (λ job is before. absurd before))

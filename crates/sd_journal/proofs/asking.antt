@@ -1,0 +1,2 @@
+-- What the reading of the words uses.
+pub mod WordLemmas

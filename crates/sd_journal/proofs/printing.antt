@@ -1,0 +1,2 @@
+-- What the printing of a recovery uses.
+pub mod PrefixLemmas

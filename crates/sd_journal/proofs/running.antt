@@ -1,0 +1,2 @@
+-- What a run uses.
+pub mod RunLemmas

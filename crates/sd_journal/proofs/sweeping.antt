@@ -1,0 +1,4 @@
+-- What a journalled sweep uses.
+pub mod WorkLemmas
+pub mod CountLemmas
+pub mod SweepLemmas

@@ -1,0 +1,14 @@
+use Rattle.std.proofs.Common.{◌≡◌}
+use Rattle.sd_journal.proofs.sweeping.SweepLemmas.{swept}
+use Rattle.sd_journal.proofs.sweeping.sweep_journalled.Goals as goal
+
+pub returns-in-Ok : goal.returns-in-Ok
+returns-in-Ok g c =
+    let change = g.R.Replaces.change c.args.replacer.now in
+    let one = g.met.R.Replaces.one c.args.replacer.now in
+    let s = g.D.Disk.state c.args.disk.now in
+    let t = g.D.Disk.state c.plan.new.disk in
+    let u = g.D.Disk.state c.change_planned.new.disk in
+    let e = c.change_planned.ensures in
+    swept change one c.args.root.now c.args.globs.now g.D.Disk.tells s t u (c.plan.new.disk ≡ c.args.disk.now) (c.change_planned.new.disk ≡ c.args.disk.now) c.in-Ok.planned
+    (λ told. g.met.D.Disk.is_tree c.args.disk.now told) c.in-Ok.ensures c.change_planned.result e.kept e.changed e.counted e.lists e.never_falls

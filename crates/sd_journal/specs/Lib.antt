@@ -1,0 +1,6 @@
+pub mod Errors
+pub mod Printing
+pub mod Work
+pub mod Sweep
+pub mod Recover
+pub mod Run

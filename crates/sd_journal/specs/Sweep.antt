@@ -1,0 +1,58 @@
+-- What a journalled sweep does, and how it ends.
+use Rattle.std.specs.Prelude.{◌≡◌, ◌⊎◌, ◌≤◌, ℕ, IsTrue, List, length, Some, Result, Err, IfOk, OnOk}
+use Rattle.sd_io.specs.Tree.{NameList, Tree}
+use Rattle.sd_io.specs.Lists.{directory_of}
+use Rattle.sd_io.specs.Disk.{DiskState, SameTree}
+use Rattle.sd_change.specs.Change.{Change}
+use Rattle.sd_course.specs.Course.{Course}
+use Rattle.chosen_files.specs.Globs.{IsFirstInvalid}
+use Rattle.chosen_files.specs.Choice.{KeepsLists}
+use Rattle.many_files.specs.Counts.{Counts}
+use Rattle.many_files.specs.declared.report.Report.{Report}
+use Rattle.sd_plan.specs.Plan.{changed_in, replaced_in}
+use Rattle.sd_plan.specs.declared.line.PlanLine.{PlanLine}
+use Rattle.change_phases.specs.Between.{Work}
+use Rattle.journal.specs.Keeping.{KeepsBetween}
+use Rattle.journal.specs.Changing.{IsChanged}
+use Rattle.sd_core.specs.Selection.{IsChosenBelow, by_globs, ListsChosenAt}
+use Rattle.sd_core.specs.Sweep.{sweep_cap}
+use Rattle.sd_core.specs.declared.error.Error.TheVariants as sweep
+use Rattle.sd_journal.specs.Work.{IsWorkOf, IsFresh}
+use Rattle.sd_journal.specs.declared.error.JournalError.{JournalError}
+use Rattle.sd_journal.specs.declared.error.JournalError.TheVariants as error
+
+-- the report counts the lines of a plan, those whose files change, and the spans that are replaced in all of them
+pub record CountsPlan (lines : List PlanLine) (report : Report) : Type 0 where
+  pub chosen : report.chosen ≡ length lines
+  pub changed : report.changed ≡ changed_in lines
+  pub replaced : report.replaced ≡ replaced_in lines
+
+-- the report counts the chosen files
+pub record CountsChosen (change : Change) (root : List ℕ) (globs : List (List ℕ)) (tree : Tree) (report : Report) : Type 0 where
+  pub paths : List (List ℕ)
+  pub places : List NameList
+  pub chosen : ListsChosenAt tree root globs paths places
+  pub counts : Counts change tree places report
+
+-- Nothing changed; or there is the work of the sweep, every image that a crash might have left since the start is between, and what was settled is so.
+abbrev pub IsOldOrBetween : Change → List ℕ → List (List ℕ) → DiskState → DiskState → Type 0
+IsOldOrBetween change root globs old new =
+    SameTree old new ⊎ ((work : Work) × IsWorkOf change (IsChosenBelow old.tree root globs) root old.tree work × KeepsBetween work old new)
+
+-- each crash leaves each chosen file new whose bytes change, and no journal
+abbrev pub IsAllNew : Change → List ℕ → List (List ℕ) → DiskState → DiskState → Type 0
+IsAllNew change root globs old new = (work : Work) × IsWorkOf change (IsChosenBelow old.tree root globs) root old.tree work × IsChanged work new
+
+-- the refusal is this one, or for want of memory
+abbrev pub IsErrOrMemory : {A : Type 0} → JournalError → Result A JournalError → Type 0
+IsErrOrMemory expected result = (result ≡ Err expected) ⊎ (result ≡ Err error.NoMemory)
+
+-- What a journalled sweep promises at each of its ends. That the disk is the very value that was handed in is given as a fact.
+pub record SweepsJournalled (change : Change) (root : List ℕ) (globs : List (List ℕ)) (same_disk : Type 0) (result : Result Report JournalError) (d : Course DiskState) : Type 0 where
+  pub kept : IsTrue d.tells → (folder : NameList) → directory_of d.old.tree root ≡ Some folder → IsFresh root d.old → IsOldOrBetween change root globs d.old d.new
+  pub changed : IsTrue d.tells → (folder : NameList) → directory_of d.old.tree root ≡ Some folder → IsFresh root d.old → OnOk result (IsAllNew change root globs d.old d.new)
+  pub counted : IsTrue d.tells → IfOk result (CountsChosen change root globs d.old.tree)
+  pub few : IsTrue d.tells → OnOk result ((by_globs root globs).HasFewer sweep_cap d.old.tree)
+  pub bad_glob : (place : ℕ) → IsFirstInvalid globs place → same_disk × IsErrOrMemory (error.Sweep (sweep.BadGlob place)) result
+  pub lists : KeepsLists 10 d.old d.new
+  pub never_falls : d.old.faults ≤ d.new.faults
