@@ -1,2 +1,3 @@
 -- What a run uses.
 pub mod RunLemmas
+pub mod TellLemmas
