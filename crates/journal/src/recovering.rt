@@ -24,6 +24,10 @@ pub(crate) const JOURNAL_NAME: &str = ".sd-journal";
 /// stages, and then puts each file in place, removes the journal and its stages. Answers how many files the journal has, and 0 where none
 /// stands, or the root leads to a node that is no directory. May be called again after any refusal.
 ///
+/// Refuses `RootMissing` where the root leads to no node; `BadJournal` where what stands in the journal's place is no regular file with the text of
+/// one; `StageMissing` or `StageDiffers` at the first line whose stage is no regular file, or has another digest; and `Unfinished` where a step that
+/// writes was refused. `File` comes with a counted fault alone. After every refusal but `Unfinished` nothing was written.
+///
 /// On a disk that tells its tree, whatever a crash left of a change, or a refusal, or any number of recoveries that were cut off: every image
 /// that a crash at any moment leaves is between old and new again; after `Ok` all files are old or all are new, each with its mode; and it
 /// never answers `BadJournal`, `StageMissing` or `StageDiffers`.
