@@ -310,6 +310,18 @@ fails_since tells s t u root same low listed (fault.StageDiffers path planned fo
 }
 fails_since tells s t u root same low listed fault.NoMemory fails = tt
 
+pub none_and_one : (tree : Tree) (root : List ℕ) (lines : List Line) → NoneStands tree root → JournalStands tree root lines → ⊥
+none_and_one tree root lines none one =
+    let here : none.folder ≡ one.folder = same_Some _ _ (sym none.leads ∙ one.leads) in
+    cc (sym one.holds ∙ ap file_node (ap (λ (q : NameList). node_at tree (q ++ journal_name ∷ [])) (sym here) ∙ none.none))
+
+pub one_journal : (tree : Tree) (root : List ℕ) (xs ys : List Line) → JournalStands tree root xs → JournalStands tree root ys → xs ≡ ys
+one_journal tree root xs ys one two =
+    let here : one.folder ≡ two.folder = same_Some _ _ (sym one.leads ∙ two.leads) in
+    let both : Some (one.bytes, one.mode) ≡ Some (two.bytes, two.mode) = sym one.holds ∙ ap (λ (q : NameList). file_at tree (q ++ journal_name ∷ [])) here ∙ two.holds in
+    let bytes : one.bytes ≡ two.bytes = ap (λ (x : List ℕ × ℕ). x.0) (same_Some (one.bytes, one.mode) (two.bytes, two.mode) both) in
+    text_tells two.bytes xs ys (subst (λ (b : List ℕ). IsTextOf b xs) bytes one.is_text) two.is_text
+
 -- the root was put on the medium, and then nothing but read
 pub no_more_on : (s s1 s2 t : DiskState) (root : List ℕ) → SameTree s s1 → HoldsPresent s1 → SyncsFolder s1 root s2 → SameTree s2 t → LeavesNoMore s t
 no_more_on s s1 s2 t root same holds y now =

@@ -7,11 +7,12 @@ use Rattle.sd_io.specs.Files.{LeadsNowhere}
 use Rattle.sd_io.specs.Disk.{DiskState}
 use Rattle.sd_course.specs.Course.{Course, AsTold, DiskFailed}
 use Rattle.journal_text.specs.declared.line.Line.{Line}
-use Rattle.change_phases.specs.Between.{Work, IsWork, journal_name}
+use Rattle.change_phases.specs.Between.{Work, IsWork, journal_name, AllNew}
 use Rattle.change_phases.specs.Recovery.{IsRecoverable}
 use Rattle.journal.specs.declared.fault.JournalFault.{JournalFault}
 use Rattle.journal.specs.declared.fault.JournalFault.TheVariants as fault
 use Rattle.journal.specs.Clearing.{LeavesNoMore}
+use Rattle.journal.specs.Finishing.{StagesAreGone}
 use Rattle.journal.specs.Reading.{NoneStands, OtherStands, AllStand, StagesFail}
 
 -- the change was of files below this root, and can be recovered from
@@ -45,6 +46,11 @@ RootFails d root (fault.StageDiffers path planned found) = ⊥
 RootFails d root fault.NoMemory = ⊤
 
 -- ---- what is answered, and refused
+
+-- the files are all new, and no stage of the lines is left
+pub record IsCarriedOut (work : Work) (lines : List Line) (state : DiskState) : Type 0 where
+  pub files : AllNew work state.tree
+  pub stages : StagesAreGone lines state
 
 -- 0 where no journal stood, and nothing was written; else the number of its lines, whose stages all stood
 abbrev pub IsRecovered : DiskState → List ℕ → ℕ → DiskState → Type 0

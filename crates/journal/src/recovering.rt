@@ -1,15 +1,17 @@
 //! The recovery of a change that was cut off.
 
-ghost use Rattle.std.specs.Prelude.{◌≡◌, ◌≤◌, ◌⊎◌, ◌↔◌, true, IsTrue, IsSome, Some, IfOk, IfErr, OnOk};
+ghost use Rattle.std.specs.Prelude.{◌≡◌, ◌≤◌, ◌⊎◌, ◌↔◌, List, true, IsTrue, IsSome, Some, IfOk, IfErr, OnOk};
 ghost use Rattle.sd_io.specs.Disk.{SameTree, SameLists};
 ghost use Rattle.sd_io.specs.Paths.{reached};
 ghost use Rattle.sd_io.specs.Lists.{directory_of};
 ghost use Rattle.sd_course.specs.Course.{course};
+ghost use Rattle.journal_text.specs.declared.line.Line.{Line};
 ghost use Rattle.change_phases.specs.Between.{Work, AllOld, AllNew};
 ghost use Rattle.journal.specs.Keeping.{KeepsBetween};
 ghost use Rattle.journal.specs.Clearing.{LeavesNoMore};
 ghost use Rattle.journal.specs.Finding.{LeavesLists};
-ghost use Rattle.journal.specs.Recovering.{MayRecover, IsMisread, IsRecovered, RecoverFails, IsBeforeWriting, RootFails};
+ghost use Rattle.journal.specs.Reading.{JournalStands};
+ghost use Rattle.journal.specs.Recovering.{MayRecover, IsMisread, IsRecovered, IsCarriedOut, RecoverFails, IsBeforeWriting, RootFails};
 
 use crate::JournalFault;
 use crate::finishing::finish;
@@ -35,6 +37,8 @@ pub fn recover<D: Disk>(alloc: Global, disk: &mut D, root: &str) -> Result<u128,
     ensures kept { IsTrue D.tells → (work : Work) → MayRecover work root.now (D.state disk.old) → KeepsBetween work (D.state disk.old) (D.state disk.new) }
     ensures recovered { IsTrue D.tells → (work : Work) → MayRecover work root.now (D.state disk.old)
         → OnOk result (AllOld work (D.state disk.new).tree ⊎ AllNew work (D.state disk.new).tree) }
+    ensures carried_out { IsTrue D.tells → (work : Work) → MayRecover work root.now (D.state disk.old) → (lines : List Line)
+        → JournalStands (D.state disk.old).tree root.now lines → OnOk result (IsCarriedOut work lines (D.state disk.new)) }
     ensures readable { IsTrue D.tells → (work : Work) → MayRecover work root.now (D.state disk.old) → IfErr result (λ fault. IsMisread fault → ⊥) }
     ensures answer { IsTrue D.tells → IfOk result (λ count. IsRecovered (D.state disk.old) root.now count (D.state disk.new)) }
     ensures fails { IfErr result (RecoverFails (course D.tells (D.state disk.old) (D.state disk.new)) root.now) }

@@ -1,15 +1,17 @@
-use Rattle.std.proofs.Common.{◌≡◌, ℕ, inl, inr, refl, ◌∙◌, ap, sym, subst, arith}
+use Rattle.std.proofs.Common.{List, ◌≡◌, ℕ, inl, inr, refl, ◌∙◌, ap, sym, subst, arith}
 use Rattle.sd_io.specs.Tree.{Tree}
 use Rattle.sd_io.specs.Lists.{IsNoDirectory, directory_of}
 use Rattle.sd_course.specs.Course.{course}
 use Rattle.journal.specs.declared.fault.JournalFault.TheVariants as fault
 use Rattle.journal.specs.Clearing.{LeavesNoMore}
-use Rattle.journal.specs.Reading.{NoneStands}
+use Rattle.journal_text.specs.declared.line.Line.{Line}
+use Rattle.journal.specs.Finishing.{StagesAreGone}
+use Rattle.journal.specs.Reading.{NoneStands, JournalStands}
 use Rattle.journal.specs.Recovering.{IsMisread, RecoverFails, IsBeforeWriting}
 use Rattle.journal.proofs.FindingLemmas.{look_refused}
 use Rattle.journal.proofs.ClearingLemmas.{no_more_same}
 use Rattle.journal.proofs.ReadingLemmas.{refused_as, is_directory_there, look_fails, all_same}
-use Rattle.journal.proofs.RecoveringLemmas.{recover_same, between_on, same_trees, no_directory, kept_on, whole_on, paths_on, is_not_other, placing_on, read_right, no_folder, missing_since, fails_since, no_more_on, before_writing, told_as, answered, new_at_the_end}
+use Rattle.journal.proofs.RecoveringLemmas.{recover_same, between_on, same_trees, no_directory, kept_on, whole_on, paths_on, is_not_other, placing_on, read_right, no_folder, none_and_one, one_journal, missing_since, fails_since, no_more_on, before_writing, told_as, answered, new_at_the_end}
 use Rattle.journal.proofs.recovering.recover.Goals as goal
 
 pub returns-in_err-is_directory-clause-kept : goal.returns-in_err-is_directory-clause-kept
@@ -135,6 +137,45 @@ returns-clause-recovered g c =
     let placing = placing_on work root s s1 s2 m same holds y c.in-Some.standing.journal all.journal s3 now in
     let cleared = answered _ c.finish.result c.map_err.result _ c.map_err.ensures.cases c.in_ok-map_err.was (c.finish.ensures.done told work paths placing) in
     inr (new_at_the_end work c.in-Some.standing.journal s4 (g.met.D.Disk.holds_present c.finish.new.disk told) cleared)
+
+pub returns-then-not-branch-clause-carried_out : goal.returns-then-not-branch-clause-carried_out
+returns-then-not-branch-clause-carried_out g c =
+    λ told work m lines stands.
+    absurd (no_directory work c.args.root.now (g.D.Disk.state c.args.disk.now) c.in_ok-is_directory.field-0 (g.met.D.Disk.holds_present c.args.disk.now told) m
+    (c.in_ok-is_directory.ensures.kind told) c.if-not-branch.true)
+
+pub returns-in_default-clause-carried_out : goal.returns-in_default-clause-carried_out
+returns-in_default-clause-carried_out g c =
+    λ told work m lines stands.
+    let root = c.args.root.now in
+    let s = g.D.Disk.state c.args.disk.now in
+    let same = (c.in_ok-sync_dir.ensures.synced told).tree ∙ c.is_directory.ensures.tree.tree in
+    absurd (none_and_one s.tree root lines (subst (λ (t : Tree). NoneStands t root) same (rw c.in_default.is at (c.in_ok-standing.ensures.read told))) stands)
+
+pub returns-clause-carried_out : goal.returns-clause-carried_out
+returns-clause-carried_out g c =
+    λ told work m lines stands.
+    let root = c.args.root.now in
+    let s = g.D.Disk.state c.args.disk.now in
+    let s1 = g.D.Disk.state c.is_directory.new.disk in
+    let s2 = g.D.Disk.state c.sync_dir.new.self in
+    let s3 = g.D.Disk.state c.read_in_root.new.disk in
+    let s4 = g.D.Disk.state c.finish.new.disk in
+    let holds = g.met.D.Disk.holds_present c.is_directory.new.disk told in
+    let y = c.in_ok-sync_dir.ensures.synced told in
+    let same = c.is_directory.ensures.tree in
+    let now = c.read_in_root.ensures.tree told in
+    let own = c.in-Some.standing.journal in
+    let (all, path_is) = rw c.in-Some.is at (c.in_ok-standing.ensures.read told) in
+    let paths = paths_on work root s s1 s2 m same holds y all.journal.folder all.journal.leads c.as_str-path.result.now (c.as_str-path.ensures.same ∙ path_is) in
+    let placing = placing_on work root s s1 s2 m same holds y own all.journal s3 now in
+    let cleared = answered _ c.finish.result c.map_err.result _ c.map_err.ensures.cases c.in_ok-map_err.was (c.finish.ensures.done told work paths placing) in
+    let gone = answered _ c.finish.result c.map_err.result _ c.map_err.ensures.cases c.in_ok-map_err.was (c.finish.ensures.stages told work paths placing) in
+    let here = one_journal s2.tree root own lines all.journal (subst (λ (t : Tree). JournalStands t root lines) (sym (y.tree ∙ same.tree)) stands) in
+    record {
+      files = new_at_the_end work own s4 (g.met.D.Disk.holds_present c.finish.new.disk told) cleared;
+      stages = subst (λ (ls : List Line). StagesAreGone ls s4) here gone;
+    }
 
 -- ---- what is answered
 
