@@ -1,17 +1,19 @@
 //! The recovery of a change that was cut off.
 
-ghost use Rattle.std.specs.Prelude.{◌≡◌, ◌≤◌, ◌⊎◌, ◌↔◌, List, true, IsTrue, IsSome, Some, IfOk, IfErr, OnOk};
+ghost use Rattle.std.specs.Prelude.{◌≡◌, ◌≤◌, ◌⊎◌, ◌↔◌, List, ◌++◌, ◌∷◌, [], true, IsTrue, IsSome, Some, None, IfOk, IfErr, OnOk};
+ghost use Rattle.sd_io.specs.Count.{HasRisen};
+ghost use Rattle.sd_io.specs.Tree.{NameList, node_at};
 ghost use Rattle.sd_io.specs.Disk.{SameTree, SameLists};
 ghost use Rattle.sd_io.specs.Paths.{reached};
 ghost use Rattle.sd_io.specs.Lists.{directory_of};
 ghost use Rattle.sd_course.specs.Course.{course};
 ghost use Rattle.journal_text.specs.declared.line.Line.{Line};
-ghost use Rattle.change_phases.specs.Between.{Work, AllOld, AllNew};
+ghost use Rattle.change_phases.specs.Between.{Work, AllOld, AllNew, journal_name};
 ghost use Rattle.journal.specs.Keeping.{KeepsBetween};
 ghost use Rattle.journal.specs.Clearing.{LeavesNoMore};
 ghost use Rattle.journal.specs.Finding.{LeavesLists};
 ghost use Rattle.journal.specs.Reading.{JournalStands};
-ghost use Rattle.journal.specs.Recovering.{MayRecover, IsMisread, IsRecovered, IsCarriedOut, RecoverFails, IsBeforeWriting, RootFails};
+ghost use Rattle.journal.specs.Recovering.{MayRecover, IsMisread, IsRecovered, IsCarriedOut, RecoverFails, IsBeforeWriting, HaveFreeNames, IsWantOfMemory, RootFails};
 
 use crate::JournalFault;
 use crate::finishing::finish;
@@ -43,6 +45,10 @@ pub fn recover<D: Disk>(alloc: Global, disk: &mut D, root: &str) -> Result<u128,
     ensures answer { IsTrue D.tells → IfOk result (λ count. IsRecovered (D.state disk.old) root.now count (D.state disk.new)) }
     ensures fails { IfErr result (RecoverFails (course D.tells (D.state disk.old) (D.state disk.new)) root.now) }
     ensures unwritten { IsTrue D.tells → IfErr result (λ fault. IsBeforeWriting fault → LeavesNoMore (D.state disk.old) (D.state disk.new)) }
+    ensures gone { IsTrue D.tells → (folder : NameList) → reached (D.state disk.old).tree root.now true ≡ Some folder
+        → OnOk result (node_at (D.state disk.new).tree (folder ++ journal_name ∷ []) ≡ None) }
+    ensures complete { IsTrue D.tells → (work : Work) → MayRecover work root.now (D.state disk.old) → HaveFreeNames work (D.state disk.old).tree
+        → (HasRisen (D.state disk.old).faults (D.state disk.new).faults → ⊥) → IfErr result IsWantOfMemory }
     ensures lists { LeavesLists (D.state disk.old) (D.state disk.new) }
     ensures never_falls { (D.state disk.old).faults ≤ (D.state disk.new).faults }
 {
