@@ -1,5 +1,5 @@
 -- A change is recovered, whatever is left of it.
-use Rattle.std.proofs.Common.{◌≡◌, ◌≢◌, ◌⊎◌, ◌<◌, ◌≤◌, ℕ, cond, Bool, true, false, List, [], ◌∷◌, ◌++◌, refl, sym, ◌∙◌, ap, subst, inl, inr}
+use Rattle.std.proofs.Common.{arith, ◌+◌, ◌≡◌, ◌≢◌, ◌⊎◌, ◌<◌, ◌≤◌, ℕ, cond, Bool, true, false, List, [], ◌∷◌, ◌++◌, refl, sym, ◌∙◌, ap, subst, inl, inr}
 use Rattle.std.specs.Prelude.{Option, Some, None, IsSome, is_some, IsTrue, ◌↔◌, Contains, Result, Ok, Err, OnOk, IfErr, IsErrAnd, MatchResult}
 use Rattle.std.specs.Option.{option_and_then}
 use Rattle.std.proofs.lemmas.Option.{same_Some}
@@ -17,9 +17,13 @@ use Rattle.sd_io.specs.Files.{path_text, kind_of, file_of, file_named}
 use Rattle.sd_io.specs.Lists.{directory_of, SyncsFolder}
 use Rattle.sd_io.proofs.PathTextLemmas.{text_names}
 use Rattle.sd_io.proofs.CrashLemmas.{settled_same, settled_folder}
-use Rattle.sd_course.specs.Course.{Course, course}
+use Rattle.sd_course.specs.Course.{Course, HasRisenBy, course}
+use Rattle.file_exchange.specs.Reserved.{reserved_name, reserved_names}
+use Rattle.file_rewrite.specs.OneFile.{IsMoveFault}
+use Rattle.file_rewrite.specs.declared.fault.JobFault.{JobFault}
+use Rattle.file_rewrite.specs.declared.fault.JobFault.TheVariants as job
+use Rattle.journal.specs.Placing.{OneLacksFile, IsLineFault, OneIsCrowded, HasLineCause}
 use Rattle.file_exchange.proofs.CauseLemmas.{risen_since}
-use Rattle.file_exchange.specs.Reserved.{reserved_name}
 use Rattle.file_exchange.proofs.PlaceLemmas.{reserved_is_name}
 use Rattle.journal_text.specs.declared.line.Line.{Line}
 use Rattle.journal_text.specs.Journal.{IsTextOf, text_of}
@@ -286,6 +290,34 @@ missing_since tells s t root (fault.StageMissing path) fails = absurd fails
 missing_since tells s t root (fault.StageDiffers path planned found) fails = absurd fails
 missing_since tells s t root fault.NoMemory fails = tt
 
+-- ---- why, from an earlier state on
+
+risen_by_since : (n before middle now : ℕ) → before ≤ middle → HasRisenBy n middle now → HasRisenBy n before now
+risen_by_since n before middle now low (inl rose) = inl (omega arith)
+risen_by_since n before middle now low (inr last) = inr last
+
+module _ (tells : Bool) (s t u : DiskState) (lines : List Line) (same : IsTrue tells → t.tree ≡ s.tree) (low : s.faults ≤ t.faults) where
+  line_fault_since : (f : DiskFault) → IsLineFault (course tells t u) lines f → IsLineFault (course tells s u) lines f
+  line_fault_since disk.Absent fails =
+      ((λ told. subst (λ (x : Tree). OneLacksFile x lines) (same told) (fails.0 told)), (λ untold. risen_since s.faults t.faults u.faults low (fails.1 untold)))
+  line_fault_since disk.Taken fails = fails
+  line_fault_since disk.Failed fails = risen_since s.faults t.faults u.faults low fails
+  line_fault_since disk.NoMemory fails = fails
+
+  move_fault_since : (f : DiskFault) → IsMoveFault (course tells t u) f → IsMoveFault (course tells s u) f
+  move_fault_since disk.Absent fails = ((λ told. fails.0 told), (λ untold. risen_since s.faults t.faults u.faults low (fails.1 untold)))
+  move_fault_since disk.Taken fails = fails
+  move_fault_since disk.Failed fails = risen_since s.faults t.faults u.faults low fails
+  move_fault_since disk.NoMemory fails = fails
+
+  pub line_cause_since : (f : JobFault) → HasLineCause (course tells t u) lines f → HasLineCause (course tells s u) lines f
+  line_cause_since (job.File refused) fails = line_fault_since refused fails
+  line_cause_since (job.TempfilePersist refused) fails = move_fault_since refused fails
+  line_cause_since job.InvalidPath fails = fails
+  line_cause_since job.TempName fails =
+      ((λ told. subst (λ (x : Tree). OneIsCrowded x lines) (same told) (fails.0 told)), (λ untold. risen_by_since reserved_names s.faults t.faults u.faults low (fails.1 untold)))
+  line_cause_since job.NoMemory fails = fails
+
 -- of a later state of the same tree
 pub fails_since : (tells : Bool) (s t u : DiskState) (root : List ℕ) → (IsTrue tells → t.tree ≡ s.tree) → s.faults ≤ t.faults → t.listed ≡ s.listed
     → (f : JournalFault) → RecoverFails (course tells t u) root f → RecoverFails (course tells s u) root f
@@ -294,8 +326,13 @@ fails_since tells s t u root same low listed fault.RootMissing fails =
 fails_since tells s t u root same low listed (fault.File refused) fails = risen_since s.faults t.faults u.faults low fails
 fails_since tells s t u root same low listed fault.Pending fails = fails
 fails_since tells s t u root same low listed (fault.TempName folder) fails = fails
-fails_since tells s t u root same low listed (fault.Unfinished job) fails =
-    (subst (λ (n : ℕ). n < u.listed) listed fails.0, (λ told. let (lines, all) = fails.1 told in (lines, subst (λ (x : Tree). AllStand x root lines) (same told) all)))
+fails_since tells s t u root same low listed (fault.Unfinished failed) fails =
+    record {
+      found = subst (λ (n : ℕ). n < u.listed) listed fails.found;
+      lines = fails.lines;
+      stand = λ told. subst (λ (x : Tree). AllStand x root fails.lines) (same told) (fails.stand told);
+      cause = line_cause_since tells s t u fails.lines same low failed fails.cause;
+    }
 fails_since tells s t u root same low listed fault.BadJournal fails =
     ((λ told. subst (λ (x : Tree). OtherStands x root) (same told) (fails.0 told)), (λ untold. subst (λ (n : ℕ). n < u.listed) listed (fails.1 untold)))
 fails_since tells s t u root same low listed (fault.StageMissing path) fails = record {
@@ -309,6 +346,18 @@ fails_since tells s t u root same low listed (fault.StageDiffers path planned fo
   first = first_since tells s t u fails.lines (fault.StageDiffers path planned found) same low fails.first;
 }
 fails_since tells s t u root same low listed fault.NoMemory fails = tt
+
+pub none_and_one : (tree : Tree) (root : List ℕ) (lines : List Line) → NoneStands tree root → JournalStands tree root lines → ⊥
+none_and_one tree root lines none one =
+    let here : none.folder ≡ one.folder = same_Some _ _ (sym none.leads ∙ one.leads) in
+    cc (sym one.holds ∙ ap file_node (ap (λ (q : NameList). node_at tree (q ++ journal_name ∷ [])) (sym here) ∙ none.none))
+
+pub one_journal : (tree : Tree) (root : List ℕ) (xs ys : List Line) → JournalStands tree root xs → JournalStands tree root ys → xs ≡ ys
+one_journal tree root xs ys one two =
+    let here : one.folder ≡ two.folder = same_Some _ _ (sym one.leads ∙ two.leads) in
+    let both : Some (one.bytes, one.mode) ≡ Some (two.bytes, two.mode) = sym one.holds ∙ ap (λ (q : NameList). file_at tree (q ++ journal_name ∷ [])) here ∙ two.holds in
+    let bytes : one.bytes ≡ two.bytes = ap (λ (x : List ℕ × ℕ). x.0) (same_Some (one.bytes, one.mode) (two.bytes, two.mode) both) in
+    text_tells two.bytes xs ys (subst (λ (b : List ℕ). IsTextOf b xs) bytes one.is_text) two.is_text
 
 -- the root was put on the medium, and then nothing but read
 pub no_more_on : (s s1 s2 t : DiskState) (root : List ℕ) → SameTree s s1 → HoldsPresent s1 → SyncsFolder s1 root s2 → SameTree s2 t → LeavesNoMore s t
