@@ -1,5 +1,5 @@
 -- A change of many files, from its beginning to its end.
-use Rattle.std.proofs.Common.{◌≡◌, ◌≢◌, ℕ, Bool, true, false, List, [], ◌∷◌, ◌++◌, refl, sym, ◌∙◌, ap, subst, inl, arith}
+use Rattle.std.proofs.Common.{◌≡◌, ◌≢◌, ℕ, Bool, true, false, List, [], ◌∷◌, ◌++◌, refl, sym, ◌∙◌, ap, subst, inl, inr, arith}
 use Rattle.std.specs.Prelude.{Option, Some, None, IsSome, is_some, IsTrue, ◌↔◌, Contains, Result, Ok, Err, OnOk, IsErrAnd, MatchResult}
 use Rattle.std.specs.List.{AllByRecursion}
 use Rattle.std.proofs.lemmas.Option.{same_Some}
@@ -21,22 +21,24 @@ use Rattle.file_exchange.proofs.PlaceLemmas.{is_beside, is_free, placed, reserve
 use Rattle.journal_text.specs.declared.line.Line.{Line}
 use Rattle.journal_text.specs.Journal.{IsLine, text_of}
 use Rattle.journal_text.proofs.PathLemmas.{place_parts}
-use Rattle.change_phases.specs.Between.{Work, journal_name, journal_of, stage_of, IsAside, AreLinesOf, IsJournalFor}
+use Rattle.change_phases.specs.Between.{Work, journal_name, journal_of, place_of, stage_of, IsAside, AreLinesOf, IsJournalFor}
 use Rattle.change_phases.specs.Phases.{preparing, naming, placing, cleared, IsIn, HasStagesOnly}
 use Rattle.change_phases.proofs.PhaseLemmas.{between_in, passes_between, passes_since, still_in, present_in}
 use Rattle.change_phases.proofs.RootLemmas.{directory_kept, between_ways}
 use Rattle.change_phases.proofs.LineLemmas.{listed}
-use Rattle.change_phases.proofs.WorkLemmas.{content_there, none_there, open_aside, aside_not_journal, free_was_free, aside_no_file}
+use Rattle.change_phases.proofs.WorkLemmas.{content_there, file_there, none_there, open_aside, aside_not_journal, free_was_free, aside_no_file}
 use Rattle.change_phases.proofs.StepLemmas.{passes_folder, naming_of}
 use Rattle.change_phases.proofs.SettledLemmas.{begins_preparing, begins_settled}
 use Rattle.journal.specs.Keeping.{AreRootPaths, IsPreparing, KeepsPreparing, IsSettledIn, KeepsPhase, KeepsBetween}
-use Rattle.journal.specs.Beside.{MakesBeside, LeavesBeside}
-use Rattle.journal.specs.Clearing.{HaveFolders, LeavesNoMore, ArePutOnMedium}
-use Rattle.journal.specs.Naming.{MayBeNamed}
-use Rattle.journal.specs.Planning.{AreChangesOf, AreStagesMade}
-use Rattle.journal.specs.Changing.{IsChangeBelow, MayChange, IsChanged}
+use Rattle.journal.specs.Beside.{MakesBeside, LeavesBeside, AddsBeside}
+use Rattle.journal.specs.Finishing.{CarriesOut}
+use Rattle.journal.specs.Clearing.{HaveFolders, IsStage, LeavesNoMore, ArePutOnMedium}
+use Rattle.journal.specs.Naming.{MayBeNamed, MovesTo}
+use Rattle.journal.specs.Planning.{AreChangesOf, AddsStages, AreStagesMade}
+use Rattle.journal.specs.Changing.{IsChangeBelow, MayChange, IsChanged, ExchangesFiles, LeavesNothing}
 use Rattle.journal.proofs.KeepingLemmas.{journal_is_name, journal_named, directory_there, settled_still}
-use Rattle.journal.proofs.PlanningLemmas.{preparing_still, preparing_then, preparing_same}
+use Rattle.journal.proofs.PlanningLemmas.{preparing_still, preparing_then, preparing_same, stood_no_stage, free_before}
+use Rattle.journal.proofs.SameFilesLemmas.{none_stands, none_or_some}
 
 -- ---- a change begins
 
@@ -59,6 +61,12 @@ pub root_is : (change : Change) (work : Work) (root : List ℕ) (paths : List (L
 root_is change work root paths s b is tells no_root =
     let yes_root : is ≡ true = tells.1 (ap is_some (ap (λ (t : Tree). directory_of t root) (sym b.tree) ∙ b.leads)) in
     cc (sym no_root ∙ yes_root)
+
+pub exchanged_before : (work : Work) (s t x : DiskState) → t.tree ≡ s.tree → ExchangesFiles work.files t.tree x.tree → ExchangesFiles work.files s.tree x.tree
+exchanged_before work s t x same e = subst (λ (y : Tree). ExchangesFiles work.files y x.tree) same e
+
+pub root_none : (root : List ℕ) (s : DiskState) (is : Bool) → (IsTrue is ↔ IsSome (directory_of s.tree root)) → is ≡ true → directory_of s.tree root ≡ None → ⊥
+root_none root s is tells yes_root none = none_stands (directory_of s.tree root) none (tells.0 yes_root)
 
 -- ---- while it is prepared
 
@@ -125,7 +133,7 @@ module _ (change : Change) (work : Work) (root : List ℕ) (paths : List (List �
   prepared : IsPreparing work t
   prepared = preparing_still work s t m.planned.preparing_now k
 
-  is_journal : IsJournalFor work lines
+  pub is_journal : IsJournalFor work lines
   is_journal = listed work lines (record { are_lines = are_lines; in_turn = made.in_turn; own_places = m.planned.own_places; own_stages = made.own_stages })
 
   module _ (u v : DiskState) (same : SameTree t u) (synced : LeavesNoMore u v) where
@@ -198,6 +206,17 @@ journal_path_in tree root folder path is leads text =
     nothing [] e = cc
     nothing (first ∷ q) e = cc
 
+-- and its folder is the root
+pub journal_folder : (tree : Tree) (root : List ℕ) (folder : NameList) (path : List ℕ) → IsTree tree → directory_of tree root ≡ Some folder → path ≡ path_text (folder ++ journal_name ∷ []) → parent_of (parts_of path) ≡ folder
+journal_folder tree root folder path is leads text =
+    let there : is_directory_at tree folder ≡ true = directory_there tree root folder leads in
+    let are : AllByRecursion IsName (folder ++ journal_name ∷ []) = names_push folder journal_name (names_of tree is folder (directory_stands (node_at tree folder) there)) journal_is_name in
+    ap parent_of (ap parts_of text ∙ place_parts (folder ++ journal_name ∷ []) (record { some = nothing folder; each = are })) ∙ parent_of_child folder journal_name
+  where
+    nothing : (q : NameList) → q ++ journal_name ∷ [] ≡ [] → ⊥
+    nothing [] e = cc
+    nothing (first ∷ q) e = cc
+
 -- ---- the journal is written
 
 module _ (work : Work) (lines : List Line) (s : DiskState) (is : IsTree s.tree) (holds : HoldsPresent s) (p : IsSettledIn naming work lines s) (root path : List ℕ) (are : AreRootPaths work root path)
@@ -257,6 +276,119 @@ module _ (work : Work) (lines : List Line) (s : DiskState) (is : IsTree s.tree) 
       no_directory : (o : Option Node) → o ≡ None → is_directory_node o ≡ true → ⊥
       no_directory None e is = cc is
       no_directory (Some node) e is = cc e
+
+-- the path that it has names it
+pub beside_adds : (s t : DiskState) (path bytes : List ℕ) (like : NameList) (made : Temporary) → IsPathIn s.tree path → IsTree t.tree → MakesBeside s (parent_of (parts_of path)) like bytes made t
+    → AddsBeside (parent_of (parts_of path)) made.path s.tree t.tree
+beside_adds s t path bytes like made path_in is m =
+    let first = m.was_free in
+    let folder_there : IsTrue (is_directory_at t.tree (parent_of (parts_of path))) =
+    ap is_directory_node (m.others (parent_of (parts_of path)) (λ e. no_directory (node_at s.tree m.temporary) first.free (ap is_directory_node (ap (node_at s.tree) (sym e)) ∙ path_in.folder))) ∙ path_in.folder in
+    let place : m.temporary ≡ parent_of (parts_of path) ++ reserved_name first.reserved.0 ∷ [] = first.reserved.2 in
+    record {
+      temporary = m.temporary;
+      was_free = is_free first;
+      names =
+          ap (named t.tree) (m.path_is ∙ ap path_text place)
+          ∙ text_names t.tree is (parent_of (parts_of path)) (reserved_name first.reserved.0) folder_there (reserved_is_name first.reserved.0)
+          ∙ ap (λ (q : NameList). Some q) (sym place);
+      is_file = ap is_some m.holds;
+      others = m.others;
+    }
+  where
+    no_directory : (o : Option Node) → o ≡ None → is_directory_node o ≡ true → ⊥
+    no_directory None e is = cc is
+    no_directory (Some node) e is = cc e
+
+-- ---- the tree at the end
+
+-- the journal was named, and the change carried out
+pub nothing_left : (work : Work) (lines : List Line) (temporary path root : List ℕ) (s t x : DiskState) → IsTree s.tree → HoldsPresent s → MayBeNamed work lines temporary path root s → MovesTo temporary path s.tree t.tree
+    → CarriesOut lines (journal_of work) t.tree x.tree → LeavesNothing lines temporary (journal_of work) s.tree x.tree
+nothing_left work lines temporary path root s t x is holds m moved carried =
+    let from : moved.source ≡ m.place = same_Some _ _ (sym moved.leaves ∙ m.names) in
+    let to : moved.target ≡ journal_of work = same_Some _ _ (sym moved.comes ∙ journal_named naming work lines s holds m.phase is root path m.root_paths) in
+    let apart : m.place ≢ journal_of work = aside_not_journal work m.phase.is_work m.place m.was_free in
+    record {
+      place = m.place;
+      names = m.names;
+      no_temporary =
+          carried.others m.place apart (λ line has. (no_place line has, m.no_stage line has)) ∙ ap (node_at t.tree) (sym from) ∙ moved.gone (λ e. apart (sym from ∙ e ∙ to));
+      no_journal = carried.no_journal;
+      no_stage = carried.stages;
+      others = λ q no_temporary no_journal n. carried.others q no_journal n ∙ moved.others q (λ e. no_temporary (e ∙ from)) (λ e. no_journal (e ∙ to));
+    }
+  where
+    no_place : (line : Line) → Contains lines line → m.place ≢ place_of line
+    no_place line has e =
+        let (f, has_f, of) = m.phase.is_for.no_other line has in
+        aside_no_file work m.phase.is_work m.place m.was_free f has_f (e ∙ of.place)
+
+-- no file changes
+pub none_exchanged : (work : Work) (lines : List Line) (s t : DiskState) → AreStagesMade work lines t → AddsStages lines s.tree t.tree → lines ≡ [] → ExchangesFiles work.files s.tree t.tree
+none_exchanged work lines s t made adds none = record {
+  each = λ f has. absurd (no_file work.files (subst (AreLinesOf work.tree work.files) none made.in_turn) f has);
+  others = λ q n. adds.others q (λ (line, has, e). let few = subst (λ (ls : List Line). Contains ls line) none has in omega (arith, few.1));
+}
+  where
+    no_file : (files : List Exchange) → AreLinesOf work.tree files [] → (f : Exchange) → Contains files f → ⊥
+    no_file [] are f has = omega (arith, has.1)
+    no_file (g ∷ files) are f has = are
+
+module _ (work : Work) (lines : List Line) (temporary : List ℕ) (folder : NameList) (s t v w x : DiskState) (p : IsPreparing work s) (holds : HoldsPresent s) (is_for : IsJournalFor work lines) (stages : AddsStages lines s.tree t.tree)
+    (same : v.tree ≡ t.tree) (written : AddsBeside folder temporary v.tree w.tree) (left : LeavesNothing lines temporary (journal_of work) w.tree x.tree) where
+  temporary_is : left.place ≡ written.temporary
+  temporary_is = same_Some _ _ (sym left.names ∙ written.names)
+
+  -- where one stands that is none of the files, it stands as it did
+  record IsOther (q : NameList) : Type 0 where
+    no_temporary : q ≢ left.place
+    no_journal : q ≢ journal_of work
+    no_stage : IsStage lines q → ⊥
+
+  new_other : (q : NameList) → IsSome (node_at x.tree q) → IsOther q
+  new_other q stands = record {
+    no_temporary = λ e. none_stands (node_at x.tree q) (ap (node_at x.tree) e ∙ left.no_temporary) stands;
+    no_journal = λ e. none_stands (node_at x.tree q) (ap (node_at x.tree) e ∙ left.no_journal) stands;
+    no_stage = λ (line, has, e). none_stands (node_at x.tree q) (ap (node_at x.tree) e ∙ left.no_stage line has) stands;
+  }
+
+  old_other : (q : NameList) → IsSome (node_at s.tree q) → IsOther q
+  old_other q stood = record {
+    no_temporary = λ e. none_stands (node_at s.tree q) (free_before lines s.tree t.tree stages q (ap (λ (y : Tree). node_at y q) (sym same) ∙ ap (node_at v.tree) (e ∙ temporary_is) ∙ written.was_free.free)) stood;
+    no_journal = λ e. none_stands (node_at s.tree q) (ap (node_at s.tree) e ∙ none_there (node_at s.tree (journal_of work)) ((present_in preparing work [] s holds p.preparing_now (journal_of work)).journal refl)) stood;
+    no_stage = stood_no_stage lines s.tree t.tree stages q stood;
+  }
+
+  as_it_stood : (q : NameList) → ((f : Exchange) → Contains work.files f → q ≢ f.0) → IsOther q → node_at x.tree q ≡ node_at s.tree q
+  as_it_stood q n other =
+      left.others q other.no_temporary other.no_journal
+      (λ line has. ((λ e. let (f, has_f, of) = is_for.no_other line has in n f has_f (e ∙ of.place)), (λ e. other.no_stage (line, has, e))))
+      ∙ written.others q (λ e. other.no_temporary (e ∙ sym temporary_is)) ∙ ap (λ (y : Tree). node_at y q) same ∙ stages.others q other.no_stage
+
+  pub exchanged : HoldsPresent x → IsIn cleared work lines x → ExchangesFiles work.files s.tree x.tree
+  exchanged holds_x end = record {
+    each = λ f has.
+        let new = (present_in cleared work lines x holds_x end f.0).file f has refl in
+        let old = (present_in preparing work [] s holds p.preparing_now f.0).file f has refl in
+        record {
+          before = new.bytes;
+          mode = new.mode;
+          was = file_there (node_at s.tree f.0) new.bytes new.mode (old ∙ content_there (node_at work.tree f.0) new.bytes new.mode new.was);
+          holds = file_there (node_at x.tree f.0) f.1 new.mode new.is;
+        };
+    others = λ q n. elim (none_or_some (node_at x.tree q)) [
+      | inr stands ↦ as_it_stood q n (new_other q stands)
+      | inl none ↦ elim (none_or_some (node_at s.tree q)) [
+        | inr stood ↦ as_it_stood q n (old_other q stood)
+        | inl none_before ↦ none ∙ sym none_before
+      ]
+    ];
+  }
+
+pub ok_both : {T E : Type 0} (P Q : Type 0) (r : Result T E) → OnOk r P → OnOk r Q → OnOk r (P × Q)
+ok_both P Q (Ok x) p q = (p, q)
+ok_both P Q (Err e) p q = tt
 
 -- ---- from phase to phase
 

@@ -22,13 +22,33 @@ use Rattle.change_phases.specs.Between.{place_of, stage_of}
 use Rattle.change_phases.specs.Phases.{IsOnly}
 use Rattle.change_phases.proofs.StepLemmas.{only_settled, only_gone}
 use Rattle.change_phases.proofs.LineLemmas.{first}
-use Rattle.journal.specs.Clearing.{HaveFolders, IsStage, RemovesStages, AreGone, LeavesNoMore, IsPutOnMedium, ArePutOnMedium}
+use Rattle.journal.specs.Clearing.{HaveFolders, IsStage, RemovesStages, KeepsOrRemoves, AreGone, LeavesNoMore, IsPutOnMedium, ArePutOnMedium}
 use Rattle.journal.proofs.LineLemmas.{contains_at, at_contains}
 
 -- ---- relations that compose
 
-then_ways : (r s t : Tree) → SameWays r s → SameWays s t → SameWays r t
+pub then_ways : (r s t : Tree) → SameWays r s → SameWays s t → SameWays r t
 then_ways r s t a b = record { ways = λ q. b.ways q ∙ a.ways q }
+
+pub kept_none : (old new : Tree) → new ≡ old → KeepsOrRemoves old new
+kept_none old new e = record { each = λ q. inl (ap (λ (x : Tree). node_at x q) e); ways = same_ways old new e }
+
+pub kept_then : (r s t : Tree) → KeepsOrRemoves r s → KeepsOrRemoves s t → KeepsOrRemoves r t
+kept_then r s t a b = record {
+  each = λ q. elim (b.each q) [
+    | inl kept ↦ elim (a.each q) [ inl was ↦ inl (kept ∙ was) | inr gone ↦ inr (kept ∙ gone) ]
+    | inr gone ↦ inr gone
+  ];
+  ways = then_ways r s t a.ways b.ways;
+}
+
+-- what was removed, or not
+pub stage_kept : (s t : DiskState) (path : List ℕ) (r : Result (Unit {0}) DiskFault) → OnOk r (Removes s path t) → OnErr r (SameTree s t) → KeepsOrRemoves s.tree t.tree
+stage_kept s t path (Err fault) gone same = kept_none s.tree t.tree same.tree
+stage_kept s t path (Ok done) gone same = record {
+  each = λ q. elim (same_or_other q gone.place) [ inl e ↦ inr (ap (node_at t.tree) e ∙ gone.gone) | inr n ↦ inl (gone.others q n) ];
+  ways = removes_ways s path t gone;
+}
 
 pub removes_none : (lines : List Line) (s t : DiskState) → SameTree s t → RemovesStages lines s t
 removes_none lines s t same = record {
@@ -51,7 +71,7 @@ removes_then lines r s t a b = record {
   settled = λ q n is. b.settled q n (a.settled q n is);
 }
 
-only_one : (line other : Line) → Contains (line ∷ []) other → line ≡ other
+pub only_one : (line other : Line) → Contains (line ∷ []) other → line ≡ other
 only_one line other has = elim (Contains-push_cases [] line other has) [ inl none ↦ absurd (omega (arith, none.1)) | inr same ↦ same ]
 
 pub removes_among : (lines : List Line) (line : Line) → Contains lines line → (s t : DiskState) → RemovesStages (line ∷ []) s t → RemovesStages lines s t

@@ -80,7 +80,7 @@ module _ (work : Work) (lines : List Line) (line : Line) (has_line : Contains li
   journal_stands : (f : List ℕ × ℕ) × (file_at s.tree (journal_of work) ≡ Some f)
   journal_stands = let (mode, there) = (now (journal_of work)).journal refl in ((text_of lines, mode), file_there (node_at s.tree (journal_of work)) (text_of lines) mode there)
 
-  leads : (path : List ℕ) → path ≡ line.path → reached s.tree path true ≡ Some f.0
+  pub leads : (path : List ℕ) → path ≡ line.path → reached s.tree path true ≡ Some f.0
   leads path named =
       let (x, held) = stands f has in
       ap (λ (x : List ℕ). reached s.tree x true) (named ∙ line_path_text lines line p.is_for.are_lines has_line ∙ ap path_text of.place) ∙ text_to_file s.tree f.0 x is_tree held

@@ -4,6 +4,9 @@ pub mod KeepingLemmas
 pub mod FileLemmas
 pub mod NamingLemmas
 pub mod BesideLemmas
+pub mod FolderLemmas
+pub mod SameFilesLemmas
+pub mod CauseLemmas
 pub mod PlacingLemmas
 pub mod ClearingLemmas
 pub mod FinishingLemmas
@@ -11,4 +14,8 @@ pub mod RecoveringLemmas
 pub mod FindingLemmas
 pub mod ReadingLemmas
 pub mod PlanningLemmas
+pub mod StagingLemmas
+pub mod EndingLemmas
 pub mod ChangingLemmas
+pub mod MakingLemmas
+pub mod RoomLemmas

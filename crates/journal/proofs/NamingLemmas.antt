@@ -1,13 +1,18 @@
 -- The journal is renamed, or not.
-use Rattle.std.proofs.Common.{◌≡◌, ◌≢◌, ◌⊎◌, ℕ, List, sym, ◌∙◌, ap, subst, inl, inr}
-use Rattle.std.specs.Prelude.{Option, Some, Contains}
+use Rattle.std.proofs.Common.{Bool, ◌≡◌, ◌≢◌, ◌⊎◌, ◌≤◌, ℕ, List, refl, sym, ◌∙◌, ap, subst, inl, inr}
+use Rattle.std.specs.Prelude.{Option, Some, IsTrue, Contains, Result, Ok, Err, OnOk, IfErr, IsErrOf}
 use Rattle.std.proofs.lemmas.Option.{same_Some}
 use Rattle.sd_io.specs.Tree.{NameList, Content, file, IsTree, node_at, file_node, file_at}
-use Rattle.sd_io.specs.Paths.{named}
+use Rattle.sd_io.specs.Paths.{named, SameWays}
 use Rattle.sd_io.specs.Outcomes.{Leaves, own_of}
-use Rattle.sd_io.specs.Disk.{DiskState, SameTree, HoldsPresent, outcomes_now}
-use Rattle.sd_io.specs.Files.{Renames, RenamesNot}
-use Rattle.sd_io.specs.Lists.{SyncsFolder}
+use Rattle.sd_io.specs.Disk.{DiskState, SameTree, HasCause, HoldsPresent, outcomes_now}
+use Rattle.sd_io.specs.Files.{Renames, RenamesNot, CannotRename}
+use Rattle.sd_io.specs.Lists.{SyncsFolder, IsNoDirectory}
+use Rattle.sd_io.specs.declared.fault.DiskFault.{DiskFault}
+use Rattle.sd_io.specs.declared.fault.DiskFault.TheVariants as disk
+use Rattle.sd_io.proofs.WayLemmas.{directory_alike, renames_ways}
+use Rattle.sd_course.specs.Course.{course}
+use Rattle.file_exchange.proofs.CauseLemmas.{risen_since}
 use Rattle.sd_io.specs.Crashes.{IsSettledAt}
 use Rattle.file_exchange.specs.Crash.{Exchange}
 use Rattle.journal_text.specs.declared.line.Line.{Line}
@@ -15,7 +20,7 @@ use Rattle.journal_text.specs.Journal.{text_of}
 use Rattle.change_phases.specs.Between.{Work, journal_of}
 use Rattle.change_phases.specs.Phases.{naming, placing, IsIn}
 use Rattle.journal.specs.Keeping.{KeepsPhase}
-use Rattle.journal.specs.Naming.{MayBeNamed}
+use Rattle.journal.specs.Naming.{MayBeNamed, MovesTo, NamingFails}
 use Rattle.change_phases.proofs.WorkLemmas.{content_there, aside_not_journal, aside_no_file, journal_no_file}
 use Rattle.change_phases.proofs.StepLemmas.{named_done, named_not, placing_of}
 use Rattle.change_phases.proofs.SettledLemmas.{renamed_settled, renamed_there, not_renamed_settled, not_renamed_there}
@@ -87,3 +92,38 @@ module _ (work : Work) (lines : List Line) (temporary journal root : List ℕ) (
       let stands : file_at t.tree (journal_of work) ≡ Some (text_of lines, m.mode) =
       ap (file_at t.tree) (sym j) ∙ ap file_node r.moved ∙ ap (file_at s.tree) e ∙ m.holds in
       placing_of work m.phase.is_work lines m.phase.is_for t u root m.mode holds_now p.phase_now y folder stands k.settled.journal
+
+-- what it does to the tree
+pub moves_to : (s t u : DiskState) (from to : List ℕ) (r : Result (Unit {0}) DiskFault) → Renames s from to t → OnOk r (u.tree ≡ t.tree) → OnOk r (MovesTo from to s.tree u.tree)
+moves_to s t u from to (Err fault) renames tree = tt
+moves_to s t u from to (Ok done) renames tree = subst (MovesTo from to s.tree) (sym tree) (record {
+  source = renames.source;
+  target = renames.target;
+  leaves = renames.leaves;
+  comes = renames.comes;
+  moved = renames.moved;
+  gone = renames.gone;
+  others = renames.others;
+  ways = renames_ways s from to t renames;
+})
+
+-- ---- why it isn't named
+
+pub naming_cause : {T : Type 0} (tells : Bool) (s t : DiskState) (temporary journal root : List ℕ) (fault : DiskFault) → HasCause {T = T} tells s t (Err fault) → (IsErrOf {T = T} (Err fault) disk.Taken → ⊥)
+    → (IsTrue tells → IsErrOf {T = T} (Err fault) disk.Absent → CannotRename s temporary journal) → NamingFails (course tells s t) temporary journal root fault
+naming_cause tells s t temporary journal root disk.Absent cause not_taken none = ((λ told. inl (none told refl)), (λ untold. inl (cause.absent untold refl)))
+naming_cause tells s t temporary journal root disk.Taken cause not_taken none = absurd (not_taken refl)
+naming_cause tells s t temporary journal root disk.Failed cause not_taken none = cause.failed refl
+naming_cause tells s t temporary journal root disk.NoMemory cause not_taken none = tt
+
+-- the root isn't put on the medium
+pub naming_root : (tells : Bool) (s m t : DiskState) (temporary journal root : List ℕ) (r : Result (Unit {0}) DiskFault) → s.faults ≤ m.faults → (IsTrue tells → SameWays s.tree m.tree) → HasCause tells m t r
+    → (IsErrOf r disk.Taken → ⊥) → (IsTrue tells → IsErrOf r disk.Absent → IsNoDirectory m root) → IfErr r (NamingFails (course tells s t) temporary journal root)
+naming_root tells s m t temporary journal root (Ok done) low ways cause not_taken none = tt
+naming_root tells s m t temporary journal root (Err disk.Absent) low ways cause not_taken none = (
+  (λ told. inr (sym (directory_alike (ways told) root) ∙ none told refl)),
+  (λ untold. risen_since s.faults m.faults t.faults low (inl (cause.absent untold refl))),
+)
+naming_root tells s m t temporary journal root (Err disk.Taken) low ways cause not_taken none = absurd (not_taken refl)
+naming_root tells s m t temporary journal root (Err disk.Failed) low ways cause not_taken none = risen_since s.faults m.faults t.faults low (cause.failed refl)
+naming_root tells s m t temporary journal root (Err disk.NoMemory) low ways cause not_taken none = tt

@@ -4,7 +4,7 @@ use Rattle.std.specs.Prelude.{Option, Some, None, IsSome, is_some, Contains, sli
 use Rattle.std.specs.List.{AllByRecursion, IsDistinct}
 use Rattle.std.proofs.lemmas.List.{map-append, take-append-drop}
 use Rattle.std.proofs.lemmas.Option.{same_Some, slice_get_within, slice_get-get_or, get_or_from_slice_get}
-use Rattle.std.proofs.lemmas.List.Elements.{Contains-push_cases, Contains-append_left}
+use Rattle.std.proofs.lemmas.List.Elements.{Contains-push_cases, Contains-append_left, Contains-append_right}
 use Rattle.sha2.specs.Sha256.{sha256}
 use Rattle.sd_io.specs.Tree.{NameList, Node, Tree, SameBut, node_at, file_node, file_at}
 use Rattle.sd_io.specs.Paths.{parts_of, parent_of, way_of_node}
@@ -30,7 +30,9 @@ use Rattle.change_phases.proofs.WorkLemmas.{aside_free, aside_no_file, aside_not
 use Rattle.change_phases.proofs.LineLemmas.{file_for, later, first}
 use Rattle.journal.specs.Keeping.{IsPreparing, KeepsPreparing}
 use Rattle.journal.specs.Beside.{MakesBeside, LeavesBeside}
-use Rattle.journal.specs.Planning.{IsChangeOf, AreChangesOf, IsPlanned, AddsFiles, StagesFile, IsUnchanged, LeavesStage, StandsSettled, AreStagesMade}
+use Rattle.journal.specs.Clearing.{IsStage}
+use Rattle.journal.proofs.SameFilesLemmas.{none_stands, none_or_some}
+use Rattle.journal.specs.Planning.{IsChangeOf, AreChangesOf, IsPlanned, AddsFiles, AddsStages, StagesFile, IsUnchanged, LeavesStage, StandsSettled, AreStagesMade}
 
 -- ---- files are added
 
@@ -257,6 +259,57 @@ paths_more s t lines longer line a pushed are this l has = elim (Contains-push_c
 
 pub no_paths : (tree : Tree) (lines : List Line) → lines ≡ [] → (line : Line) → Contains lines line → IsFilePath tree line.path
 no_paths tree lines none line has = let few = subst (λ (ls : List Line). Contains ls line) none has in absurd (omega (arith, few.1))
+
+-- ---- what came are their stages
+
+-- what stood is no stage
+pub stood_no_stage : (lines : List Line) (old new : Tree) → AddsStages lines old new → (q : NameList) → IsSome (node_at old q) → IsStage lines q → ⊥
+stood_no_stage lines old new a q stood (line, has, e) = none_stands (node_at old q) (ap (node_at old) e ∙ (a.was_free line has).free) stood
+
+-- where nothing stands now, nothing stood
+pub free_before : (lines : List Line) (old new : Tree) → AddsStages lines old new → (q : NameList) → node_at new q ≡ None → node_at old q ≡ None
+free_before lines old new a q none = elim (none_or_some (node_at old q)) [
+  | inl it ↦ it
+  | inr stood ↦ sym (a.others q (stood_no_stage lines old new a q stood)) ∙ none
+]
+
+pub stages_none : (start : DiskState) (lines : List Line) → lines ≡ [] → AddsStages lines start.tree start.tree
+stages_none start lines none = record {
+  was_free = λ line has. absurd (nothing line has);
+  is_file = λ line has. absurd (nothing line has);
+  others = λ q n. refl;
+}
+  where
+    nothing : (line : Line) → Contains lines line → ⊥
+    nothing line has = let few = subst (λ (ls : List Line). Contains ls line) none has in omega (arith, few.1)
+
+pub stages_same : (lines longer : List Line) (start now next : DiskState) → longer ≡ lines → AddsStages lines start.tree now.tree → SameTree now next → AddsStages longer start.tree next.tree
+stages_same lines longer start now next e a same = subst (λ (ls : List Line). AddsStages ls start.tree next.tree) (sym e) (subst (λ (t : Tree). AddsStages lines start.tree t) (sym same.tree) a)
+
+pub stages_more : (change : Change) (path : List ℕ) (line : Line) (lines longer : List Line) (start now next : DiskState) → longer ≡ lines ++ line ∷ [] → AddsStages lines start.tree now.tree → StagesFile change path line now next
+    → AddsStages longer start.tree next.tree
+stages_more change path line lines longer start now next pushed a m = subst (λ (ls : List Line). AddsStages ls start.tree next.tree) (sym pushed) (record {
+  was_free = λ other has. elim (Contains-push_cases lines line other has) [
+    | inl old ↦ a.was_free other old
+    | inr same ↦ subst (λ (l : Line). Free start.tree (parent_of (place_of l)) (stage_of l)) same this_free
+  ];
+  is_file = λ other has. elim (Contains-push_cases lines line other has) [
+    | inl old ↦ subst (λ (o : Option Node). IsSome (file_node o)) (sym (m.others (stage_of other) (λ e. apart other old e))) (a.is_file other old)
+    | inr same ↦ subst (λ (l : Line). IsSome (file_at next.tree (stage_of l))) same (ap is_some m.holds)
+  ];
+  others = λ q n.
+      m.others q (λ e. n (line, Contains-append_right lines (line ∷ []) line (first line []), e))
+      ∙ a.others q (λ (other, has, e). n (other, Contains-append_left lines (line ∷ []) other has, e));
+})
+  where
+    this_free : Free start.tree (parent_of (place_of line)) (stage_of line)
+    this_free = record {
+      reserved = subst (λ (q : NameList). Reserved (parent_of q) (stage_of line)) (sym m.of.place) m.was_free.reserved;
+      free = free_before lines start.tree now.tree a (stage_of line) m.was_free.free;
+    }
+
+    apart : (other : Line) → Contains lines other → stage_of other ≢ stage_of line
+    apart other old e = none_stands (file_at now.tree (stage_of other)) (ap (file_at now.tree) e ∙ ap file_node m.was_free.free) (a.is_file other old)
 
 -- ---- so many files have their stages
 

@@ -1,9 +1,11 @@
 //! A change of many files, made with a journal.
 
-ghost use Rattle.std.specs.Prelude.{◌≡◌, ◌<◌, ◌≤◌, ℕ, IsTrue, IsSome, IfOk, OnOk, Contains, List, length, None};
+ghost use Rattle.std.specs.Prelude.{◌≡◌, ◌<◌, ◌≤◌, ℕ, IsTrue, IsSome, IfOk, IfErr, OnOk, Contains, List, length, None};
 ghost use Rattle.sd_io.specs.Tree.{node_at};
-ghost use Rattle.sd_io.specs.Disk.{SameLists};
+ghost use Rattle.sd_io.specs.Paths.{parts_of, parent_of};
+ghost use Rattle.sd_io.specs.Disk.{SameTree, SameLists};
 ghost use Rattle.sd_io.specs.Lists.{directory_of};
+ghost use Rattle.sd_course.specs.Course.{course};
 ghost use Rattle.file_exchange.specs.Exchange.{IsFilePath, IsPathIn};
 ghost use Rattle.journal_text.specs.declared.line.Line as line;
 ghost use Rattle.change_phases.specs.Between.{Work, journal_of};
@@ -11,8 +13,9 @@ ghost use Rattle.change_phases.specs.Phases.{naming, cleared, IsIn};
 ghost use Rattle.journal.specs.Keeping.{AreRootPaths, IsSettledIn, KeepsPhase, KeepsBetween};
 ghost use Rattle.journal.specs.Finding.{LeavesLists};
 ghost use Rattle.journal.specs.Finishing.{StagesAreGone};
+ghost use Rattle.journal.specs.Beside.{KeepsAllButFree, AddsBeside};
 ghost use Rattle.journal.specs.Naming.{MayBeNamed};
-ghost use Rattle.journal.specs.Changing.{IsChangeBelow, MayChange, IsChanged};
+ghost use Rattle.journal.specs.Changing.{IsChangeBelow, MayChange, IsChanged, ExchangesFiles, LeavesNothing, WritingFails, IsWritten, EndFails};
 
 use crate::JournalFault;
 use crate::beside::make_beside;
@@ -49,6 +52,9 @@ pub fn change_files<D: Disk, R: Replaces>(
         → KeepsBetween work (D.state disk.old) (D.state disk.new) }
     ensures changed { IsTrue D.tells → (work : Work) → IsChangeBelow (R.change replacer.now) work root.now paths.now (D.state disk.old)
         → OnOk result (IsChanged work (D.state disk.new)) }
+    ensures tree { IsTrue D.tells → (work : Work) → IsChangeBelow (R.change replacer.now) work root.now paths.now (D.state disk.old)
+        → OnOk result (ExchangesFiles work.files (D.state disk.old).tree (D.state disk.new).tree) }
+    ensures no_directory { IsTrue D.tells → directory_of (D.state disk.old).tree root.now ≡ None → OnOk result (SameTree (D.state disk.old) (D.state disk.new)) }
     ensures lists { LeavesLists (D.state disk.old) (D.state disk.new) }
     ensures never_falls { (D.state disk.old).faults ≤ (D.state disk.new).faults }
 {
@@ -75,6 +81,8 @@ fn make_change<D: Disk, R: Replaces>(
         → KeepsBetween work (D.state disk.old) (D.state disk.new) }
     ensures changed { IsTrue D.tells → (work : Work) → MayChange (R.change replacer.now) work root.now paths.now (D.state disk.old)
         → OnOk result (IsChanged work (D.state disk.new)) }
+    ensures tree { IsTrue D.tells → (work : Work) → MayChange (R.change replacer.now) work root.now paths.now (D.state disk.old)
+        → OnOk result (ExchangesFiles work.files (D.state disk.old).tree (D.state disk.new).tree) }
     ensures lists { SameLists (D.state disk.old) (D.state disk.new) }
     ensures never_falls { (D.state disk.old).faults ≤ (D.state disk.new).faults }
 {
@@ -115,6 +123,9 @@ fn write_beside<D: Disk>(
     ensures written { IsTrue D.tells → (work : Work) (root : List ℕ) → AreRootPaths work root path.now → IsSettledIn naming work journal.now (D.state disk.old)
         → node_at (D.state disk.old).tree (journal_of work) ≡ None
         → IfOk result (λ temporary. MayBeNamed work journal.now temporary path.now root (D.state disk.new)) }
+    ensures fails { IfErr result (WritingFails (course D.tells (D.state disk.old) (D.state disk.new)) path.now) }
+    ensures free { IsTrue D.tells → KeepsAllButFree (D.state disk.old).tree (D.state disk.new).tree }
+    ensures tree { IsTrue D.tells → IfOk result (λ temporary. AddsBeside (parent_of (parts_of path.now)) temporary (D.state disk.old).tree (D.state disk.new).tree) }
     ensures lists { SameLists (D.state disk.old) (D.state disk.new) }
     ensures never_falls { (D.state disk.old).faults ≤ (D.state disk.new).faults }
 {
@@ -141,6 +152,10 @@ fn name_and_finish<D: Disk>(
         → OnOk result (IsIn cleared work journal.now (D.state disk.new)) }
     ensures stages { IsTrue D.tells → (work : Work) → MayBeNamed work journal.now temporary.now path.now root.now (D.state disk.old)
         → OnOk result (StagesAreGone journal.now (D.state disk.new)) }
+    ensures tree { IsTrue D.tells → (work : Work) → MayBeNamed work journal.now temporary.now path.now root.now (D.state disk.old)
+        → OnOk result (LeavesNothing journal.now temporary.now (journal_of work) (D.state disk.old).tree (D.state disk.new).tree) }
+    ensures fails { (IsTrue D.tells → IsWritten journal.now temporary.now path.now root.now (D.state disk.old).tree)
+        → IfErr result (EndFails (course D.tells (D.state disk.old) (D.state disk.new)) journal.now temporary.now) }
     ensures lists { SameLists (D.state disk.old) (D.state disk.new) }
     ensures never_falls { (D.state disk.old).faults ≤ (D.state disk.new).faults }
 {

@@ -1,12 +1,13 @@
 //! The journal and its stages, removed.
 
-ghost use Rattle.std.specs.Prelude.{◌≡◌, ◌≤◌, [], ◌∷◌, List, IsTrue, OnOk};
+ghost use Rattle.std.specs.Prelude.{◌≡◌, ◌≤◌, [], ◌∷◌, List, IsTrue, IfErr, OnOk};
 ghost use Rattle.sd_io.specs.Disk.{SameLists};
 ghost use Rattle.journal_text.specs.declared.line.Line.{Line};
 ghost use Rattle.change_phases.specs.Between.{Work};
 ghost use Rattle.change_phases.specs.Phases.{removing, cleared, IsIn};
 ghost use Rattle.journal.specs.Keeping.{AreRootPaths, IsSettledIn, KeepsPhase};
-ghost use Rattle.journal.specs.Clearing.{HaveFolders, RemovesStages, AreGone, LeavesNoMore, ArePutOnMedium};
+ghost use Rattle.sd_course.specs.Course.{course};
+ghost use Rattle.journal.specs.Clearing.{HaveFolders, RemovesAt, RemovalFails, RemovesStages, KeepsOrRemoves, AreGone, ClearingFails, LeavesNoMore, ArePutOnMedium, SyncingFails};
 
 use crate::stages::{line_folder, stage_path};
 use journal_text::{Journal, Line};
@@ -26,6 +27,8 @@ pub(crate) fn remove_journal<D: Disk>(
         → KeepsPhase removing work lines (D.state disk.old) (D.state disk.new) }
     ensures cleared { IsTrue D.tells → (work : Work) (lines : List Line) → AreRootPaths work root.now journal.now → IsSettledIn removing work lines (D.state disk.old)
         → OnOk result (IsIn cleared work lines (D.state disk.new)) }
+    ensures tree { IsTrue D.tells → OnOk result (RemovesAt journal.now (D.state disk.old) (D.state disk.new)) }
+    ensures fails { IfErr result (RemovalFails (course D.tells (D.state disk.old) (D.state disk.new)) root.now journal.now) }
     ensures lists { SameLists (D.state disk.old) (D.state disk.new) }
     ensures never_falls { (D.state disk.old).faults ≤ (D.state disk.new).faults }
 {
@@ -44,6 +47,8 @@ pub(crate) fn remove_stages<D: Disk>(
 ) -> Result<(), DiskFault>
     ensures removed { IsTrue D.tells → HaveFolders (D.state disk.old).tree journal.now → RemovesStages journal.now (D.state disk.old) (D.state disk.new) }
     ensures gone { IsTrue D.tells → HaveFolders (D.state disk.old).tree journal.now → OnOk result (AreGone journal.now (D.state disk.old) (D.state disk.new)) }
+    ensures tree { IsTrue D.tells → KeepsOrRemoves (D.state disk.old).tree (D.state disk.new).tree }
+    ensures fails { IfErr result (ClearingFails (course D.tells (D.state disk.old) (D.state disk.new))) }
     ensures lists { SameLists (D.state disk.old) (D.state disk.new) }
     ensures never_falls { (D.state disk.old).faults ≤ (D.state disk.new).faults }
 {
@@ -57,6 +62,8 @@ pub(crate) fn remove_stages<D: Disk>(
 fn remove_stage<D: Disk>(alloc: Global, disk: &mut D, line: &Line) -> Result<(), DiskFault>
     ensures removed { IsTrue D.tells → HaveFolders (D.state disk.old).tree (line.now ∷ []) → RemovesStages (line.now ∷ []) (D.state disk.old) (D.state disk.new) }
     ensures gone { IsTrue D.tells → HaveFolders (D.state disk.old).tree (line.now ∷ []) → OnOk result (AreGone (line.now ∷ []) (D.state disk.old) (D.state disk.new)) }
+    ensures tree { IsTrue D.tells → KeepsOrRemoves (D.state disk.old).tree (D.state disk.new).tree }
+    ensures fails { IfErr result (ClearingFails (course D.tells (D.state disk.old) (D.state disk.new))) }
     ensures lists { SameLists (D.state disk.old) (D.state disk.new) }
     ensures never_falls { (D.state disk.old).faults ≤ (D.state disk.new).faults }
 {
@@ -74,6 +81,7 @@ fn remove_stage<D: Disk>(alloc: Global, disk: &mut D, line: &Line) -> Result<(),
 pub(crate) fn sync_folders<D: Disk>(disk: &mut D, journal: &Journal) -> Result<(), DiskFault>
     ensures kept { IsTrue D.tells → LeavesNoMore (D.state disk.old) (D.state disk.new) }
     ensures synced { IsTrue D.tells → HaveFolders (D.state disk.old).tree journal.now → OnOk result (ArePutOnMedium journal.now (D.state disk.old) (D.state disk.new)) }
+    ensures fails { IfErr result (SyncingFails (course D.tells (D.state disk.old) (D.state disk.new)) journal.now) }
     ensures lists { SameLists (D.state disk.old) (D.state disk.new) }
     ensures never_falls { (D.state disk.old).faults ≤ (D.state disk.new).faults }
 {

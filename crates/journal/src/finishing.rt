@@ -1,11 +1,14 @@
 //! A change whose journal is there for good, carried out.
 
-ghost use Rattle.std.specs.Prelude.{◌≤◌, IsTrue, OnOk};
+ghost use Rattle.std.specs.Prelude.{◌≡◌, ◌≤◌, ◌++◌, ◌∷◌, [], IsTrue, None, IfErr, OnOk};
+ghost use Rattle.sd_io.specs.Tree.{NameList, node_at};
 ghost use Rattle.sd_io.specs.Disk.{SameLists};
-ghost use Rattle.change_phases.specs.Between.{Work};
+ghost use Rattle.sd_course.specs.Course.{course};
+ghost use Rattle.change_phases.specs.Between.{Work, journal_name, journal_of};
 ghost use Rattle.change_phases.specs.Phases.{placing, cleared, IsIn};
 ghost use Rattle.journal.specs.Keeping.{AreRootPaths, IsSettledIn, KeepsBetween};
-ghost use Rattle.journal.specs.Finishing.{StagesAreGone};
+ghost use Rattle.journal.specs.Placing.{HasLineCause};
+ghost use Rattle.journal.specs.Finishing.{StagesAreGone, HasJournalAt, CarriesOut};
 
 use crate::clearing::{remove_journal, remove_stages, sync_folders};
 use crate::placing::place_files;
@@ -32,6 +35,12 @@ pub(crate) fn finish<D: Disk>(
         → OnOk result (IsIn cleared work journal.now (D.state disk.new)) }
     ensures stages { IsTrue D.tells → (work : Work) → AreRootPaths work root.now path.now → IsSettledIn placing work journal.now (D.state disk.old)
         → OnOk result (StagesAreGone journal.now (D.state disk.new)) }
+    ensures tree { IsTrue D.tells → (work : Work) → AreRootPaths work root.now path.now → IsSettledIn placing work journal.now (D.state disk.old)
+        → OnOk result (CarriesOut journal.now (journal_of work) (D.state disk.old).tree (D.state disk.new).tree) }
+    ensures gone { IsTrue D.tells → (folder : NameList) → HasJournalAt (D.state disk.old).tree root.now path.now folder
+        → OnOk result (node_at (D.state disk.new).tree (folder ++ journal_name ∷ []) ≡ None) }
+    ensures fails { (IsTrue D.tells → (folder : NameList) × HasJournalAt (D.state disk.old).tree root.now path.now folder)
+        → IfErr result (HasLineCause (course D.tells (D.state disk.old) (D.state disk.new)) journal.now) }
     ensures lists { SameLists (D.state disk.old) (D.state disk.new) }
     ensures never_falls { (D.state disk.old).faults ≤ (D.state disk.new).faults }
 {

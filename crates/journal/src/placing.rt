@@ -1,12 +1,13 @@
 //! The files of a journal, put in place.
 
-ghost use Rattle.std.specs.Prelude.{◌≤◌, List, IsTrue, OnOk, Contains};
+ghost use Rattle.std.specs.Prelude.{◌≤◌, [], ◌∷◌, List, IsTrue, IfErr, OnOk, Contains};
 ghost use Rattle.sd_io.specs.Disk.{SameLists};
 ghost use Rattle.journal_text.specs.declared.line.Line.{Line};
 ghost use Rattle.change_phases.specs.Between.{Work};
 ghost use Rattle.change_phases.specs.Phases.{placing};
 ghost use Rattle.journal.specs.Keeping.{IsSettledIn, KeepsPhase};
-ghost use Rattle.journal.specs.Placing.{AreNewForGood, PlacesOne};
+ghost use Rattle.sd_course.specs.Course.{course};
+ghost use Rattle.journal.specs.Placing.{AreNewForGood, PlacesOne, ChangesFiles, HasLineCause};
 
 use crate::stages::stage_path;
 use file_rewrite::{JobFault, put_file};
@@ -28,6 +29,8 @@ pub(crate) fn place_files<D: Disk>(
         → KeepsPhase placing work journal.now (D.state disk.old) (D.state disk.new) }
     ensures placed { IsTrue D.tells → (work : Work) → IsSettledIn placing work journal.now (D.state disk.old)
         → OnOk result (AreNewForGood work (D.state disk.new)) }
+    ensures tree { IsTrue D.tells → OnOk result (ChangesFiles journal.now (D.state disk.old).tree (D.state disk.new).tree) }
+    ensures fails { IfErr result (HasLineCause (course D.tells (D.state disk.old) (D.state disk.new)) journal.now) }
     ensures lists { SameLists (D.state disk.old) (D.state disk.new) }
     ensures never_falls { (D.state disk.old).faults ≤ (D.state disk.new).faults }
 {
@@ -43,6 +46,8 @@ fn place_file<D: Disk>(alloc: Global, disk: &mut D, line: &Line) -> Result<(), J
         → KeepsPhase placing work lines (D.state disk.old) (D.state disk.new) }
     ensures placed { IsTrue D.tells → (work : Work) (lines : List Line) → Contains lines line.now → IsSettledIn placing work lines (D.state disk.old)
         → OnOk result (PlacesOne work line.now (D.state disk.old) (D.state disk.new)) }
+    ensures tree { IsTrue D.tells → OnOk result (ChangesFiles (line.now ∷ []) (D.state disk.old).tree (D.state disk.new).tree) }
+    ensures fails { IfErr result (HasLineCause (course D.tells (D.state disk.old) (D.state disk.new)) (line.now ∷ [])) }
     ensures lists { SameLists (D.state disk.old) (D.state disk.new) }
     ensures never_falls { (D.state disk.old).faults ≤ (D.state disk.new).faults }
 {

@@ -7,7 +7,8 @@ ghost use Rattle.file_rewrite.specs.Reading.{FindsFile};
 ghost use Rattle.change_phases.specs.Between.{Work};
 ghost use Rattle.journal_text.specs.declared.line.Line as line;
 ghost use Rattle.journal.specs.Keeping.{KeepsPreparing};
-ghost use Rattle.journal.specs.Planning.{IsPlanned, IsUnchanged, StagesFile, LeavesStage, AddsFiles, AreStagesMade};
+ghost use Rattle.journal.specs.Beside.{KeepsAllButFree};
+ghost use Rattle.journal.specs.Planning.{IsPlanned, IsUnchanged, StagesFile, LeavesStage, AddsFiles, AddsStages, AreStagesMade, CountStages, LeadToFiles};
 
 use crate::JournalFault;
 use crate::beside::make_beside;
@@ -33,6 +34,10 @@ pub(crate) fn make_stages<D: Disk, R: Replaces>(
     ensures made { IsTrue D.tells → (work : Work) → IsPlanned (R.change replacer.now) work paths.now (D.state disk.old)
         → IfOk result (λ journal. AreStagesMade work journal (D.state disk.new)) }
     ensures adds { IsTrue D.tells → IfOk result (λ journal. AddsFiles (D.state disk.old) (D.state disk.new)) }
+    ensures stages { IsTrue D.tells → IfOk result (λ journal. AddsStages journal (D.state disk.old).tree (D.state disk.new).tree) }
+    ensures counted { IsTrue D.tells → LeadToFiles (D.state disk.old).tree paths.now
+        → IfOk result (CountStages (R.change replacer.now) (D.state disk.old).tree paths.now) }
+    ensures free { IsTrue D.tells → KeepsAllButFree (D.state disk.old).tree (D.state disk.new).tree }
     ensures paths { IsTrue D.tells → IfOk result (λ journal. (line : line.Line) → Contains journal line → IsFilePath (D.state disk.new).tree line.path) }
     ensures lists { SameLists (D.state disk.old) (D.state disk.new) }
     ensures never_falls { (D.state disk.old).faults ≤ (D.state disk.new).faults }

@@ -1,7 +1,8 @@
 use Rattle.std.specs.Prelude.{Contains}
 use Rattle.std.proofs.Common.{rules, subst, sym, ◌∙◌, refl, arith, List}
 use Rattle.journal_text.specs.declared.line.Line.{Line}
-use Rattle.journal.proofs.PlanningLemmas.{IsMadeTo, made_none, adds_same, no_paths, path_at, left_on, made_more, not_unchanged, adds_then, adds_stage, paths_still, paths_more, made_all}
+use Rattle.journal.proofs.PlanningLemmas.{IsMadeTo, made_none, adds_same, no_paths, path_at, left_on, made_more, not_unchanged, adds_then, adds_stage, stages_none, stages_same, stages_more, paths_still, paths_more, made_all}
+use Rattle.journal.proofs.StagingLemmas.{contains_path, count_none, count_same, count_more, count_all, stages_free, left_free, free_then}
 use Rattle.journal.proofs.planning.make_stages.Goals as goal
 use Rattle.journal.proofs.planning.make_stages.Goals.{in-Some+in_ok-push, in_default}
 
@@ -13,6 +14,8 @@ loop-path-init g c =
       lists = search rules;
       made = λ told work p. subst (λ (ls : List Line). IsMadeTo work start 0 ls start) (sym c.new-journal.ensures) (made_none work start p.preparing_now);
       adds = λ told. adds_same start start (record { tree = refl; clock = refl; outcomes = refl });
+      stages = λ told. stages_none start c.new-journal.result c.new-journal.ensures;
+      counted = λ told lead. count_none (g.R.Replaces.change c.args.replacer.now) start.tree c.args.paths.now c.new-journal.result c.new-journal.ensures;
       paths = λ told. no_paths start.tree c.new-journal.result c.new-journal.ensures;
     }
 
@@ -80,6 +83,22 @@ loop-path-preserved g c =
             | in-Some+in_ok-push w ↦ adds_then start now next (c.loop-path.invariant.adds told) (adds_stage change path w.in-Some.line now next (rw w.in-Some.is at (c.in_ok-line.ensures.staged told)))
             | in_default w ↦ (let u = rw w.in_default.is at (c.in_ok-line.ensures.unchanged told) in adds_then start now next (c.loop-path.invariant.adds told) (adds_same now next u.same))
           ];
+      stages = λ told.
+          elim c.match-branch-2.branch [
+            | in-Some+in_ok-push w ↦
+                stages_more change path w.in-Some.line lines c.match-branch-2.journal start now next (w.journal-is ∙ w.in_ok-push.ensures.pushed) (c.loop-path.invariant.stages told)
+                (rw w.in-Some.is at (c.in_ok-line.ensures.staged told))
+            | in_default w ↦
+                (let u = rw w.in_default.is at (c.in_ok-line.ensures.unchanged told) in stages_same lines c.match-branch-2.journal start now next w.journal-is (c.loop-path.invariant.stages told) u.same)
+          ];
+      counted = λ told lead.
+          let has = contains_path paths n path at in
+          elim c.match-branch-2.branch [
+            | in-Some+in_ok-push w ↦
+                count_more change start now next paths n path at lines c.match-branch-2.journal (c.loop-path.invariant.counted told lead) (c.loop-path.invariant.adds told) (lead path has) w.in-Some.line
+                (w.journal-is ∙ w.in_ok-push.ensures.pushed) (rw w.in-Some.is at (c.in_ok-line.ensures.staged told))
+            | in_default w ↦ count_same change start now next paths n path at lines c.match-branch-2.journal (c.loop-path.invariant.counted told lead) w.journal-is
+          ];
       paths = λ told.
           elim c.match-branch-2.branch [
             | in-Some+in_ok-push w ↦
@@ -96,3 +115,41 @@ returns-clause-made g c =
     λ told work p.
     made_all (g.R.Replaces.change c.args.replacer.now) work c.args.paths.now (g.D.Disk.state c.args.disk.now) p c.loop-path.path-index c.loop-path.journal (g.D.Disk.state c.loop-path.disk)
     (omega (arith, c.loop-path-test.false, c.loop-path.auto.path-index-end)) (c.loop-path.invariant.made told work p)
+
+pub returns-in_err-line-clause-free : goal.returns-in_err-line-clause-free
+returns-in_err-line-clause-free g c =
+    λ told.
+    let change = g.R.Replaces.change c.args.replacer.now in
+    let paths = c.args.paths.now in
+    let start = g.D.Disk.state c.args.disk.now in
+    let n = c.loop-path.path-index in
+    let lines = c.loop-path.journal in
+    let now = g.D.Disk.state c.loop-path.disk in
+    let next = g.D.Disk.state c.stage_file.new.disk in
+    let path = c.as_str.result.now in
+    let at = path_at paths n c.path-item.result path (omega arith) c.path-item.is c.as_str.ensures.same in
+    free_then start.tree now.tree next.tree (stages_free lines start.tree now.tree (c.loop-path.invariant.stages told)) (left_free path now next (c.stage_file.ensures.left told))
+
+pub returns-in_err-push-clause-free : goal.returns-in_err-push-clause-free
+returns-in_err-push-clause-free g c =
+    λ told.
+    let change = g.R.Replaces.change c.args.replacer.now in
+    let paths = c.args.paths.now in
+    let start = g.D.Disk.state c.args.disk.now in
+    let n = c.loop-path.path-index in
+    let lines = c.loop-path.journal in
+    let now = g.D.Disk.state c.loop-path.disk in
+    let next = g.D.Disk.state c.stage_file.new.disk in
+    let path = c.as_str.result.now in
+    let at = path_at paths n c.path-item.result path (omega arith) c.path-item.is c.as_str.ensures.same in
+    free_then start.tree now.tree next.tree (stages_free lines start.tree now.tree (c.loop-path.invariant.stages told)) (left_free path now next (c.stage_file.ensures.left told))
+
+pub returns-clause-free : goal.returns-clause-free
+returns-clause-free g c =
+    λ told. stages_free c.loop-path.journal (g.D.Disk.state c.args.disk.now).tree (g.D.Disk.state c.loop-path.disk).tree (c.loop-path.invariant.stages told)
+
+pub returns-clause-counted : goal.returns-clause-counted
+returns-clause-counted g c =
+    λ told lead.
+    count_all (g.R.Replaces.change c.args.replacer.now) (g.D.Disk.state c.args.disk.now).tree c.args.paths.now c.loop-path.path-index c.loop-path.journal
+    (omega (arith, c.loop-path-test.false, c.loop-path.auto.path-index-end)) (c.loop-path.invariant.counted told lead)
