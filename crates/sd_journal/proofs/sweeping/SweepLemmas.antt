@@ -1,13 +1,12 @@
 -- A sweep by a plan, from its beginning to its end.
-use Rattle.std.proofs.Common.{◌≡◌, ◌∙◌, ℕ, ◌≤◌, Bool, true, false, List, refl, sym, ap, subst, inl, inr, arith}
-use Rattle.std.specs.Prelude.{◌⊎◌, Option, Some, None, IsTrue, Result, Ok, Err, IfOk, OnOk}
+use Rattle.std.proofs.Common.{◌≡◌, ◌∙◌, ℕ, ◌≤◌, Bool, List, sym, ap, subst, inl, inr, arith}
+use Rattle.std.specs.Prelude.{◌⊎◌, Some, None, IsTrue, Result, Ok, Err, IfOk, OnOk}
 use Rattle.sd_io.specs.Tree.{NameList, Tree, IsTree}
 use Rattle.sd_io.specs.Lists.{directory_of}
 use Rattle.sd_io.specs.Outcomes.{Outcome, Leaves, content_at}
-use Rattle.sd_io.specs.Disk.{DiskState, SameTree, outcomes_now}
+use Rattle.sd_io.specs.Disk.{DiskState, SameTree}
 use Rattle.sd_change.specs.Change.{Change, IsOne}
-use Rattle.sd_course.specs.Course.{Course, course}
-use Rattle.chosen_files.specs.Globs.{IsFirstInvalid}
+use Rattle.sd_course.specs.Course.{course}
 use Rattle.chosen_files.specs.Choice.{KeepsLists}
 use Rattle.many_files.specs.declared.report.Report.{Report}
 use Rattle.sd_plan.specs.declared.line.PlanLine.{PlanLine}
@@ -25,9 +24,8 @@ use Rattle.sd_core.specs.declared.error.Error.{Error}
 use Rattle.sd_core.specs.declared.error.Error.TheVariants as sweep
 use Rattle.sd_core.proofs.SelectionLemmas.{globs_select}
 use Rattle.sd_journal.specs.Work.{changed_paths, IsWorkOf, IsFresh}
-use Rattle.sd_journal.specs.Sweep.{CountsPlan, CountsChosen, IsOldOrBetween, IsAllNew, IsErrOrMemory, SweepsJournalled}
+use Rattle.sd_journal.specs.Sweep.{CountsPlan, IsOldOrBetween, SweepsJournalled}
 use Rattle.sd_journal.specs.declared.error.JournalError.{JournalError}
-use Rattle.sd_journal.specs.declared.error.JournalError.TheVariants as error
 use Rattle.sd_journal.proofs.sweeping.CountLemmas.{plan_counts}
 use Rattle.sd_journal.proofs.sweeping.WorkLemmas.{work_of, is_change_below, is_work_of}
 
