@@ -1,5 +1,5 @@
 -- What a journalled sweep does, and how it ends.
-use Rattle.std.specs.Prelude.{◌≡◌, ◌⊎◌, ◌≤◌, ℕ, IsTrue, List, length, Some, Result, Err, IfOk, OnOk}
+use Rattle.std.specs.Prelude.{◌≡◌, ◌⊎◌, ◌≤◌, ℕ, IsTrue, List, length, Some, None, Result, Err, IfOk, OnOk}
 use Rattle.sd_io.specs.Tree.{NameList, Tree}
 use Rattle.sd_io.specs.Lists.{directory_of}
 use Rattle.sd_io.specs.Disk.{DiskState, SameTree}
@@ -13,7 +13,7 @@ use Rattle.sd_plan.specs.Plan.{changed_in, replaced_in}
 use Rattle.sd_plan.specs.declared.line.PlanLine.{PlanLine}
 use Rattle.change_phases.specs.Between.{Work}
 use Rattle.journal.specs.Keeping.{KeepsBetween}
-use Rattle.journal.specs.Changing.{IsChanged}
+use Rattle.journal.specs.Changing.{IsChanged, ExchangesFiles}
 use Rattle.sd_core.specs.Selection.{IsChosenBelow, by_globs, ListsChosenAt}
 use Rattle.sd_core.specs.Sweep.{sweep_cap}
 use Rattle.sd_core.specs.declared.error.Error.TheVariants as sweep
@@ -39,9 +39,13 @@ abbrev pub IsOldOrBetween : Change → List ℕ → List (List ℕ) → DiskStat
 IsOldOrBetween change root globs old new =
     SameTree old new ⊎ ((work : Work) × IsWorkOf change (IsChosenBelow old.tree root globs) root old.tree work × KeepsBetween work old new)
 
--- each crash leaves each chosen file new whose bytes change, and no journal
-abbrev pub IsAllNew : Change → List ℕ → List (List ℕ) → DiskState → DiskState → Type 0
-IsAllNew change root globs old new = (work : Work) × IsWorkOf change (IsChosenBelow old.tree root globs) root old.tree work × IsChanged work new
+-- Each chosen file whose bytes change keeps its mode and holds its new bytes, and every other place is as before. Each crash leaves these files new, and no
+-- journal.
+pub record IsAllNew (change : Change) (root : List ℕ) (globs : List (List ℕ)) (old new : DiskState) : Type 0 where
+  pub work : Work
+  pub is_its : IsWorkOf change (IsChosenBelow old.tree root globs) root old.tree work
+  pub exchanged : ExchangesFiles work.files old.tree new.tree
+  pub durable : IsChanged work new
 
 -- the refusal is this one, or for want of memory
 abbrev pub IsErrOrMemory : {A : Type 0} → JournalError → Result A JournalError → Type 0
@@ -51,6 +55,7 @@ IsErrOrMemory expected result = (result ≡ Err expected) ⊎ (result ≡ Err er
 pub record SweepsJournalled (change : Change) (root : List ℕ) (globs : List (List ℕ)) (same_disk : Type 0) (result : Result Report JournalError) (d : Course DiskState) : Type 0 where
   pub kept : IsTrue d.tells → (folder : NameList) → directory_of d.old.tree root ≡ Some folder → IsFresh root d.old → IsOldOrBetween change root globs d.old d.new
   pub changed : IsTrue d.tells → (folder : NameList) → directory_of d.old.tree root ≡ Some folder → IsFresh root d.old → OnOk result (IsAllNew change root globs d.old d.new)
+  pub nowhere : IsTrue d.tells → directory_of d.old.tree root ≡ None → OnOk result (SameTree d.old d.new)
   pub counted : IsTrue d.tells → IfOk result (CountsChosen change root globs d.old.tree)
   pub few : IsTrue d.tells → OnOk result ((by_globs root globs).HasFewer sweep_cap d.old.tree)
   pub bad_glob : (place : ℕ) → IsFirstInvalid globs place → same_disk × IsErrOrMemory (error.Sweep (sweep.BadGlob place)) result

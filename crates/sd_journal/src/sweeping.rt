@@ -1,9 +1,11 @@
 //! A command on a tree that is done whole, or not at all.
 
-ghost use Rattle.std.specs.Prelude.{◌≡◌, ◌≤◌, IsTrue, IfOk, OnOk};
+ghost use Rattle.std.specs.Prelude.{◌≡◌, ◌≤◌, IsTrue, IfOk, OnOk, None};
+ghost use Rattle.sd_io.specs.Disk.{SameTree};
+ghost use Rattle.sd_io.specs.Lists.{directory_of};
 ghost use Rattle.sd_course.specs.Course.{course};
 ghost use Rattle.change_phases.specs.Between.{Work};
-ghost use Rattle.journal.specs.Changing.{IsChangeBelow, IsChanged};
+ghost use Rattle.journal.specs.Changing.{IsChangeBelow, IsChanged, ExchangesFiles};
 ghost use Rattle.journal.specs.Finding.{LeavesLists};
 ghost use Rattle.journal.specs.Keeping.{KeepsBetween};
 ghost use Rattle.sd_journal.specs.Recover.{Recovers};
@@ -51,6 +53,9 @@ fn change_planned<D: Disk, R: Replaces>(
         → KeepsBetween work (D.state disk.old) (D.state disk.new) }
     ensures changed { IsTrue D.tells → (work : Work) → IsChangeBelow (R.change replacer.now) work root.now (form.changed_paths planned.now) (D.state disk.old)
         → OnOk result (IsChanged work (D.state disk.new)) }
+    ensures tree { IsTrue D.tells → (work : Work) → IsChangeBelow (R.change replacer.now) work root.now (form.changed_paths planned.now) (D.state disk.old)
+        → OnOk result (ExchangesFiles work.files (D.state disk.old).tree (D.state disk.new).tree) }
+    ensures no_directory { IsTrue D.tells → directory_of (D.state disk.old).tree root.now ≡ None → OnOk result (SameTree (D.state disk.old) (D.state disk.new)) }
     ensures counted { IfOk result (CountsPlan planned.now) }
     ensures lists { LeavesLists (D.state disk.old) (D.state disk.new) }
     ensures never_falls { (D.state disk.old).faults ≤ (D.state disk.new).faults }

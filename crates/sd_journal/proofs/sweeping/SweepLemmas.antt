@@ -1,13 +1,12 @@
 -- A sweep by a plan, from its beginning to its end.
-use Rattle.std.proofs.Common.{◌≡◌, ◌∙◌, ℕ, ◌≤◌, Bool, true, false, List, refl, sym, ap, subst, inl, inr, arith}
-use Rattle.std.specs.Prelude.{◌⊎◌, Option, Some, IsTrue, Result, Ok, Err, IfOk, OnOk}
+use Rattle.std.proofs.Common.{◌≡◌, ◌∙◌, ℕ, ◌≤◌, Bool, List, sym, ap, subst, inl, inr, arith}
+use Rattle.std.specs.Prelude.{◌⊎◌, Some, None, IsTrue, Result, Ok, Err, IfOk, OnOk}
 use Rattle.sd_io.specs.Tree.{NameList, Tree, IsTree}
 use Rattle.sd_io.specs.Lists.{directory_of}
 use Rattle.sd_io.specs.Outcomes.{Outcome, Leaves, content_at}
-use Rattle.sd_io.specs.Disk.{DiskState, SameTree, outcomes_now}
+use Rattle.sd_io.specs.Disk.{DiskState, SameTree}
 use Rattle.sd_change.specs.Change.{Change, IsOne}
-use Rattle.sd_course.specs.Course.{Course, course}
-use Rattle.chosen_files.specs.Globs.{IsFirstInvalid}
+use Rattle.sd_course.specs.Course.{course}
 use Rattle.chosen_files.specs.Choice.{KeepsLists}
 use Rattle.many_files.specs.declared.report.Report.{Report}
 use Rattle.sd_plan.specs.declared.line.PlanLine.{PlanLine}
@@ -16,7 +15,7 @@ use Rattle.change_phases.proofs.PhaseLemmas.{between_then}
 use Rattle.journal.specs.Keeping.{KeepsBetween}
 use Rattle.journal.specs.Finding.{LeavesLists}
 use Rattle.journal.specs.Planning.{AreChangesOf}
-use Rattle.journal.specs.Changing.{IsChangeBelow, IsChanged}
+use Rattle.journal.specs.Changing.{IsChangeBelow, IsChanged, ExchangesFiles}
 use Rattle.journal.proofs.ChangingLemmas.{looked_keeps, preparing_between}
 use Rattle.sd_core.specs.Plan.{PlansTree}
 use Rattle.sd_core.specs.Selection.{IsChosenBelow, by_globs}
@@ -25,9 +24,8 @@ use Rattle.sd_core.specs.declared.error.Error.{Error}
 use Rattle.sd_core.specs.declared.error.Error.TheVariants as sweep
 use Rattle.sd_core.proofs.SelectionLemmas.{globs_select}
 use Rattle.sd_journal.specs.Work.{changed_paths, IsWorkOf, IsFresh}
-use Rattle.sd_journal.specs.Sweep.{CountsPlan, CountsChosen, IsOldOrBetween, IsAllNew, IsErrOrMemory, SweepsJournalled}
+use Rattle.sd_journal.specs.Sweep.{CountsPlan, IsOldOrBetween, SweepsJournalled}
 use Rattle.sd_journal.specs.declared.error.JournalError.{JournalError}
-use Rattle.sd_journal.specs.declared.error.JournalError.TheVariants as error
 use Rattle.sd_journal.proofs.sweeping.CountLemmas.{plan_counts}
 use Rattle.sd_journal.proofs.sweeping.WorkLemmas.{work_of, is_change_below, is_work_of}
 
@@ -70,6 +68,10 @@ done_so : {P Q : Type 0} (r : Result Report JournalError) → OnOk r P → (P �
 done_so (Ok report) p then = then p
 done_so (Err failed) p then = tt
 
+both_so : {P Q S : Type 0} (r : Result Report JournalError) → OnOk r P → OnOk r Q → (P → Q → S) → OnOk r S
+both_so (Ok report) p q then = then p q
+both_so (Err failed) p q then = tt
+
 counted_so : {P Q : Report → Type 0} (r : Result Report JournalError) → IfOk r P → ((report : Report) → P report → Q report) → IfOk r Q
 counted_so (Ok report) p then = then report p
 counted_so (Err failed) p then = tt
@@ -110,12 +112,25 @@ module _ (change : Change) (one : IsOne change) (root : List ℕ) (globs : List 
         inr (the_work, is_its, record { between = between_then the_work s t u first.between second.between; settled = second.settled })
 
   pub swept : (r : Result Report JournalError) → (IsTrue tells → (work : Work) → IsChangeBelow change work root (changed_paths lines) t → KeepsBetween work t u)
-      → (IsTrue tells → (work : Work) → IsChangeBelow change work root (changed_paths lines) t → OnOk r (IsChanged work u)) → IfOk r (CountsPlan lines) → LeavesLists t u → t.faults ≤ u.faults
+      → (IsTrue tells → (work : Work) → IsChangeBelow change work root (changed_paths lines) t → OnOk r (IsChanged work u))
+      → (IsTrue tells → (work : Work) → IsChangeBelow change work root (changed_paths lines) t → OnOk r (ExchangesFiles work.files t.tree u.tree))
+      → (IsTrue tells → directory_of t.tree root ≡ None → OnOk r (SameTree t u)) → IfOk r (CountsPlan lines) → LeavesLists t u → t.faults ≤ u.faults
       → SweepsJournalled change root globs same_later r (course tells s u)
-  swept r keeps changes counts lists low = record {
+  swept r keeps changes exchanges no_root counts lists low = record {
     kept = λ known folder leads fresh. kept_whole known folder leads fresh (keeps known);
     changed = λ known folder leads fresh.
-        done_so r (changes known (the_work known folder leads fresh) (is_still known folder leads fresh)) (λ new. (the_work known folder leads fresh, is_its known folder leads fresh, new));
+        both_so r (changes known (the_work known folder leads fresh) (is_still known folder leads fresh)) (exchanges known (the_work known folder leads fresh) (is_still known folder leads fresh))
+        (λ new exchanged. record {
+          work = the_work known folder leads fresh;
+          is_its = is_its known folder leads fresh;
+          exchanged = subst (λ (tree : Tree). ExchangesFiles (the_work known folder leads fresh).files tree u.tree) plans.same.tree exchanged;
+          durable = new;
+        });
+    nowhere = λ known none. done_so r (no_root known (ap (λ (tree : Tree). directory_of tree root) plans.same.tree ∙ none)) (λ same. record {
+      tree = same.tree ∙ plans.same.tree;
+      clock = same.clock ∙ plans.same.clock;
+      outcomes = same.outcomes ∙ plans.same.outcomes;
+    });
     counted = λ known.
         let plan = plans.planned known in
         counted_so r counts (λ report is. record {

@@ -1,22 +1,20 @@
 -- The plan of some files tells what is to change.
-use Rattle.std.proofs.Common.{◌≡◌, ◌≢◌, ◌⊎◌, ◌↔◌, ◌++◌, inl, inr, ℕ, Bool, true, false, cond, List, [], ◌∷◌, map, refl, sym, ap, subst, ◌∙◌, Ordering, Less, Equal}
-use Rattle.std.specs.Prelude.{Option, Some, None, IsTrue, Contains}
+use Rattle.std.proofs.Common.{◌≡◌, ◌≢◌, ◌↔◌, inl, inr, ℕ, Bool, true, false, cond, List, [], ◌∷◌, map, refl, sym, ap, subst, ◌∙◌, Ordering, Less, Equal}
+use Rattle.std.specs.Prelude.{Option, Some, Contains}
 use Rattle.std.specs.List.{AllByRecursion, IsDistinct, filter}
 use Rattle.std.specs.List.Sorted.{IsStrictlySortedBy}
 use Rattle.std.specs.Cmp.{IsTotalOrder, tied_itself, nat_cmp_total}
 use Rattle.std.specs.Cmp.Lexicographic.{lists_total, pointwise_decides, bytes_decides}
 use Rattle.std.specs.Option.{option_and_then}
 use Rattle.std.proofs.lemmas.Option.{same_Some}
-use Rattle.sd_io.specs.Tree.{NameList, Tree, node_at, file_at, name_cmp, name_list_cmp}
+use Rattle.sd_io.specs.Tree.{NameList, Tree, file_at, name_list_cmp}
 use Rattle.sd_io.specs.Paths.{reached}
-use Rattle.sd_io.specs.Files.{file_of}
 use Rattle.sd_io.specs.Lists.{directory_of}
 use Rattle.sd_io.specs.Outcomes.{same_place}
 use Rattle.sd_io.specs.Disk.{DiskState}
 use Rattle.sd_change.specs.Change.{Change, FileChange, IsOne}
 use Rattle.file_exchange.specs.Crash.{Exchange}
-use Rattle.change_phases.specs.Between.{Work, IsWork, journal_name}
-use Rattle.change_phases.specs.Recovery.{IsOnMedium}
+use Rattle.change_phases.specs.Between.{Work, IsWork}
 use Rattle.journal.specs.Planning.{IsChangeOf, AreChangesOf}
 use Rattle.journal.specs.Changing.{IsChangeBelow}
 use Rattle.journal.proofs.KeepingLemmas.{directory_there}
@@ -24,7 +22,7 @@ use Rattle.many_files.specs.Files.{ListsFiles}
 use Rattle.many_files.proofs.MemberLemmas.{In, in_from_contains, contains_from_in}
 use Rattle.sd_plan.specs.declared.line.PlanLine.{PlanLine}
 use Rattle.planned_files.specs.Planned.{IsLineOf, PlansFiles, path_of}
-use Rattle.sd_journal.specs.Work.{changed_paths, IsChangedFile, IsWorkOf, IsFresh}
+use Rattle.sd_journal.specs.Work.{changed_paths, IsWorkOf, IsFresh}
 
 -- ---- a file becomes one thing
 
