@@ -12,6 +12,8 @@ returns-in-Err g c = record {
     counts = c.in-Err.ensures.answer;
     fails = c.in-Err.ensures.fails;
     unwritten = c.in-Err.ensures.unwritten;
+    gone = c.in-Err.ensures.gone;
+    complete = c.in-Err.ensures.complete;
     lists = c.recover.ensures.lists;
     never_falls = c.recover.ensures.never_falls;
   };
@@ -28,6 +30,8 @@ returns-in-Ok g c = record {
     counts = c.in-Ok.ensures.answer;
     fails = c.in-Ok.ensures.fails;
     unwritten = c.in-Ok.ensures.unwritten;
+    gone = c.in-Ok.ensures.gone;
+    complete = c.in-Ok.ensures.complete;
     lists = c.recover.ensures.lists;
     never_falls = c.recover.ensures.never_falls;
   };
