@@ -1,6 +1,6 @@
 -- An entry is found by listing its folder.
 use Rattle.std.proofs.Common.{◌≡◌, ◌≢◌, ◌⊎◌, ◌<◌, ◌≤◌, ◌+◌, ◌-◌, ◌^◌, ℕ, Bool, true, false, List, [], ◌∷◌, ◌++◌, refl, sym, ◌∙◌, ap, subst, inl, inr, arith}
-use Rattle.std.specs.Prelude.{◌||◌, Option, Some, None, is_some, option_map, Result, Ok, Err, IfOk, IsErrOf}
+use Rattle.std.specs.Prelude.{◌||◌, Option, Some, None, IsTrue, is_some, option_map, Result, Ok, Err, IfOk, IfErr, IsErrOf}
 use Rattle.std.specs.List.{list_any}
 use Rattle.std.specs.Str.{bytes_eq}
 use Rattle.std.specs.Cmp.Lexicographic.{bytes_decides}
@@ -9,12 +9,17 @@ use Rattle.std.proofs.lemmas.Option.{same_Some}
 use Rattle.sd_io.specs.declared.meta.Kind.{Kind}
 use Rattle.sd_io.specs.declared.meta.RawEntry.{RawEntry}
 use Rattle.sd_io.specs.declared.fault.DiskFault.{DiskFault}
+use Rattle.sd_io.specs.declared.fault.DiskFault.TheVariants as disk
 use Rattle.sd_io.specs.declared.fault.DiskFault.TheVariants.{Failed, NoMemory}
 use Rattle.sd_io.specs.Tree.{Name, NameList, Node, Tree, IsTree, node_at}
+use Rattle.sd_io.specs.Count.{HasRisen}
 use Rattle.sd_io.specs.Files.{kind_of}
-use Rattle.sd_io.specs.Disk.{DiskState, OpenList, SameTree}
+use Rattle.sd_io.specs.Disk.{DiskState, OpenList, SameTree, HasCause}
 use Rattle.sd_io.specs.Lists.{IsOpen, IsUnfinished, IsFull, SameOtherLists, SameOpen, Opens, Closes, Tells, TellAll, ListsDirectory, Gives, GivesNext, HasNoneLeft}
-use Rattle.journal.specs.Finding.{FindsEntry, ListsFolder, LeavesLists, kind_at}
+use Rattle.sd_course.specs.Course.{course}
+use Rattle.file_exchange.specs.Causes.{HasCauseOf}
+use Rattle.file_exchange.proofs.CauseLemmas.{risen_since}
+use Rattle.journal.specs.Finding.{FindsEntry, ListsFolder, LeavesLists, LookFails, kind_at}
 
 -- ---- how far the list is read
 
@@ -169,3 +174,23 @@ lists_left s t u v number opens (list, is_open) others still later closes = reco
     by : (k : ℕ) → (k ≡ number) ⊎ (k ≢ number) → v.open_list k ≡ s.open_list k
     by k (inl e) = ap v.open_list e ∙ closes.closed ∙ sym opens.was_free ∙ ap s.open_list (sym e)
     by k (inr n) = closes.others k n ∙ others k n ∙ opens.others k n
+
+-- ---- why a look is refused
+
+pub look_refused : {T : Type 0} (tells : Bool) (s t : DiskState) (absent : Type 0) (f : DiskFault) → (IsTrue tells → IsErrOf {T = T} (Err f) disk.Absent → absent)
+    → (IsErrOf {T = T} (Err f) disk.Taken → ⊥) → HasCause {T = T} tells s t (Err f) → LookFails (course tells s t) absent f
+look_refused tells s t absent disk.Absent none taken cause = ((λ told. none told refl), (λ untold. inl (cause.absent untold refl)))
+look_refused tells s t absent disk.Taken none taken cause = absurd (taken refl)
+look_refused tells s t absent disk.Failed none taken cause = cause.failed refl
+look_refused tells s t absent disk.NoMemory none taken cause = tt
+
+-- a list that is read, between its opening and its closing
+pub listing_refused : {T : Type 0} (tells : Bool) (s t u v : DiskState) (absent : Type 0) (r : Result T DiskFault) → s.faults ≤ t.faults → v.faults ≡ u.faults
+    → HasCauseOf (λ fault. fault) tells t u r → IfErr r (LookFails (course tells s v) absent)
+listing_refused tells s t u v absent (Ok x) low same cause = tt
+listing_refused tells s t u v absent (Err disk.Absent) low same cause =
+    let (untold, rose) = cause.absent refl in
+    ((λ told. absurd (cc (sym told ∙ untold))), (λ same_untold. inl (omega (arith, low, same, rose))))
+listing_refused tells s t u v absent (Err disk.Taken) low same cause = absurd (cause.not_taken refl)
+listing_refused tells s t u v absent (Err disk.Failed) low same cause = risen_since s.faults t.faults v.faults low (subst (λ (n : ℕ). HasRisen t.faults n) (sym same) (cause.failed refl))
+listing_refused tells s t u v absent (Err disk.NoMemory) low same cause = tt

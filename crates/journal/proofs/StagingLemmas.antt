@@ -33,7 +33,7 @@ use Rattle.journal.specs.declared.fault.JournalFault.TheVariants as fault
 use Rattle.journal.specs.Faults.{of_disk}
 use Rattle.journal.specs.Beside.{LeavesBeside, KeepsAllButFree}
 use Rattle.journal.specs.Clearing.{IsStage}
-use Rattle.journal.specs.Planning.{IsChangeOf, AddsFiles, AddsStages, StagesFile, LeavesStage, ChangesIn, HaveChangesIn, CountStages, HasTooFew, LeadToFiles, MissesFile, IsCrowdedAt, IsNotStaged, AreNotStaged}
+use Rattle.journal.specs.Planning.{IsChangeOf, AddsFiles, AddsStages, StagesFile, LeavesStage, ChangesIn, HaveChangesIn, CountStages, HasTooFew, LeadToFiles, MissesFile, IsCrowdedAt, IsNotFound, IsNotStaged, AreNotStaged}
 use Rattle.journal.proofs.SameFilesLemmas.{none_stands, none_or_some, some_of, file_stands}
 use Rattle.journal.proofs.CauseLemmas.{more_since}
 use Rattle.journal.proofs.PlanningLemmas.{free_before, stood_no_stage}
@@ -194,12 +194,24 @@ free_at_most old now lines folder places a among none = record {
 
 -- ---- why one isn't staged
 
-pub found_fails : (change : Change) (tells : Bool) (s t : DiskState) (path : List ℕ) (refused : DiskFault) → HasFileCause (course tells s t) path (job.File refused) → IsNotStaged change (course tells s t) path (fault.File refused)
-found_fails change true s t path disk.Absent cause = inr (refl, (path, first path [], cause.0 refl))
-found_fails change false s t path disk.Absent cause = inl (cause.1 refl)
-found_fails change tells s t path disk.Taken cause = absurd cause
-found_fails change tells s t path disk.Failed cause = inl cause
-found_fails change tells s t path disk.NoMemory cause = absurd cause
+pub found_fails : (tells : Bool) (s t : DiskState) (path : List ℕ) (refused : DiskFault) → HasFileCause (course tells s t) path (job.File refused) → IsNotFound (course tells s t) path (fault.File refused)
+found_fails true s t path disk.Absent cause = inr (refl, (path, first path [], cause.0 refl))
+found_fails false s t path disk.Absent cause = inl (cause.1 refl)
+found_fails tells s t path disk.Taken cause = absurd cause
+found_fails tells s t path disk.Failed cause = inl cause
+found_fails tells s t path disk.NoMemory cause = absurd cause
+
+-- a file that isn't found isn't staged
+pub not_found : (change : Change) (tells : Bool) (s t : DiskState) (path : List ℕ) (refused : JournalFault) → IsNotFound (course tells s t) path refused → IsNotStaged change (course tells s t) path refused
+not_found change tells s t path fault.RootMissing fails = fails
+not_found change tells s t path (fault.File refused) fails = fails
+not_found change tells s t path fault.Pending fails = fails
+not_found change tells s t path (fault.TempName folder) fails = absurd fails
+not_found change tells s t path (fault.Unfinished job) fails = fails
+not_found change tells s t path fault.BadJournal fails = fails
+not_found change tells s t path (fault.StageMissing stage) fails = fails
+not_found change tells s t path (fault.StageDiffers stage planned found) fails = fails
+not_found change tells s t path fault.NoMemory fails = fails
 
 pub made_fails : {T : Type 0} (change : Change) (tells : Bool) (old s t : DiskState) (path : List ℕ) (refused : DiskFault) → old.faults ≤ s.faults → HasCauseOf {T = T} (λ f. f) tells s t (Err refused)
     → IsNotStaged change (course tells old t) path (of_disk refused)

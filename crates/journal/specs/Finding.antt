@@ -1,11 +1,14 @@
 -- An entry is found by listing its folder.
-use Rattle.std.specs.Prelude.{◌≡◌, ◌≤◌, ◌+◌, ◌++◌, ◌∷◌, [], ℕ, max, false, List, Option, Some, option_map}
+use Rattle.std.specs.Prelude.{◌≡◌, ◌≤◌, ◌+◌, ◌++◌, ◌∷◌, [], ℕ, max, false, List, Option, Some, option_map, ⊤}
 use Rattle.sd_io.specs.declared.meta.RawEntry.{RawEntry}
 use Rattle.sd_io.specs.declared.meta.Kind.{Kind}
+use Rattle.sd_io.specs.declared.fault.DiskFault.{DiskFault}
+use Rattle.sd_io.specs.declared.fault.DiskFault.TheVariants as disk
 use Rattle.sd_io.specs.Tree.{Name, NameList, Tree, node_at}
 use Rattle.sd_io.specs.Files.{kind_of}
 use Rattle.sd_io.specs.Lists.{TellAll, directory_of}
 use Rattle.sd_io.specs.Disk.{DiskState}
+use Rattle.sd_course.specs.Course.{Course, AsTold, DiskFailed}
 
 -- the kind of what stands at a place
 abbrev pub kind_at : Tree → NameList → Option Kind
@@ -22,6 +25,14 @@ pub record ListsFolder (state : DiskState) (number : ℕ) (folder : NameList) : 
   pub left : List RawEntry
   pub opened : state.open_list number ≡ Some (record { is_at_end = false; left = left })
   pub entries : TellAll state.tree folder (state.tree.order folder) left
+
+-- Why a look at the disk is refused: what it looks for is absent, for this cause alone where the disk tells its tree; or the disk counted a fault, or there
+-- is no memory left.
+abbrev pub LookFails : Course DiskState → Type 0 → DiskFault → Type 0
+LookFails d absent disk.Absent = AsTold d.tells absent (DiskFailed d)
+LookFails d absent disk.Taken = ⊥
+LookFails d absent disk.Failed = DiskFailed d
+LookFails d absent disk.NoMemory = ⊤
 
 -- The same lists are open as before, and at most one more was open in between. The count of listed entries didn't fall.
 pub record LeavesLists (old new : DiskState) : Type 0 where

@@ -1,11 +1,12 @@
 //! An entry, found by listing its folder.
 
-ghost use Rattle.std.specs.Prelude.{◌≡◌, ◌<◌, ◌≤◌, ◌++◌, ◌∷◌, [], IsTrue, IfOk, IfSome, IsErrOf};
+ghost use Rattle.std.specs.Prelude.{◌≡◌, ◌<◌, ◌≤◌, ◌++◌, ◌∷◌, [], IsTrue, IfOk, IfErr, IfSome, IsErrOf};
 ghost use Rattle.sd_io.specs.Tree.{NameList};
 ghost use Rattle.sd_io.specs.Disk.{SameTree};
 ghost use Rattle.sd_io.specs.Lists.{IsOpen, IsNoDirectory, SameOtherLists, SameOpen};
+ghost use Rattle.sd_course.specs.Course.{course};
 ghost use Rattle.file_exchange.specs.Causes.{HasCauseOf};
-ghost use Rattle.journal.specs.Finding.{FindsEntry, ListsFolder, LeavesLists, kind_at};
+ghost use Rattle.journal.specs.Finding.{FindsEntry, ListsFolder, LeavesLists, LookFails, kind_at};
 
 use sd_io::{Disk, DiskFault, Kind, ListId};
 use std::alloc::Global;
@@ -21,7 +22,7 @@ pub(crate) fn find_entry<D: Disk>(
 ) -> Result<Option<Kind>, DiskFault>
     ensures found { IsTrue D.tells → IfOk result (FindsEntry (D.state disk.old).tree folder.now name.now) }
     ensures listed { IfOk result (λ found. IfSome found (λ _. (D.state disk.old).listed < (D.state disk.new).listed)) }
-    ensures absent { IsTrue D.tells → IsErrOf result DiskFault.Absent → IsNoDirectory (D.state disk.old) folder.now }
+    ensures fails { IfErr result (LookFails (course D.tells (D.state disk.old) (D.state disk.new)) (IsNoDirectory (D.state disk.old) folder.now)) }
     ensures tree { SameTree (D.state disk.old) (D.state disk.new) }
     ensures lists { LeavesLists (D.state disk.old) (D.state disk.new) }
     ensures never_falls { (D.state disk.old).faults ≤ (D.state disk.new).faults }

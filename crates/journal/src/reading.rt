@@ -1,12 +1,13 @@
 //! The journal that stands in a root, and its stages, read.
 
-ghost use Rattle.std.specs.Prelude.{◌≡◌, ◌<◌, ◌≤◌, ◌↔◌, ◌++◌, ◌∷◌, [], false, IsTrue, IsSome, IfOk, IfErr, OnOk, IsErrOf, Some};
+ghost use Rattle.std.specs.Prelude.{◌≡◌, ◌<◌, ◌≤◌, ◌↔◌, ◌++◌, ◌∷◌, [], false, true, IsTrue, IsSome, IfOk, IfErr, OnOk, IsErrOf, Some};
 ghost use Rattle.sd_io.specs.Tree.{NameList};
 ghost use Rattle.sd_io.specs.Disk.{SameTree, SameLists, HasCause};
-ghost use Rattle.sd_io.specs.Files.{path_text, file_named};
+ghost use Rattle.sd_io.specs.Files.{path_text, file_named, LeadsNowhere};
 ghost use Rattle.sd_io.specs.Lists.{directory_of};
 ghost use Rattle.sd_course.specs.Course.{course};
 ghost use Rattle.change_phases.specs.Between.{journal_name};
+ghost use Rattle.journal.specs.Finding.{LookFails};
 ghost use Rattle.journal.specs.Reading.{ReadsJournal, JournalFails, IsStageThere, AreStagesThere, StageFails, FailsAtFirst};
 
 use crate::JournalFault;
@@ -25,6 +26,7 @@ pub(crate) fn journal_path<D: Disk>(
 ) -> Result<Text, DiskFault>
     ensures path { IsTrue D.tells → (folder : NameList) → directory_of (D.state disk.old).tree root.now ≡ Some folder
         → IfOk result (λ path. path ≡ path_text (folder ++ journal_name ∷ [])) }
+    ensures fails { IfErr result (LookFails (course D.tells (D.state disk.old) (D.state disk.new)) (LeadsNowhere (D.state disk.old) root.now true)) }
     ensures tree { SameTree (D.state disk.old) (D.state disk.new) }
     ensures lists { SameLists (D.state disk.old) (D.state disk.new) }
     ensures never_falls { (D.state disk.old).faults ≤ (D.state disk.new).faults }
