@@ -11,6 +11,7 @@ pub mod PlacingLemmas
 pub mod ClearingLemmas
 pub mod FinishingLemmas
 pub mod RecoveringLemmas
+pub mod CarryingLemmas
 pub mod FindingLemmas
 pub mod ReadingLemmas
 pub mod PlanningLemmas

@@ -1,22 +1,56 @@
 //! The journal that stands in a root, and its stages, read.
 
-ghost use Rattle.std.specs.Prelude.{◌≡◌, ◌<◌, ◌≤◌, ◌↔◌, ◌++◌, ◌∷◌, [], false, true, IsTrue, IsSome, IfOk, IfErr, OnOk, IsErrOf, Some};
+ghost use Rattle.std.specs.Prelude.{◌≡◌, ◌<◌, ◌≤◌, ◌↔◌, ◌++◌, ◌∷◌, [], false, true, IsTrue, IsSome, IfOk, IfErr, IfSome, OnOk, IsErrOf, Some};
 ghost use Rattle.sd_io.specs.Tree.{NameList};
 ghost use Rattle.sd_io.specs.Disk.{SameTree, SameLists, HasCause};
 ghost use Rattle.sd_io.specs.Files.{path_text, file_named, LeadsNowhere};
 ghost use Rattle.sd_io.specs.Lists.{directory_of};
 ghost use Rattle.sd_course.specs.Course.{course};
 ghost use Rattle.change_phases.specs.Between.{journal_name};
-ghost use Rattle.journal.specs.Finding.{LookFails};
-ghost use Rattle.journal.specs.Reading.{ReadsJournal, JournalFails, IsStageThere, AreStagesThere, StageFails, FailsAtFirst};
+ghost use Rattle.journal.specs.Finding.{LeavesLists, LookFails};
+ghost use Rattle.journal.specs.Reading.{ReadsJournal, JournalFails, IsStageThere, AreStagesThere, StageFails, FailsAtFirst, ReadsRoot};
+ghost use Rattle.journal.specs.Recovering.{RecoverFails};
 
 use crate::JournalFault;
+use crate::finding::find_entry;
+use crate::recovering::JOURNAL_NAME;
 use crate::stages::stage_path;
 use journal_text::{Journal, Line, read_journal};
 use sd_base::{NoMemory, Text};
 use sd_io::{Disk, DiskFault, Kind};
 use sd_plan::digest;
 use std::alloc::Global;
+
+/// A journal that stands in a root, and its path.
+#[derive(Drop)]
+pub(crate) struct Standing {
+    pub path: Text,
+    pub journal: Journal,
+}
+
+/// Reads the journal that stands in the directory that a root leads to, and all its stages. `None` where nothing stands in its place. Nothing is
+/// written.
+pub(crate) fn read_in_root<D: Disk>(
+    alloc: Global,
+    disk: &mut D,
+    root: &str,
+) -> Result<Option<Standing>, JournalFault>
+    requires { IsTrue D.tells → IsSome (directory_of (D.state disk.old).tree root.now) }
+    ensures read { IsTrue D.tells → IfOk result (ReadsRoot (D.state disk.old).tree root.now) }
+    ensures listed { IfOk result (λ found. IfSome found (λ _. (D.state disk.old).listed < (D.state disk.new).listed)) }
+    ensures fails { IfErr result (RecoverFails (course D.tells (D.state disk.old) (D.state disk.new)) root.now) }
+    ensures tree { IsTrue D.tells → SameTree (D.state disk.old) (D.state disk.new) }
+    ensures lists { LeavesLists (D.state disk.old) (D.state disk.new) }
+    ensures never_falls { (D.state disk.old).faults ≤ (D.state disk.new).faults }
+{
+    let Some(kind) = find_entry(alloc, disk, root, JOURNAL_NAME)? else {
+        return Ok(None);
+    };
+    let path = journal_path(alloc, disk, root)?;
+    let journal = read_standing(alloc, disk, path.as_str(), kind)?;
+    check_stages(alloc, disk, &journal)?;
+    Ok(Some(Standing { path, journal }))
+}
 
 /// The path of the journal in the directory that a root leads to.
 pub(crate) fn journal_path<D: Disk>(
@@ -46,6 +80,7 @@ pub(crate) fn read_standing<D: Disk>(
     path: &str,
     kind: Kind,
 ) -> Result<Journal, JournalFault>
+    ensures is_file { OnOk result (kind ≡ Kind.File) }
     ensures read { IsTrue D.tells → IfOk result (λ journal. ReadsJournal (D.state disk.old).tree path.now journal) }
     ensures fails { IfErr result (JournalFails (course D.tells (D.state disk.old) (D.state disk.new)) path.now kind) }
     ensures tree { SameTree (D.state disk.old) (D.state disk.new) }
@@ -110,6 +145,7 @@ fn is_file_there<D: Disk>(disk: &mut D, path: &str) -> Result<bool, DiskFault>
     ensures there { IsTrue D.tells → IfOk result (λ there. IsTrue there ↔ IsSome (file_named (D.state disk.old).tree path.now)) }
     ensures counted { D.tells ≡ false → IfOk result (λ there. there ≡ false → (D.state disk.old).faults < (D.state disk.new).faults) }
     ensures not_absent { IsErrOf result DiskFault.Absent → ⊥ }
+    ensures not_taken { IsErrOf result DiskFault.Taken → ⊥ }
     ensures tree { IsTrue D.tells → SameTree (D.state disk.old) (D.state disk.new) }
     ensures lists { SameLists (D.state disk.old) (D.state disk.new) }
     ensures cause { HasCause D.tells (D.state disk.old) (D.state disk.new) result }

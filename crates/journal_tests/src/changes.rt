@@ -9,7 +9,7 @@ use std::process::Abort;
 use std::test::Fail;
 
 /// A disk with `/t/a/x` and `/t/y`, both "one".
-fn two_files(alloc: Global) -> Result<MemDisk, Fail> {
+pub(crate) fn two_files(alloc: Global) -> Result<MemDisk, Fail> {
     let mut disk = MemDisk::new(alloc);
     disk.add_dir("/t")?;
     disk.add_dir("/t/a")?;
@@ -33,7 +33,7 @@ fn change(alloc: Global, disk: &mut MemDisk, paths: &[Text]) -> Result<(), Journ
 }
 
 /// Whether the file at a path holds these bytes.
-fn holds(alloc: Global, disk: &MemDisk, path: &str, bytes: &[u8]) -> Result<bool, Fail> {
+pub(crate) fn holds(alloc: Global, disk: &MemDisk, path: &str, bytes: &[u8]) -> Result<bool, Fail> {
     match disk.read_all(alloc, path)? {
         None => Ok(false),
         Some(held) => Ok(held.as_slice() == bytes),

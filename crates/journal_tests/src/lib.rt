@@ -4,4 +4,6 @@
 #[cfg(test)]
 mod changes;
 #[cfg(test)]
+mod recoveries;
+#[cfg(test)]
 mod replacers;

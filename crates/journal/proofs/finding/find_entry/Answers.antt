@@ -1,7 +1,5 @@
-use Rattle.std.proofs.Common.{◌∙◌}
 use Rattle.sd_io.specs.Lists.{IsNoDirectory}
 use Rattle.journal.proofs.FindingLemmas.{opened_list, entry_found, look_refused, listing_refused}
-use Rattle.journal.proofs.ReadingLemmas.{refused_as}
 use Rattle.journal.proofs.finding.find_entry.Goals as goal
 
 pub returns-clause-found : goal.returns-clause-found

@@ -1,7 +1,4 @@
-use Rattle.std.proofs.Common.{true, ◌∙◌, sym}
-use Rattle.sd_io.specs.Files.{LeadsNowhere}
-use Rattle.journal.proofs.FindingLemmas.{look_refused}
-use Rattle.journal.proofs.CauseLemmas.{told_on}
+use Rattle.std.proofs.Common.{◌∙◌, sym}
 use Rattle.journal.proofs.ReadingLemmas.{top_path, folder_path_is}
 use Rattle.journal.proofs.reading.journal_path.Goals as goal
 use Rattle.journal.proofs.reading.journal_path.Goals.{in-text, in_default}
@@ -20,10 +17,3 @@ returns-clause-path g c =
           c.from.ensures ∙ (rw (w.folder-is, same) at c.in_ok-format.ensures.ok)
           ∙ folder_path_is s c.args.root.now c.in_ok-folder.folder folder resolves leads (λ slash. w.in_default.not-text (same ∙ slash))
     ]
-
-pub returns-in_err-folder-clause-fails : goal.returns-in_err-folder-clause-fails
-returns-in_err-folder-clause-fails g c =
-    let s = g.D.Disk.state c.args.disk.now in
-    told_on _ c.from_residual-in_err-folder.result _ c.from_residual-in_err-folder.ensures.1
-    (look_refused g.D.Disk.tells s (g.D.Disk.state c.resolve.new.self) (LeadsNowhere s c.args.root.now true) c.in_err-folder.field-0.0 c.in_err-folder.ensures.absent c.in_err-folder.ensures.not_taken
-    c.in_err-folder.ensures.cause)

@@ -7,7 +7,7 @@ pub returns-in_err-bytes-clause-fails : goal.returns-in_err-bytes-clause-fails
 returns-in_err-bytes-clause-fails g c =
     refused_as _ c.from_residual.result _ c.from_residual.ensures.1
     (read_refused g.D.Disk.tells (g.D.Disk.state c.args.disk.now) (g.D.Disk.state c.read_file.new.self) c.args.path.now c.args.kind c.in_err-bytes.field-0.0
-    c.in_err-bytes.ensures.absent c.in_err-bytes.ensures.not_taken c.in_err-bytes.ensures.cause)
+    (c.is_file.ensures.0 c.if-not-is_file.false) c.in_err-bytes.ensures.absent c.in_err-bytes.ensures.not_taken c.in_err-bytes.ensures.cause)
 
 pub returns-in_err-read_journal-clause-fails : goal.returns-in_err-read_journal-clause-fails
 returns-in_err-read_journal-clause-fails g c =
