@@ -1,4 +1,4 @@
-use Rattle.std.proofs.Common.{true, ℕ, List, sym, ◌∙◌, ap, subst, arith}
+use Rattle.std.proofs.Common.{true, ◌≤◌, ℕ, List, sym, ◌∙◌, ap, subst, arith}
 use Rattle.std.specs.Prelude.{IsTrue, IsSome}
 use Rattle.std.specs.List.{AllByRecursion}
 use Rattle.sd_io.specs.Tree.{Tree}
@@ -294,8 +294,8 @@ returns-clause-fails g c =
           paths_stand = c.in_ok-journal.ensures.paths told;
           same = (c.sync_folders.ensures.kept told).tree ∙ c.journal_path.ensures.tree.tree;
         } in
-    let low = omega (arith, c.in_ok-journal.ensures.never_falls, c.journal_path.ensures.never_falls, c.sync_folders.ensures.never_falls) in
-    let low_w = omega (arith, c.in_ok-journal.ensures.never_falls, c.journal_path.ensures.never_falls, c.sync_folders.ensures.never_falls, c.write_beside.ensures.never_falls) in
+    let low : s.faults ≤ v.faults = omega (arith, c.in_ok-journal.ensures.never_falls, c.journal_path.ensures.never_falls, c.sync_folders.ensures.never_falls) in
+    let low_w : s.faults ≤ w.faults = omega (arith, c.in_ok-journal.ensures.never_falls, c.journal_path.ensures.never_falls, c.sync_folders.ensures.never_falls, c.write_beside.ensures.never_falls) in
     told_err (IsUnfinished change paths (course g.D.Disk.tells s x)) (MakingFails change root paths (course g.D.Disk.tells s x)) _ c.name_and_finish.result c.map_err.result c.map_err.ensures.cases
     (end_making change g.D.Disk.tells paths root path c.as_str-2.result.now lines s t v w x c.in_ok-temporary.temporary c.as_str-3.result.now c.name_and_finish.result
     (c.as_str.ensures.same ∙ sym c.as_str-2.ensures.same) (sym c.as_str-3.ensures.same) ready low low_w c.in_ok-temporary.ensures.tree (g.met.D.Disk.is_tree c.make_stages.new.disk) c.name_and_finish.ensures.fails)
