@@ -1,10 +1,11 @@
 use Rattle.std.proofs.Common.{◌<◌, sym, ◌∙◌, ap, subst, arith}
-use Rattle.std.specs.Prelude.{None, is_some}
+use Rattle.std.specs.Prelude.{None, Err, is_some}
 use Rattle.sd_io.specs.Tree.{Tree}
 use Rattle.sd_io.specs.Lists.{IsNoDirectory}
 use Rattle.change_phases.specs.Between.{journal_name}
 use Rattle.journal.specs.Finding.{FindsEntry}
 use Rattle.journal.specs.Changing.{IsPending, ComesFirst}
+use Rattle.journal.specs.declared.fault.JournalFault.TheVariants as fault
 use Rattle.journal.proofs.RecoveringLemmas.{between_on, same_trees}
 use Rattle.journal.proofs.ChangingLemmas.{preparing_between, looked_keeps, synced_keeps, synced_still, exchanged_before, root_none}
 use Rattle.journal.proofs.FileLemmas.{ok_then}
@@ -215,7 +216,7 @@ returns-then-is_some-clause-fails g c =
 pub returns-then-is_some-clause-complete : goal.returns-then-is_some-clause-complete
 returns-then-is_some-clause-complete g c =
     λ told work b room no_fault.
-    complete (g.R.Replaces.change c.args.replacer.now) g.D.Disk.tells work c.args.root.now c.args.paths.now (g.D.Disk.state c.args.disk.now) (g.D.Disk.state c.find_entry.new.disk) _ told b room no_fault
+    complete {T = Unit {0}} (g.R.Replaces.change c.args.replacer.now) g.D.Disk.tells work c.args.root.now c.args.paths.now (g.D.Disk.state c.args.disk.now) (g.D.Disk.state c.find_entry.new.disk) (Err fault.Pending) told b room no_fault
     (returns-then-is_some-clause-fails g c)
 
 pub returns-clause-fails : goal.returns-clause-fails
