@@ -1,6 +1,6 @@
 -- Why a step that carries a change out is refused.
-use Rattle.std.proofs.Common.{true, false, Bool, ◌≡◌, ◌≢◌, ◌≤◌, ◌+◌, ℕ, List, [], ◌∷◌, refl, sym, ◌∙◌, ap, subst, ◌⊎◌, inl, inr, arith}
-use Rattle.std.specs.Prelude.{◌==◌, ◌&&◌, Option, Some, None, IsSome, IsTrue, Contains, Result, Ok, Err, IsErrOf, IsErrAnd, IfErr, OnOk}
+use Rattle.std.proofs.Common.{true, false, Bool, ◌≡◌, ◌≤◌, ℕ, List, [], ◌∷◌, refl, sym, ◌∙◌, ap, subst, ◌⊎◌, inl, inr, arith}
+use Rattle.std.specs.Prelude.{◌==◌, ◌&&◌, None, IsTrue, Contains, Result, Ok, Err, IsErrOf, IsErrAnd, IfErr, OnOk}
 use Rattle.std.specs.List.{list_all, join_with_byte}
 use Rattle.std.proofs.lemmas.Map.Views.{exact_unsigned_eq}
 use Rattle.sd_io.specs.declared.fault.DiskFault.{DiskFault}

@@ -1,29 +1,24 @@
 -- Why a change isn't made, and when nothing but want of memory refuses it.
-use Rattle.std.proofs.Common.{true, false, Bool, ◌≡◌, ◌≢◌, ◌<◌, ◌≤◌, ◌+◌, ℕ, List, [], ◌∷◌, ◌++◌, length, if◌then◌else◌, refl, sym, ◌∙◌, ap, subst, ◌⊎◌, inl, inr, arith}
+use Rattle.std.proofs.Common.{true, false, Bool, ◌≡◌, ◌≢◌, ◌≤◌, ℕ, List, [], ◌∷◌, ◌++◌, length, if◌then◌else◌, refl, sym, ◌∙◌, ap, subst, inl, inr, arith}
 use Rattle.std.specs.Prelude.{Option, Some, None, IsSome, is_some, IsTrue, ◌↔◌, option_map, IfSome, Contains, Result, Ok, Err, IfErr, IsErrAnd, MatchResult}
 use Rattle.std.specs.Option.{option_and_then}
-use Rattle.std.specs.List.{IsDistinct}
-use Rattle.std.specs.Cmp.{IsEquivalence}
-use Rattle.std.specs.Set.{is_member}
 use Rattle.std.proofs.lemmas.Option.{same_Some}
 use Rattle.sd_io.specs.declared.fault.DiskFault.{DiskFault}
 use Rattle.sd_io.specs.declared.fault.DiskFault.TheVariants as disk
 use Rattle.sd_io.specs.declared.meta.Kind.{Kind}
 use Rattle.sd_io.specs.Tree.{NameList, Node, Tree, IsTree, node_at, file_node, file_at, is_directory_at}
-use Rattle.sd_io.specs.Paths.{parts_of, parent_of, reached, named, way_of_node, SameWays}
-use Rattle.sd_io.specs.Outcomes.{same_place}
+use Rattle.sd_io.specs.Paths.{parts_of, parent_of, way_of_node, SameWays}
 use Rattle.sd_io.specs.Disk.{DiskState, SameTree, HoldsPresent}
 use Rattle.sd_io.specs.Files.{path_text, file_of, kind_of, LeadsNowhere}
 use Rattle.sd_io.specs.Lists.{directory_of, IsNoDirectory, SyncsFolder}
 use Rattle.sd_io.proofs.WayLemmas.{same_or_other, ways_kept, file_has_no_way, directory_alike}
 use Rattle.sd_io.proofs.OutcomeLemmas.{parent_of_child}
-use Rattle.sd_course.specs.Course.{course, AsTold, HasRisenBy}
+use Rattle.sd_course.specs.Course.{course}
 use Rattle.sd_change.specs.Change.{Change}
-use Rattle.file_exchange.specs.Reserved.{Free, NoneFree, Reserved, reserved_name, reserved_names}
+use Rattle.file_exchange.specs.Reserved.{Free, NoneFree, reserved_name, reserved_names}
 use Rattle.file_exchange.specs.Exchange.{IsFilePath}
 use Rattle.file_exchange.proofs.CauseLemmas.{risen_since}
 use Rattle.file_exchange.proofs.PlaceLemmas.{placed}
-use Rattle.file_rewrite.specs.OneFile.{FreeAtMost}
 use Rattle.file_rewrite.specs.declared.fault.JobFault.{JobFault}
 use Rattle.file_rewrite.specs.declared.fault.JobFault.TheVariants as job
 use Rattle.journal_text.specs.declared.line.Line.{Line}
@@ -36,13 +31,12 @@ use Rattle.journal.specs.Beside.{KeepsAllButFree, AddsBeside}
 use Rattle.journal.specs.Finding.{FindsEntry, LookFails, kind_at}
 use Rattle.journal.specs.Recovering.{RootFails}
 use Rattle.journal.specs.Clearing.{SyncingFails, LeavesNoMore, IsStage}
-use Rattle.journal.specs.Planning.{AddsFiles, AddsStages, CountStages, HaveChangesIn, HasTooFew, LeadToFiles, MissesFile, AreNotStaged}
-use Rattle.journal.specs.Changing.{IsPending, ComesFirst, WritingFails, IsWritten, IsLineCrowded, EndFails, IsTooCrowded, IsFilledUp, IsUnfinished, LeavesAllButFree, MakingFails, ChangeFails, HasFree, HasRoomFor, WantsMemory}
+use Rattle.journal.specs.Planning.{AddsFiles, AddsStages, CountStages, LeadToFiles, MissesFile, AreNotStaged}
+use Rattle.journal.specs.Changing.{IsPending, ComesFirst, WritingFails, IsWritten, IsLineCrowded, EndFails, IsTooCrowded, IsFilledUp, IsUnfinished, LeavesAllButFree, MakingFails, ChangeFails}
 use Rattle.journal.proofs.ClearingLemmas.{no_more_same, no_more_then, no_more_synced}
-use Rattle.journal.proofs.SameFilesLemmas.{none_stands, none_or_some, file_stands}
+use Rattle.journal.proofs.SameFilesLemmas.{none_stands, file_stands}
 use Rattle.journal.proofs.CauseLemmas.{more_since, no_folder_no_file}
-use Rattle.journal.proofs.StagingLemmas.{stage_or_not, free_at_most, free_then, free_same}
-use Rattle.journal.proofs.ChangingLemmas.{journal_folder}
+use Rattle.journal.proofs.StagingLemmas.{stage_or_not, free_at_most, free_same}
 
 -- ---- the stages aren't made
 

@@ -1,6 +1,6 @@
 -- Why stages aren't made, and what is left then.
-use Rattle.std.proofs.Common.{true, false, Bool, ◌≡◌, ◌≢◌, ◌<◌, ◌≤◌, ◌+◌, ℕ, zero, suc, List, [], ◌∷◌, ◌++◌, length, take, drop, get_or, refl, sym, ◌∙◌, ap, subst, ◌⊎◌, inl, inr, arith}
-use Rattle.std.specs.Prelude.{Option, Some, None, IsSome, is_some, IsTrue, Contains, slice_get, Result, Ok, Err, IsErrOf, IsErrAnd, IfErr}
+use Rattle.std.proofs.Common.{true, false, Bool, ◌≡◌, ◌≢◌, ◌≤◌, ◌+◌, ℕ, zero, suc, List, [], ◌∷◌, ◌++◌, length, take, drop, refl, sym, ◌∙◌, ap, subst, ◌⊎◌, inl, inr, arith}
+use Rattle.std.specs.Prelude.{Option, Some, None, IsSome, IsTrue, Contains, slice_get, Err}
 use Rattle.std.specs.Option.{option_and_then}
 use Rattle.std.proofs.lemmas.Option.{same_Some, get_or_from_slice_get, slice_get_within}
 use Rattle.std.proofs.lemmas.List.{take-append-drop, take_all, take_more, length-append}
@@ -14,29 +14,27 @@ use Rattle.sd_io.specs.Files.{path_text, file_of}
 use Rattle.sd_io.proofs.OutcomeLemmas.{parent_of_child}
 use Rattle.sd_io.proofs.WayLemmas.{same_or_other, reached_still}
 use Rattle.sd_change.specs.Change.{Change, FileChange}
-use Rattle.sd_course.specs.Course.{course, HasRisenBy}
+use Rattle.sd_course.specs.Course.{course}
 use Rattle.file_exchange.specs.Causes.{HasCauseOf}
-use Rattle.file_exchange.specs.Reserved.{Free, FirstFree, NoneFree, Reserved, IsFolderPath, reserved_name, reserved_names}
+use Rattle.file_exchange.specs.Reserved.{Free, NoneFree, IsFolderPath, reserved_name, reserved_names}
 use Rattle.file_exchange.specs.Exchange.{IsPathIn}
 use Rattle.file_exchange.specs.Crash.{Exchange}
 use Rattle.file_exchange.proofs.CauseLemmas.{risen_since}
 use Rattle.file_exchange.proofs.PlaceLemmas.{is_free, is_beside}
 use Rattle.file_rewrite.specs.Reading.{FindsFile}
-use Rattle.file_rewrite.specs.OneFile.{HasFileCause, IsFileFault, FreeAtMost}
-use Rattle.file_rewrite.specs.declared.fault.JobFault.{JobFault}
+use Rattle.file_rewrite.specs.OneFile.{HasFileCause, FreeAtMost}
 use Rattle.file_rewrite.specs.declared.fault.JobFault.TheVariants as job
 use Rattle.journal_text.specs.declared.line.Line.{Line}
-use Rattle.change_phases.specs.Between.{place_of, stage_of, IsLineOf}
+use Rattle.change_phases.specs.Between.{place_of, stage_of}
 use Rattle.change_phases.proofs.LineLemmas.{first, later}
 use Rattle.journal.specs.declared.fault.JournalFault.{JournalFault}
 use Rattle.journal.specs.declared.fault.JournalFault.TheVariants as fault
 use Rattle.journal.specs.Faults.{of_disk}
 use Rattle.journal.specs.Beside.{LeavesBeside, KeepsAllButFree}
 use Rattle.journal.specs.Clearing.{IsStage}
-use Rattle.journal.specs.Planning.{IsChangeOf, AddsFiles, AddsStages, StagesFile, LeavesStage, ChangesIn, HaveChangesIn, CountStages, HasTooFew, LeadToFiles, MissesFile, IsCrowdedAt, IsNotFound, IsNotStaged, AreNotStaged}
-use Rattle.journal.proofs.SameFilesLemmas.{none_stands, none_or_some, some_of, file_stands}
+use Rattle.journal.specs.Planning.{IsChangeOf, AddsFiles, AddsStages, StagesFile, LeavesStage, ChangesIn, HaveChangesIn, CountStages, HasTooFew, LeadToFiles, IsCrowdedAt, IsNotFound, IsNotStaged, AreNotStaged}
+use Rattle.journal.proofs.SameFilesLemmas.{none_stands, none_or_some, file_stands}
 use Rattle.journal.proofs.CauseLemmas.{more_since}
-use Rattle.journal.proofs.PlanningLemmas.{free_before, stood_no_stage}
 
 -- ---- all but reserved names that were free
 

@@ -1,4 +1,4 @@
-use Rattle.std.proofs.Common.{List, ◌≡◌, ℕ, true, inl, inr, refl, ◌∙◌, ap, sym, subst, arith}
+use Rattle.std.proofs.Common.{List, ◌≡◌, true, inl, inr, refl, ◌∙◌, ap, sym, subst, arith}
 use Rattle.std.specs.Prelude.{IsTrue, is_some}
 use Rattle.sd_io.specs.Tree.{Tree}
 use Rattle.sd_io.specs.Paths.{reached}
