@@ -13,6 +13,7 @@ ghost use Rattle.change_phases.specs.Phases.{naming, cleared, IsIn};
 ghost use Rattle.journal.specs.Keeping.{AreRootPaths, IsSettledIn, KeepsPhase, KeepsBetween};
 ghost use Rattle.journal.specs.Finding.{LeavesLists};
 ghost use Rattle.journal.specs.Finishing.{StagesAreGone};
+ghost use Rattle.journal.specs.Clearing.{LeavesNoMore};
 ghost use Rattle.journal.specs.Beside.{KeepsAllButFree, AddsBeside};
 ghost use Rattle.journal.specs.Naming.{MayBeNamed};
 ghost use Rattle.journal.specs.Changing.{IsChangeBelow, MayChange, IsChanged, ExchangesFiles, LeavesNothing, WritingFails, IsWritten, EndFails, MakingFails, ChangeFails, IsPending, ComesFirst, HasRoomFor, WantsMemory};
@@ -38,7 +39,8 @@ use std::alloc::Global;
 /// them old, or all of them new. A file whose bytes don't change is left alone; where none changes, or the root leads to a node that is no
 /// directory, nothing is written.
 ///
-/// Refuses `RootMissing` where the root leads to no node, and `Pending` where something stands in the journal's place; nothing was written then.
+/// Refuses `RootMissing` where the root leads to no node, and `Pending` where something stands in the journal's place; nothing was written then. A
+/// counted fault and want of memory may come first.
 /// Refuses `TempName` where a folder has fewer free reserved names than files that change, one more counted for the root; `File` with a counted
 /// fault, or where a path leads to no regular file; and for want of memory. All but reserved names that were free is then as it was. `Unfinished`
 /// comes from the step on that gives the journal its name: the change is to be recovered.
@@ -62,6 +64,7 @@ pub fn change_files<D: Disk, R: Replaces>(
         → OnOk result (ExchangesFiles work.files (D.state disk.old).tree (D.state disk.new).tree) }
     ensures fails { IfErr result (ChangeFails (R.change replacer.now) root.now paths.now (course D.tells (D.state disk.old) (D.state disk.new))) }
     ensures pending { IsTrue D.tells → IsPending (D.state disk.old).tree root.now → IsErrAnd result ComesFirst }
+    ensures unwritten { IsTrue D.tells → IsPending (D.state disk.old).tree root.now → LeavesNoMore (D.state disk.old) (D.state disk.new) }
     ensures complete { IsTrue D.tells → (work : Work) → IsChangeBelow (R.change replacer.now) work root.now paths.now (D.state disk.old)
         → HasRoomFor (R.change replacer.now) (D.state disk.old).tree root.now paths.now
         → (DiskFailed (course D.tells (D.state disk.old) (D.state disk.new)) → ⊥) → IfErr result WantsMemory }

@@ -11,6 +11,7 @@ use Rattle.journal.proofs.ChangingLemmas.{preparing_between, looked_keeps, synce
 use Rattle.journal.proofs.FileLemmas.{ok_then}
 use Rattle.journal.proofs.CauseLemmas.{told_on}
 use Rattle.journal.proofs.FindingLemmas.{look_refused}
+use Rattle.journal.proofs.ClearingLemmas.{no_more_same}
 use Rattle.journal.proofs.MakingLemmas.{root_fails, root_first, root_none_now, told_on_err, look_fails, no_directory_now, disk_first, looked_at, pending_if, listed_if, none_if, none_found, not_pending, making_change}
 use Rattle.journal.proofs.RoomLemmas.{complete}
 use Rattle.journal.proofs.changing.change_files.Goals as goal
@@ -244,3 +245,39 @@ returns-clause-complete g c =
     λ told work b room no_fault.
     complete (g.R.Replaces.change c.args.replacer.now) g.D.Disk.tells work c.args.root.now c.args.paths.now (g.D.Disk.state c.args.disk.now) (g.D.Disk.state c.make_change.new.disk) _ told b room no_fault
     (returns-clause-fails g c)
+
+-- ---- where a journal is pending nothing is written
+
+pub returns-in_err-is_directory-clause-unwritten : goal.returns-in_err-is_directory-clause-unwritten
+returns-in_err-is_directory-clause-unwritten g c = λ told pending. no_more_same (g.D.Disk.state c.args.disk.now) (g.D.Disk.state c.is_directory.new.disk) c.is_directory.ensures.tree
+
+pub returns-then-not-branch-clause-unwritten : goal.returns-then-not-branch-clause-unwritten
+returns-then-not-branch-clause-unwritten g c = λ told pending. no_more_same (g.D.Disk.state c.args.disk.now) (g.D.Disk.state c.is_directory.new.disk) c.is_directory.ensures.tree
+
+pub returns-in_err-sync_dir-clause-unwritten : goal.returns-in_err-sync_dir-clause-unwritten
+returns-in_err-sync_dir-clause-unwritten g c =
+    λ told pending.
+    let s = g.D.Disk.state c.args.disk.now in
+    let s1 = g.D.Disk.state c.is_directory.new.disk in
+    let s2 = g.D.Disk.state c.sync_dir.new.self in
+    no_more_same s s2 (same_trees s s1 s2 c.is_directory.ensures.tree c.in_err-sync_dir.ensures.refused)
+
+pub returns-in_err-find_entry-clause-unwritten : goal.returns-in_err-find_entry-clause-unwritten
+returns-in_err-find_entry-clause-unwritten g c =
+    λ told pending.
+    looked_at (g.D.Disk.state c.args.disk.now) (g.D.Disk.state c.is_directory.new.disk) (g.D.Disk.state c.sync_dir.new.self) (g.D.Disk.state c.find_entry.new.disk) c.args.root.now
+    (g.met.D.Disk.holds_present c.is_directory.new.disk told) c.is_directory.ensures.tree (c.in_ok-sync_dir.ensures.synced told) c.find_entry.ensures.tree
+
+pub returns-then-is_some-clause-unwritten : goal.returns-then-is_some-clause-unwritten
+returns-then-is_some-clause-unwritten g c =
+    λ told pending.
+    looked_at (g.D.Disk.state c.args.disk.now) (g.D.Disk.state c.is_directory.new.disk) (g.D.Disk.state c.sync_dir.new.self) (g.D.Disk.state c.find_entry.new.disk) c.args.root.now
+    (g.met.D.Disk.holds_present c.is_directory.new.disk told) c.is_directory.ensures.tree (c.in_ok-sync_dir.ensures.synced told) c.find_entry.ensures.tree
+
+pub returns-clause-unwritten : goal.returns-clause-unwritten
+returns-clause-unwritten g c =
+    λ told pending.
+    let s2 = g.D.Disk.state c.sync_dir.new.self in
+    let same = (c.in_ok-sync_dir.ensures.synced told).tree ∙ c.is_directory.ensures.tree.tree in
+    let found = none_if s2.tree c.args.root.now c.in_ok-find_entry.field-0 c.is_some.result c.is_some.ensures c.if-is_some.false (c.in_ok-find_entry.ensures.found told) in
+    absurd (not_pending s2.tree c.args.root.now found (subst (λ (t : Tree). IsPending t c.args.root.now) (sym same) pending))
