@@ -144,7 +144,7 @@ module _ (tells : Bool) (lines : List Line) (temporary path root : List ℕ) (s 
             let (line, has, lacks) = fails.0 told in
             absurd (elim lacks [
               | inl none ↦ none_stands (file_of t.tree line.path) none
-                (subst IsSome (sym (ap (option_and_then (file_at t.tree)) (place_is_file told line has).0)) (place_is_file told line has).1)
+                  (subst IsSome (sym (ap (option_and_then (file_at t.tree)) (place_is_file told line has).0)) (place_is_file told line has).1)
               | inr none ↦ none_stands (file_of t.tree (path_text (stage_of line))) none (stage_is_file told (is_t told) line has)
             ])
         by false untold = risen_since s.faults t.faults x.faults low (fails.1 untold)

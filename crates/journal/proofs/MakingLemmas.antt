@@ -111,13 +111,16 @@ module _ (change : Change) (tells : Bool) (paths : List (List ℕ)) (root path :
           record {
             folder = r.folder;
             text_is = is ∙ ap path_text r.folder_is;
-            too_few = inr (r.leads, record {
-              changed = length places;
-              changes = have;
-              free = length places;
-              few = free_at_most s.tree t.tree lines r.folder places r.stages among none_free;
-              fewer = omega arith;
-            });
+            too_few = inr (
+              r.leads,
+              record {
+                changed = length places;
+                changes = have;
+                free = length places;
+                few = free_at_most s.tree t.tree lines r.folder places r.stages among none_free;
+                fewer = omega arith;
+              },
+            );
           }),
       (λ untold. more_since reserved_names s.faults v.faults w.faults low (fails.1 untold)),
     ),

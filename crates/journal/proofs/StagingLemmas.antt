@@ -142,8 +142,7 @@ module _ (change : Change) (old now next : DiskState) (paths : List (List ℕ)) 
   -- a file was passed over
   pub count_same : longer ≡ lines → CountStages change old.tree (take (n + 1) paths) longer
   count_same e folder =
-      let (places, have, among) = counted folder in
-      (
+      let (places, have, among) = counted folder in (
         places,
         subst (λ (ps : List (List ℕ)). HaveChangesIn change old.tree folder ps (length places)) (sym taken) (more_paths change old.tree folder (take n paths) (path ∷ []) (length places) have),
         (λ line has of. among line (subst (λ (ls : List Line). Contains ls line) e has) of),
@@ -158,8 +157,8 @@ module _ (change : Change) (old now next : DiskState) (paths : List (List ℕ)) 
         | inl here ↦ (
           places ++ stage_of line ∷ [],
           subst (λ (k : ℕ). HaveChangesIn change old.tree folder (take (n + 1) paths) k) (sym (length-append places (stage_of line ∷ [])))
-          (subst (λ (ps : List (List ℕ)). HaveChangesIn change old.tree folder ps (length places + 1)) (sym taken)
-          (one_more change old.tree folder (take n paths) path (length places) have (m.f, was, ap parent_of (sym m.of.place) ∙ here))),
+              (subst (λ (ps : List (List ℕ)). HaveChangesIn change old.tree folder ps (length places + 1)) (sym taken)
+              (one_more change old.tree folder (take n paths) path (length places) have (m.f, was, ap parent_of (sym m.of.place) ∙ here))),
           (λ other has of. elim (Contains-push_cases lines line other (subst (λ (ls : List Line). Contains ls other) pushed has)) [
             | inl before ↦ Contains-append_left places (stage_of line ∷ []) (stage_of other) (among other before of)
             | inr same ↦ Contains-append_right places (stage_of line ∷ []) (stage_of other) (subst (λ (l : Line). Contains (stage_of line ∷ []) (stage_of l)) same (first (stage_of line) []))
@@ -249,8 +248,7 @@ module _ (change : Change) (tells : Bool) (old now new : DiskState) (paths : Lis
       let one : HaveChangesIn change old.tree folder (take n paths ++ path ∷ []) (length places + 1) = one_more change old.tree folder (take n paths) path (length places) have (c.f, was, refl) in
       let taken : take (n + 1) paths ≡ take n paths ++ path ∷ [] = take_more paths n path (slice_get_within paths n path at) ∙ ap (λ (p : List ℕ). take n paths ++ p ∷ []) (get_or_from_slice_get paths n path path at) in
       let all : HaveChangesIn change old.tree folder (take (n + 1) paths ++ drop (n + 1) paths) (length places + 1) =
-      more_paths change old.tree folder (take (n + 1) paths) (drop (n + 1) paths) (length places + 1) (subst (λ (ps : List (List ℕ)). HaveChangesIn change old.tree folder ps (length places + 1)) (sym taken) one) in
-      (
+      more_paths change old.tree folder (take (n + 1) paths) (drop (n + 1) paths) (length places + 1) (subst (λ (ps : List (List ℕ)). HaveChangesIn change old.tree folder ps (length places + 1)) (sym taken) one) in (
         folder,
         c.folder_is,
         record {

@@ -201,8 +201,7 @@ returns-then-is_some-clause-fails g c =
     let s = g.D.Disk.state c.args.disk.now in
     let s1 = g.D.Disk.state c.is_directory.new.disk in
     let s2 = g.D.Disk.state c.sync_dir.new.self in
-    let s3 = g.D.Disk.state c.find_entry.new.disk in
-    (
+    let s3 = g.D.Disk.state c.find_entry.new.disk in (
       (λ told. looked_at s s1 s2 s3 root (g.met.D.Disk.holds_present c.is_directory.new.disk told) c.is_directory.ensures.tree (c.in_ok-sync_dir.ensures.synced told) c.find_entry.ensures.tree),
       (
         (λ told.

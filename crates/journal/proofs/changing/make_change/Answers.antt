@@ -243,24 +243,24 @@ returns-in_err-temporary-clause-fails g c =
     let path = c.as_str.result.now in
     let ready : IsTrue g.D.Disk.tells → IsReady change paths root path lines s t v =
     λ told.
-        let (folder, leads) = some_is (directory_of s.tree root) (c.requires.directory told) in
-        let at_t = directory_alike (c.in_ok-journal.ensures.adds told).ways root ∙ leads in
-        let text = c.as_str.ensures.same ∙ c.in_ok-path.ensures.path told folder at_t in
-        record {
-          folder = folder;
-          leads = leads;
-          path_is = text;
-          folder_is = journal_folder s.tree root folder path (g.met.D.Disk.is_tree c.args.disk.now told) leads text;
-          no_journal = c.requires.no_journal told folder leads;
-          adds = c.in_ok-journal.ensures.adds told;
-          stages = c.in_ok-journal.ensures.stages told;
-          counted = c.in_ok-journal.ensures.counted told;
-          paths_stand = c.in_ok-journal.ensures.paths told;
-          same = (c.sync_folders.ensures.kept told).tree ∙ c.journal_path.ensures.tree.tree;
-        } in
+    let (folder, leads) = some_is (directory_of s.tree root) (c.requires.directory told) in
+    let at_t = directory_alike (c.in_ok-journal.ensures.adds told).ways root ∙ leads in
+    let text = c.as_str.ensures.same ∙ c.in_ok-path.ensures.path told folder at_t in
+    record {
+      folder = folder;
+      leads = leads;
+      path_is = text;
+      folder_is = journal_folder s.tree root folder path (g.met.D.Disk.is_tree c.args.disk.now told) leads text;
+      no_journal = c.requires.no_journal told folder leads;
+      adds = c.in_ok-journal.ensures.adds told;
+      stages = c.in_ok-journal.ensures.stages told;
+      counted = c.in_ok-journal.ensures.counted told;
+      paths_stand = c.in_ok-journal.ensures.paths told;
+      same = (c.sync_folders.ensures.kept told).tree ∙ c.journal_path.ensures.tree.tree;
+    } in
     let free : LeavesAllButFree (course g.D.Disk.tells s w) =
     λ told. free_then s.tree v.tree w.tree (free_then s.tree t.tree v.tree (c.in_ok-journal.ensures.free told) (free_same t.tree v.tree ((c.sync_folders.ensures.kept told).tree ∙ c.journal_path.ensures.tree.tree)))
-        (c.in_err-temporary.ensures.free told) in
+    (c.in_err-temporary.ensures.free told) in
     told_on _ c.from_residual-in_err-temporary.result _ c.from_residual-in_err-temporary.ensures.1
     (writing_making change g.D.Disk.tells paths root path lines s t v ready
     (omega (arith, c.in_ok-journal.ensures.never_falls, c.journal_path.ensures.never_falls, c.sync_folders.ensures.never_falls)) w c.in_err-temporary.field-0.0 free c.in_err-temporary.ensures.fails)
@@ -279,21 +279,21 @@ returns-clause-fails g c =
     let path = c.as_str.result.now in
     let ready : IsTrue g.D.Disk.tells → IsReady change paths root path lines s t v =
     λ told.
-        let (folder, leads) = some_is (directory_of s.tree root) (c.requires.directory told) in
-        let at_t = directory_alike (c.in_ok-journal.ensures.adds told).ways root ∙ leads in
-        let text = c.as_str.ensures.same ∙ c.in_ok-path.ensures.path told folder at_t in
-        record {
-          folder = folder;
-          leads = leads;
-          path_is = text;
-          folder_is = journal_folder s.tree root folder path (g.met.D.Disk.is_tree c.args.disk.now told) leads text;
-          no_journal = c.requires.no_journal told folder leads;
-          adds = c.in_ok-journal.ensures.adds told;
-          stages = c.in_ok-journal.ensures.stages told;
-          counted = c.in_ok-journal.ensures.counted told;
-          paths_stand = c.in_ok-journal.ensures.paths told;
-          same = (c.sync_folders.ensures.kept told).tree ∙ c.journal_path.ensures.tree.tree;
-        } in
+    let (folder, leads) = some_is (directory_of s.tree root) (c.requires.directory told) in
+    let at_t = directory_alike (c.in_ok-journal.ensures.adds told).ways root ∙ leads in
+    let text = c.as_str.ensures.same ∙ c.in_ok-path.ensures.path told folder at_t in
+    record {
+      folder = folder;
+      leads = leads;
+      path_is = text;
+      folder_is = journal_folder s.tree root folder path (g.met.D.Disk.is_tree c.args.disk.now told) leads text;
+      no_journal = c.requires.no_journal told folder leads;
+      adds = c.in_ok-journal.ensures.adds told;
+      stages = c.in_ok-journal.ensures.stages told;
+      counted = c.in_ok-journal.ensures.counted told;
+      paths_stand = c.in_ok-journal.ensures.paths told;
+      same = (c.sync_folders.ensures.kept told).tree ∙ c.journal_path.ensures.tree.tree;
+    } in
     let low : s.faults ≤ v.faults = omega (arith, c.in_ok-journal.ensures.never_falls, c.journal_path.ensures.never_falls, c.sync_folders.ensures.never_falls) in
     let low_w : s.faults ≤ w.faults = omega (arith, c.in_ok-journal.ensures.never_falls, c.journal_path.ensures.never_falls, c.sync_folders.ensures.never_falls, c.write_beside.ensures.never_falls) in
     told_err (IsUnfinished change paths (course g.D.Disk.tells s x)) (MakingFails change root paths (course g.D.Disk.tells s x)) _ c.name_and_finish.result c.map_err.result c.map_err.ensures.cases

@@ -118,8 +118,7 @@ returns-in_default-2-clause-fails g c =
     let change = g.R.Replaces.change c.args.replacer.now in
     let s0 = g.D.Disk.state c.args.disk.now in
     let s1 = g.D.Disk.state c.find.new.disk in
-    let own = c.in_ok-found.found.path in
-    (
+    let own = c.in_ok-found.found.path in (
       (λ told.
           let bytes = c.in_ok-found.found.bytes.items in
           let found = c.in_ok-found.ensures.found told in
