@@ -1,6 +1,6 @@
 -- A recovery is carried out to its end, or is refused on the way.
-use Rattle.std.proofs.Common.{◌≡◌, ◌≢◌, ◌⊎◌, ◌≤◌, ◌<◌, ◌+◌, ℕ, Bool, true, false, cond, List, [], ◌∷◌, ◌++◌, length, refl, sym, ◌∙◌, ap, subst, inl, inr, arith}
-use Rattle.std.specs.Prelude.{Option, Some, None, IsSome, is_some, IsTrue, Contains, Result, Ok, Err, IfErr, OnOk}
+use Rattle.std.proofs.Common.{◌≡◌, ℕ, Bool, true, cond, List, [], ◌∷◌, ◌++◌, refl, sym, ◌∙◌, ap, subst, inl, inr, arith}
+use Rattle.std.specs.Prelude.{Option, Some, None, IsSome, is_some, IsTrue, Contains}
 use Rattle.std.specs.Option.{option_and_then}
 use Rattle.std.proofs.lemmas.Option.{same_Some}
 use Rattle.sd_io.specs.Count.{HasRisen}
@@ -9,13 +9,9 @@ use Rattle.sd_io.specs.declared.fault.DiskFault.TheVariants as disk
 use Rattle.sd_io.specs.Tree.{NameList, Node, Tree, IsTree, node_at, file_node, file_at, is_directory_at}
 use Rattle.sd_io.specs.Paths.{parent_of, reached}
 use Rattle.sd_io.specs.Disk.{DiskState, HoldsPresent}
-use Rattle.sd_io.specs.Files.{path_text, file_of}
-use Rattle.sd_io.specs.Lists.{directory_of}
-use Rattle.sd_course.specs.Course.{Course, course, HasRisenBy, DiskFailed}
-use Rattle.file_exchange.specs.Reserved.{Free, reserved_names}
-use Rattle.file_exchange.specs.Crash.{Exchange}
-use Rattle.file_exchange.proofs.CauseLemmas.{risen_since}
-use Rattle.file_rewrite.specs.OneFile.{IsMoveFault, IsCrowded}
+use Rattle.sd_io.specs.Files.{path_text}
+use Rattle.sd_course.specs.Course.{course}
+use Rattle.file_exchange.specs.Reserved.{Free}
 use Rattle.file_rewrite.specs.declared.fault.JobFault.{JobFault}
 use Rattle.file_rewrite.specs.declared.fault.JobFault.TheVariants as job
 use Rattle.journal_text.specs.declared.line.Line.{Line}
@@ -24,7 +20,7 @@ use Rattle.change_phases.specs.Phases.{placing}
 use Rattle.journal.specs.declared.fault.JournalFault.{JournalFault}
 use Rattle.journal.specs.declared.fault.JournalFault.TheVariants as fault
 use Rattle.journal.specs.Keeping.{IsSettledIn}
-use Rattle.journal.specs.Placing.{OneLacksFile, IsLineFault, OneIsCrowded, HasLineCause}
+use Rattle.journal.specs.Placing.{OneLacksFile, OneIsCrowded, HasLineCause}
 use Rattle.journal.specs.Finishing.{HasJournalAt}
 use Rattle.journal.specs.Faults.{of_disk}
 use Rattle.journal.specs.Finding.{LookFails}

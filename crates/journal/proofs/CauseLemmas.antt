@@ -1,6 +1,6 @@
 -- Why a step that carries a change out is refused.
-use Rattle.std.proofs.Common.{true, false, Bool, ◌≡◌, ◌≢◌, ◌≤◌, ◌+◌, ℕ, List, [], ◌∷◌, refl, sym, ◌∙◌, ap, subst, ◌⊎◌, inl, inr, arith}
-use Rattle.std.specs.Prelude.{◌==◌, ◌&&◌, Option, Some, None, IsSome, IsTrue, Contains, Result, Ok, Err, IsErrOf, IsErrAnd, IfErr, OnOk}
+use Rattle.std.proofs.Common.{true, false, Bool, ◌≡◌, ◌≤◌, ℕ, List, [], ◌∷◌, refl, sym, ◌∙◌, ap, subst, ◌⊎◌, inl, inr, arith}
+use Rattle.std.specs.Prelude.{◌==◌, ◌&&◌, None, IsTrue, Contains, Result, Ok, Err, IsErrOf, IsErrAnd, IfErr, OnOk}
 use Rattle.std.specs.List.{list_all, join_with_byte}
 use Rattle.std.proofs.lemmas.Map.Views.{exact_unsigned_eq}
 use Rattle.sd_io.specs.declared.fault.DiskFault.{DiskFault}
@@ -101,11 +101,14 @@ module _ (tells : Bool) (old now new : DiskState) (lines some : List Line) (amon
   pub cause_since : (fault : JobFault) → HasLineCause (course tells now new) some fault → HasLineCause (course tells old new) lines fault
   cause_since (job.File disk.Absent) cause = (
     (λ told.
-        let (line, has, lacks) = cause.0 told in
-        (line, among line has, elim lacks [
-          | inl none ↦ inl (no_file_before old.tree now.tree (same told) line.path none)
-          | inr none ↦ inr (no_file_before old.tree now.tree (same told) (path_text (stage_of line)) none)
-        ])),
+        let (line, has, lacks) = cause.0 told in (
+          line,
+          among line has,
+          elim lacks [
+            | inl none ↦ inl (no_file_before old.tree now.tree (same told) line.path none)
+            | inr none ↦ inr (no_file_before old.tree now.tree (same told) (path_text (stage_of line)) none)
+          ],
+        )),
     (λ untold. risen_since old.faults now.faults new.faults low (cause.1 untold)),
   )
   cause_since (job.File disk.Taken) cause = cause

@@ -1,12 +1,12 @@
 -- Why a journal isn't written, or isn't carried out.
-use Rattle.std.proofs.Common.{true, false, Bool, ◌≡◌, ◌≢◌, ◌≤◌, ◌+◌, ℕ, List, [], ◌∷◌, ◌++◌, refl, sym, ◌∙◌, ap, subst, ◌⊎◌, inl, inr, arith}
-use Rattle.std.specs.Prelude.{Option, Some, None, IsSome, is_some, IsTrue, Contains, Result, Ok, Err, IsErrOf, IfErr}
+use Rattle.std.proofs.Common.{true, false, Bool, ◌≡◌, ◌≢◌, ◌≤◌, ℕ, List, [], ◌∷◌, ◌++◌, refl, sym, ◌∙◌, ap, subst, inl, inr, arith}
+use Rattle.std.specs.Prelude.{Option, Some, None, IsSome, is_some, IsTrue, Contains, Result, Ok, Err, IfErr}
 use Rattle.std.specs.Option.{option_and_then}
 use Rattle.std.proofs.lemmas.Option.{same_Some}
 use Rattle.sd_io.specs.declared.fault.DiskFault.{DiskFault}
 use Rattle.sd_io.specs.declared.fault.DiskFault.TheVariants as disk
-use Rattle.sd_io.specs.Tree.{NameList, Node, Tree, IsTree, node_at, file_node, file_at}
-use Rattle.sd_io.specs.Paths.{parts_of, parent_of, reached, named}
+use Rattle.sd_io.specs.Tree.{NameList, Node, IsTree, node_at, file_node, file_at}
+use Rattle.sd_io.specs.Paths.{parent_of, reached, named}
 use Rattle.sd_io.specs.Count.{HasRisen}
 use Rattle.sd_io.specs.Disk.{DiskState}
 use Rattle.sd_io.specs.Files.{path_text, file_of, file_named}
@@ -15,7 +15,7 @@ use Rattle.sd_io.proofs.WayLemmas.{reached_still, directory_alike}
 use Rattle.sd_io.proofs.PathTextLemmas.{text_names}
 use Rattle.sd_course.specs.Course.{course}
 use Rattle.file_exchange.specs.Causes.{HasCauseOf}
-use Rattle.file_exchange.specs.Reserved.{Free, Reserved, reserved_names}
+use Rattle.file_exchange.specs.Reserved.{Reserved, reserved_names}
 use Rattle.file_exchange.proofs.CauseLemmas.{risen_since}
 use Rattle.file_exchange.proofs.PlaceLemmas.{placed}
 use Rattle.file_rewrite.specs.Faults.{as_job}
@@ -25,8 +25,6 @@ use Rattle.file_rewrite.specs.declared.fault.JobFault.TheVariants as job
 use Rattle.journal_text.specs.declared.line.Line.{Line}
 use Rattle.change_phases.specs.Between.{journal_name, place_of, stage_of}
 use Rattle.change_phases.proofs.WorkLemmas.{reserved_not_journal}
-use Rattle.journal.specs.declared.fault.JournalFault.{JournalFault}
-use Rattle.journal.specs.declared.fault.JournalFault.TheVariants as fault
 use Rattle.journal.specs.Faults.{of_disk}
 use Rattle.journal.specs.Naming.{MovesTo, NamingFails}
 use Rattle.journal.specs.Placing.{IsLineFault, HasLineCause}
@@ -146,7 +144,7 @@ module _ (tells : Bool) (lines : List Line) (temporary path root : List ℕ) (s 
             let (line, has, lacks) = fails.0 told in
             absurd (elim lacks [
               | inl none ↦ none_stands (file_of t.tree line.path) none
-                (subst IsSome (sym (ap (option_and_then (file_at t.tree)) (place_is_file told line has).0)) (place_is_file told line has).1)
+                  (subst IsSome (sym (ap (option_and_then (file_at t.tree)) (place_is_file told line has).0)) (place_is_file told line has).1)
               | inr none ↦ none_stands (file_of t.tree (path_text (stage_of line))) none (stage_is_file told (is_t told) line has)
             ])
         by false untold = risen_since s.faults t.faults x.faults low (fails.1 untold)

@@ -1,5 +1,5 @@
 -- From phase to phase, to the end.
-use Rattle.std.proofs.Common.{true, Bool, ◌≡◌, ◌≤◌, ◌++◌, ◌∷◌, [], ℕ, List, refl, sym, ◌∙◌, ap, subst, ◌⊎◌, inl, inr}
+use Rattle.std.proofs.Common.{true, Bool, ◌≡◌, ◌≤◌, ◌++◌, ◌∷◌, [], ℕ, List, refl, sym, ◌∙◌, ap, subst, inl, inr}
 use Rattle.std.specs.Option.{option_and_then}
 use Rattle.std.proofs.lemmas.Option.{same_Some}
 use Rattle.sd_io.specs.declared.fault.DiskFault.{DiskFault}
@@ -254,7 +254,7 @@ removal_fails tells s t v lines root path disk.Absent is stands same low cause =
       let (folder, at) = stands told in
       absurd (elim (cause.0 told) [
         | inl none ↦ none_stands (file_at t.tree (folder ++ journal_name ∷ [])) (sym (ap (option_and_then (file_at t.tree)) (journal_names s t root path folder (is told) at (same told))) ∙ none)
-          (file_still s.tree t.tree (same told) (folder ++ journal_name ∷ []) at.is_file)
+            (file_still s.tree t.tree (same told) (folder ++ journal_name ∷ []) at.is_file)
         | inr none ↦ none_stands (directory_of t.tree root) none (ap is_some (directory_alike (files_ways s.tree t.tree (same told)) root ∙ at.leads))
       ])),
   (λ untold. risen_since s.faults t.faults v.faults low (cause.1 untold)),

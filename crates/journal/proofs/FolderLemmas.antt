@@ -1,5 +1,5 @@
 -- A path that leads somewhere has its folder there.
-use Rattle.std.proofs.Common.{true, false, Bool, cond, ◌≡◌, ◌≢◌, ℕ, zero, suc, List, [], ◌∷◌, ◌++◌, refl, sym, ◌∙◌, ap, append_assoc}
+use Rattle.std.proofs.Common.{true, false, Bool, cond, ◌≡◌, ℕ, zero, suc, List, [], ◌∷◌, ◌++◌, refl, sym, ◌∙◌, ap, append_assoc}
 use Rattle.std.specs.Prelude.{Option, Some, None}
 use Rattle.std.specs.Option.{option_and_then}
 use Rattle.std.specs.Str.{bytes_eq}
@@ -62,11 +62,11 @@ module _ (tree : Tree) (name : Name) where
       directory_in tree (cond is (cond (is_up part) (steps tree lt true (parent_of from) parts) (through_node lt (λ next. steps tree lt true next parts) true from part parts (node_at tree place))) None) ≡ None
       → cond is (cond (is_up part) (steps tree lf true (parent_of from) (parts ++ name ∷ [])) (through_node lf (λ next. steps tree lf true next (parts ++ name ∷ [])) true from part (parts ++ name ∷ []) (node_at tree place))) None ≡ None) [
         | true ↦ elim (is_up part) as (λ up.
-          directory_in tree (cond up (steps tree lt true (parent_of from) parts) (through_node lt (λ next. steps tree lt true next parts) true from part parts (node_at tree place))) ≡ None
-          → cond up (steps tree lf true (parent_of from) (parts ++ name ∷ [])) (through_node lf (λ next. steps tree lf true next (parts ++ name ∷ [])) true from part (parts ++ name ∷ []) (node_at tree place)) ≡ None) [
-            | true ↦ walk_stuck lt lf links (parent_of from) parts
-            | false ↦ through_stuck tree lt lf (λ next. steps tree lt true next parts) (λ next. steps tree lf true next (parts ++ name ∷ [])) from part parts name (node_at tree place) (walk_stuck lt lf links place parts) (λ target. links from target parts)
-          ]
+            directory_in tree (cond up (steps tree lt true (parent_of from) parts) (through_node lt (λ next. steps tree lt true next parts) true from part parts (node_at tree place))) ≡ None
+            → cond up (steps tree lf true (parent_of from) (parts ++ name ∷ [])) (through_node lf (λ next. steps tree lf true next (parts ++ name ∷ [])) true from part (parts ++ name ∷ []) (node_at tree place)) ≡ None) [
+              | true ↦ walk_stuck lt lf links (parent_of from) parts
+              | false ↦ through_stuck tree lt lf (λ next. steps tree lt true next parts) (λ next. steps tree lf true next (parts ++ name ∷ [])) from part parts name (node_at tree place) (walk_stuck lt lf links place parts) (λ target. links from target parts)
+            ]
         | false ↦ λ h. refl
       ] e
 

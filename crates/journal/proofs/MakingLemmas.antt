@@ -1,28 +1,24 @@
 -- Why a change isn't made, and when nothing but want of memory refuses it.
-use Rattle.std.proofs.Common.{true, false, Bool, ◌≡◌, ◌≢◌, ◌<◌, ◌≤◌, ◌+◌, ℕ, List, [], ◌∷◌, ◌++◌, length, refl, sym, ◌∙◌, ap, subst, ◌⊎◌, inl, inr, arith}
-use Rattle.std.specs.Prelude.{Option, Some, None, IsSome, is_some, IsTrue, Contains, Result, Ok, Err, IfErr}
+use Rattle.std.proofs.Common.{true, false, Bool, ◌≡◌, ◌≢◌, ◌≤◌, ℕ, List, [], ◌∷◌, ◌++◌, length, if◌then◌else◌, refl, sym, ◌∙◌, ap, subst, inl, inr, arith}
+use Rattle.std.specs.Prelude.{Option, Some, None, IsSome, is_some, IsTrue, ◌↔◌, option_map, IfSome, Contains, Result, Ok, Err, IfErr, IsErrAnd, MatchResult}
 use Rattle.std.specs.Option.{option_and_then}
-use Rattle.std.specs.List.{IsDistinct}
-use Rattle.std.specs.Cmp.{IsEquivalence}
-use Rattle.std.specs.Set.{is_member}
 use Rattle.std.proofs.lemmas.Option.{same_Some}
 use Rattle.sd_io.specs.declared.fault.DiskFault.{DiskFault}
 use Rattle.sd_io.specs.declared.fault.DiskFault.TheVariants as disk
-use Rattle.sd_io.specs.Tree.{NameList, Node, Tree, IsTree, node_at, file_node, file_at}
-use Rattle.sd_io.specs.Paths.{parts_of, parent_of, reached, named, way_of_node, SameWays}
-use Rattle.sd_io.specs.Outcomes.{same_place}
-use Rattle.sd_io.specs.Disk.{DiskState, SameTree}
-use Rattle.sd_io.specs.Files.{path_text, file_of, LeadsNowhere}
-use Rattle.sd_io.specs.Lists.{directory_of}
+use Rattle.sd_io.specs.declared.meta.Kind.{Kind}
+use Rattle.sd_io.specs.Tree.{NameList, Node, Tree, IsTree, node_at, file_node, file_at, is_directory_at}
+use Rattle.sd_io.specs.Paths.{parts_of, parent_of, way_of_node, SameWays}
+use Rattle.sd_io.specs.Disk.{DiskState, SameTree, HoldsPresent}
+use Rattle.sd_io.specs.Files.{path_text, file_of, kind_of, LeadsNowhere}
+use Rattle.sd_io.specs.Lists.{directory_of, IsNoDirectory, SyncsFolder}
 use Rattle.sd_io.proofs.WayLemmas.{same_or_other, ways_kept, file_has_no_way, directory_alike}
 use Rattle.sd_io.proofs.OutcomeLemmas.{parent_of_child}
-use Rattle.sd_course.specs.Course.{course, AsTold, DiskFailed, HasRisenBy}
+use Rattle.sd_course.specs.Course.{course}
 use Rattle.sd_change.specs.Change.{Change}
-use Rattle.file_exchange.specs.Reserved.{Free, NoneFree, Reserved, reserved_name, reserved_names}
+use Rattle.file_exchange.specs.Reserved.{Free, NoneFree, reserved_name, reserved_names}
 use Rattle.file_exchange.specs.Exchange.{IsFilePath}
 use Rattle.file_exchange.proofs.CauseLemmas.{risen_since}
 use Rattle.file_exchange.proofs.PlaceLemmas.{placed}
-use Rattle.file_rewrite.specs.OneFile.{FreeAtMost}
 use Rattle.file_rewrite.specs.declared.fault.JobFault.{JobFault}
 use Rattle.file_rewrite.specs.declared.fault.JobFault.TheVariants as job
 use Rattle.journal_text.specs.declared.line.Line.{Line}
@@ -32,13 +28,15 @@ use Rattle.journal.specs.declared.fault.JournalFault.{JournalFault}
 use Rattle.journal.specs.declared.fault.JournalFault.TheVariants as fault
 use Rattle.journal.specs.Faults.{of_disk}
 use Rattle.journal.specs.Beside.{KeepsAllButFree, AddsBeside}
-use Rattle.journal.specs.Clearing.{SyncingFails, IsStage}
-use Rattle.journal.specs.Planning.{AddsFiles, AddsStages, CountStages, HaveChangesIn, HasTooFew, LeadToFiles, MissesFile, AreNotStaged}
-use Rattle.journal.specs.Changing.{WritingFails, IsWritten, IsLineCrowded, EndFails, IsTooCrowded, IsFilledUp, IsUnfinished, LeavesAllButFree, MakingFails, ChangeFails, HasFree, HasRoomFor, WantsMemory}
-use Rattle.journal.proofs.SameFilesLemmas.{none_stands, none_or_some, file_stands}
+use Rattle.journal.specs.Finding.{FindsEntry, LookFails, kind_at}
+use Rattle.journal.specs.Recovering.{RootFails}
+use Rattle.journal.specs.Clearing.{SyncingFails, LeavesNoMore, IsStage}
+use Rattle.journal.specs.Planning.{AddsFiles, AddsStages, CountStages, LeadToFiles, MissesFile, AreNotStaged}
+use Rattle.journal.specs.Changing.{IsPending, ComesFirst, WritingFails, IsWritten, IsLineCrowded, EndFails, IsTooCrowded, IsFilledUp, IsUnfinished, LeavesAllButFree, MakingFails, ChangeFails}
+use Rattle.journal.proofs.ClearingLemmas.{no_more_same, no_more_then, no_more_synced}
+use Rattle.journal.proofs.SameFilesLemmas.{none_stands, file_stands}
 use Rattle.journal.proofs.CauseLemmas.{more_since, no_folder_no_file}
-use Rattle.journal.proofs.StagingLemmas.{stage_or_not, free_at_most, free_then, free_same}
-use Rattle.journal.proofs.ChangingLemmas.{journal_folder}
+use Rattle.journal.proofs.StagingLemmas.{stage_or_not, free_at_most, free_same}
 
 -- ---- the stages aren't made
 
@@ -59,15 +57,8 @@ staged_making change tells root paths s t fault.NoMemory free fails = free
 
 -- ---- a step is refused that doesn't write
 
--- the fault of a step: absent for this cause where the disk tells its tree; or a counted one
-abbrev pub StepFails : Bool → DiskState → DiskState → Type 0 → DiskFault → Type 0
-StepFails tells s t absent disk.Absent = AsTold tells absent (DiskFailed (course tells s t))
-StepFails tells s t absent disk.Taken = ⊥
-StepFails tells s t absent disk.Failed = DiskFailed (course tells s t)
-StepFails tells s t absent disk.NoMemory = Unit {0}
-
 pub step_making : (change : Change) (tells : Bool) (root : List ℕ) (paths : List (List ℕ)) (s u v : DiskState) (absent : Type 0) (refused : DiskFault) → LeavesAllButFree (course tells s v) → s.faults ≤ u.faults
-    → (IsTrue tells → absent → ⊥) → StepFails tells u v absent refused → MakingFails change root paths (course tells s v) (of_disk refused)
+    → (IsTrue tells → absent → ⊥) → LookFails (course tells u v) absent refused → MakingFails change root paths (course tells s v) (of_disk refused)
 step_making change true root paths s u v absent disk.Absent free low none fails = absurd (none refl (fails.0 refl))
 step_making change false root paths s u v absent disk.Absent free low none fails = (free, inl (risen_since s.faults u.faults v.faults low (fails.1 refl)))
 step_making change tells root paths s u v absent disk.Taken free low none fails = absurd fails
@@ -120,13 +111,16 @@ module _ (change : Change) (tells : Bool) (paths : List (List ℕ)) (root path :
           record {
             folder = r.folder;
             text_is = is ∙ ap path_text r.folder_is;
-            too_few = inr (r.leads, record {
-              changed = length places;
-              changes = have;
-              free = length places;
-              few = free_at_most s.tree t.tree lines r.folder places r.stages among none_free;
-              fewer = omega arith;
-            });
+            too_few = inr (
+              r.leads,
+              record {
+                changed = length places;
+                changes = have;
+                free = length places;
+                few = free_at_most s.tree t.tree lines r.folder places r.stages among none_free;
+                fewer = omega arith;
+              },
+            );
           }),
       (λ untold. more_since reserved_names s.faults v.faults w.faults low (fails.1 untold)),
     ),
@@ -165,7 +159,6 @@ module _ (change : Change) (tells : Bool) (paths : List (List ℕ)) (root path :
               ∙ r.no_journal;
           place = b.temporary;
           names = b.names;
-          reserved = subst (λ (p : NameList). Reserved p b.temporary) r.folder_is b.was_free.reserved;
           is_file = b.is_file;
           apart = λ line has. (
             (λ e. none_stands (node_at t.tree (place_of line)) (ap (node_at t.tree) (sym e) ∙ place_free told) (file_stands (node_at t.tree (place_of line)) (r.paths_stand line has).is_file)),
@@ -227,20 +220,20 @@ module _ (change : Change) (tells : Bool) (paths : List (List ℕ)) (root path :
 
 -- ---- from an earlier state of the same tree
 
-module _ (change : Change) (tells : Bool) (root : List ℕ) (paths : List (List ℕ)) (s t x : DiskState) (same : t.tree ≡ s.tree) (low : s.faults ≤ t.faults) where
+module _ (change : Change) (tells : Bool) (root : List ℕ) (paths : List (List ℕ)) (s t x : DiskState) (same : IsTrue tells → t.tree ≡ s.tree) (low : s.faults ≤ t.faults) where
   free_since : LeavesAllButFree (course tells t x) → LeavesAllButFree (course tells s x)
-  free_since free told = subst (λ (y : Tree). KeepsAllButFree y x.tree) same (free told)
+  free_since free told = subst (λ (y : Tree). KeepsAllButFree y x.tree) (same told) (free told)
 
   misses_since : MissesFile (course tells t x) paths → MissesFile (course tells s x) paths
   misses_since (inl counted) = inl (risen_since s.faults t.faults x.faults low counted)
-  misses_since (inr (told, (path, has, none))) = inr (told, (path, has, ap (λ (y : Tree). file_of y path) (sym same) ∙ none))
+  misses_since (inr (told, (path, has, none))) = inr (told, (path, has, ap (λ (y : Tree). file_of y path) (sym (same told)) ∙ none))
 
   unfinished_since : (refused : JobFault) → IsUnfinished change paths (course tells t x) refused → IsUnfinished change paths (course tells s x) refused
   unfinished_since (job.File refused) fails = risen_since s.faults t.faults x.faults low fails
   unfinished_since (job.TempfilePersist refused) fails = risen_since s.faults t.faults x.faults low fails
   unfinished_since job.InvalidPath fails = fails
   unfinished_since job.TempName fails = (
-    (λ told. subst (λ (y : Tree). LeadToFiles y paths → IsFilledUp change y paths) same (fails.0 told)),
+    (λ told. subst (λ (y : Tree). LeadToFiles y paths → IsFilledUp change y paths) (same told) (fails.0 told)),
     (λ untold. more_since reserved_names s.faults t.faults x.faults low (fails.1 untold)),
   )
   unfinished_since job.NoMemory fails = tt
@@ -252,7 +245,7 @@ module _ (change : Change) (tells : Bool) (root : List ℕ) (paths : List (List 
   change_fails (fault.TempName text) fails = (
     free_since fails.0,
     (
-      (λ told. subst (λ (y : Tree). LeadToFiles y paths → IsTooCrowded change y root paths text) same (fails.1.0 told)),
+      (λ told. subst (λ (y : Tree). LeadToFiles y paths → IsTooCrowded change y root paths text) (same told) (fails.1.0 told)),
       (λ untold. more_since reserved_names s.faults t.faults x.faults low (fails.1.1 untold)),
     ),
   )
@@ -261,3 +254,125 @@ module _ (change : Change) (tells : Bool) (root : List ℕ) (paths : List (List 
   change_fails (fault.StageMissing stage) fails = fails
   change_fails (fault.StageDiffers stage planned found) fails = fails
   change_fails fault.NoMemory fails = free_since fails
+
+-- ---- it is carried out
+
+-- the same of paths that are told twice
+pub end_making : (change : Change) (tells : Bool) (paths : List (List ℕ)) (root path again : List ℕ) (lines : List Line) (s t v w x : DiskState) (temporary other : List ℕ) (r : Result (Unit {0}) JobFault) → path ≡ again
+    → temporary ≡ other → (IsTrue tells → IsReady change paths root path lines s t v) → s.faults ≤ v.faults → s.faults ≤ w.faults → (IsTrue tells → AddsBeside (parent_of (parts_of path)) temporary v.tree w.tree)
+    → (IsTrue tells → IsTree t.tree) → ((IsTrue tells → IsWritten lines other again root w.tree) → IfErr r (EndFails (course tells w x) lines other)) → IfErr r (IsUnfinished change paths (course tells s x))
+end_making change tells paths root path again lines s t v w x temporary other (Ok done) same_path same_temporary ready low low_w written is fails = tt
+end_making change tells paths root path again lines s t v w x temporary other (Err refused) same_path same_temporary ready low low_w written is fails =
+    let at : (IsTrue tells → IsWritten lines temporary path root w.tree) → EndFails (course tells w x) lines temporary refused =
+    subst (λ (q : List ℕ). (IsTrue tells → IsWritten lines q path root w.tree) → EndFails (course tells w x) lines q refused) (sym same_temporary)
+    (subst (λ (p : List ℕ). (IsTrue tells → IsWritten lines other p root w.tree) → EndFails (course tells w x) lines other refused) (sym same_path) fails) in
+    unfinished change tells paths root path lines s t v ready low w temporary written x low_w refused (at (λ told. is_written change tells paths root path lines s t v ready low w temporary written told (is told)))
+
+-- an answer whose refusal is told as another
+pub told_err : {T E F : Type 0} (P : E → Type 0) (Q : F → Type 0) (of : E → F) (r : Result T E) (q : Result T F) → MatchResult r (λ x. q ≡ Ok x) (λ fault. IsErrAnd q (λ e. e ≡ of fault)) → IfErr r P
+    → ((e : E) → P e → Q (of e)) → IfErr q Q
+told_err P Q of (Ok x) q is p on = subst (λ r. IfErr r Q) (sym is) tt
+told_err P Q of (Err f) (Ok x) is p on = tt
+told_err P Q of (Err f) (Err e) is p on = subst Q (sym is) (on f p)
+
+-- ---- the root is looked at
+
+-- a path that leads to a directory leads somewhere
+pub leads_somewhere : (s : DiskState) (root : List ℕ) → IsSome (directory_of s.tree root) → LeadsNowhere s root true → ⊥
+leads_somewhere s root there none =
+    none_stands (directory_of s.tree root) (ap (option_and_then (λ place. if is_directory_at s.tree place then Some place else None)) none) there
+
+pub root_fails : (change : Change) (tells : Bool) (root : List ℕ) (paths : List (List ℕ)) (s t : DiskState) (refused : JournalFault) → SameTree s t → RootFails (course tells s t) root refused
+    → ChangeFails change root paths (course tells s t) refused
+root_fails change tells root paths s t fault.RootMissing same fails = (same, fails)
+root_fails change tells root paths s t (fault.File refused) same fails = ((λ told. free_same s.tree t.tree same.tree), inl fails)
+root_fails change tells root paths s t fault.Pending same fails = absurd fails
+root_fails change tells root paths s t (fault.TempName folder) same fails = absurd fails
+root_fails change tells root paths s t (fault.Unfinished job) same fails = absurd fails
+root_fails change tells root paths s t fault.BadJournal same fails = fails
+root_fails change tells root paths s t (fault.StageMissing path) same fails = fails
+root_fails change tells root paths s t (fault.StageDiffers path planned found) same fails = fails
+root_fails change tells root paths s t fault.NoMemory same fails = λ told. free_same s.tree t.tree same.tree
+
+-- a step after it is refused, while the tree is as it was
+pub look_fails : (change : Change) (tells : Bool) (root : List ℕ) (paths : List (List ℕ)) (s u v : DiskState) (absent : Type 0) (refused : DiskFault) → (IsTrue tells → v.tree ≡ s.tree) → s.faults ≤ u.faults
+    → (IsTrue tells → absent → ⊥) → LookFails (course tells u v) absent refused → ChangeFails change root paths (course tells s v) (of_disk refused)
+look_fails change tells root paths s u v absent refused same low none fails =
+    change_fails change tells root paths s s v (λ told. refl) (omega arith) (of_disk refused) (step_making change tells root paths s u v absent refused (λ told. free_same s.tree v.tree (same told)) low none fails)
+
+-- what is found where nothing is
+pub none_found : (tree : Tree) (root : List ℕ) (folder : NameList) → FindsEntry tree root journal_name None → directory_of tree root ≡ Some folder → node_at tree (folder ++ journal_name ∷ []) ≡ None
+none_found tree root folder found leads =
+    let here : found.folder ≡ folder = same_Some _ _ (sym found.leads ∙ leads) in
+    by (node_at tree (folder ++ journal_name ∷ [])) (ap (λ (p : NameList). kind_at tree (p ++ journal_name ∷ [])) (sym here) ∙ sym found.kind_is)
+  where
+    by : (o : Option Node) → option_map (λ node. kind_of node.content) o ≡ None → o ≡ None
+    by None e = refl
+    by (Some node) e = cc
+
+pub pending_found : (tree : Tree) (root : List ℕ) (kind : Kind) → FindsEntry tree root journal_name (Some kind) → IsPending tree root
+pending_found tree root kind found = record {
+  folder = found.folder;
+  leads = found.leads;
+  stands = by (node_at tree (found.folder ++ journal_name ∷ [])) found.kind_is;
+}
+  where
+    by : (o : Option Node) → Some kind ≡ option_map (λ node. kind_of node.content) o → IsSome o
+    by None e = cc
+    by (Some node) e = refl
+
+pub not_pending : (tree : Tree) (root : List ℕ) → FindsEntry tree root journal_name None → IsPending tree root → ⊥
+not_pending tree root found p = none_stands (node_at tree (p.folder ++ journal_name ∷ [])) (none_found tree root p.folder found p.leads) p.stands
+
+pub disk_first : (refused : DiskFault) → ComesFirst (of_disk refused)
+disk_first disk.Absent = tt
+disk_first disk.Taken = tt
+disk_first disk.Failed = tt
+disk_first disk.NoMemory = tt
+
+pub root_first : (tells : Bool) (root : List ℕ) (s t : DiskState) (refused : JournalFault) → IsTrue tells → IsSome (directory_of s.tree root) → RootFails (course tells s t) root refused → ComesFirst refused
+root_first tells root s t fault.RootMissing told there fails = leads_somewhere s root there (fails.0 told)
+root_first tells root s t (fault.File refused) told there fails = tt
+root_first tells root s t fault.Pending told there fails = tt
+root_first tells root s t (fault.TempName folder) told there fails = fails
+root_first tells root s t (fault.Unfinished job) told there fails = fails
+root_first tells root s t fault.BadJournal told there fails = fails
+root_first tells root s t (fault.StageMissing path) told there fails = fails
+root_first tells root s t (fault.StageDiffers path planned found) told there fails = fails
+root_first tells root s t fault.NoMemory told there fails = tt
+
+-- ---- whether an entry was found
+
+pub pending_if : (tree : Tree) (root : List ℕ) (o : Option Kind) (b : Bool) → b ≡ is_some o → b ≡ true → FindsEntry tree root journal_name o → IsPending tree root
+pending_if tree root None b is yes_some found = cc
+pending_if tree root (Some kind) b is yes_some found = pending_found tree root kind found
+
+pub none_if : (tree : Tree) (root : List ℕ) (o : Option Kind) (b : Bool) → b ≡ is_some o → b ≡ false → FindsEntry tree root journal_name o → FindsEntry tree root journal_name None
+none_if tree root None b is no_some found = found
+none_if tree root (Some kind) b is no_some found = cc
+
+pub listed_if : (o : Option Kind) (b : Bool) (P : Type 0) → b ≡ is_some o → b ≡ true → IfSome o (λ k. P) → P
+listed_if None b P is yes_some p = cc
+listed_if (Some kind) b P is yes_some p = p
+
+-- nothing was written while the root was looked at
+pub looked_at : (s s1 s2 s3 : DiskState) (root : List ℕ) → HoldsPresent s1 → SameTree s s1 → SyncsFolder s1 root s2 → SameTree s2 s3 → LeavesNoMore s s3
+looked_at s s1 s2 s3 root holds a y b = no_more_then s s1 s3 (no_more_same s s1 a) (no_more_then s1 s2 s3 (no_more_synced s1 s2 root holds y) (no_more_same s2 s3 b))
+
+-- what is refused later on
+pub making_change : (change : Change) (tells : Bool) (root : List ℕ) (paths : List (List ℕ)) (s t x : DiskState) (r : Result (Unit {0}) JournalFault) → (IsTrue tells → t.tree ≡ s.tree) → s.faults ≤ t.faults
+    → IfErr r (MakingFails change root paths (course tells t x)) → IfErr r (ChangeFails change root paths (course tells s x))
+making_change change tells root paths s t x (Ok done) same low fails = tt
+making_change change tells root paths s t x (Err refused) same low fails = change_fails change tells root paths s t x same low refused fails
+
+pub no_directory_now : (tells : Bool) (s t : DiskState) (root : List ℕ) (is : Bool) → t.tree ≡ s.tree → (IsTrue tells → IsTrue is ↔ IsSome (directory_of s.tree root)) → is ≡ true → IsTrue tells → IsNoDirectory t root → ⊥
+no_directory_now tells s t root is same kind yes_root told none =
+    none_stands (directory_of t.tree root) none (subst IsSome (ap (λ (y : Tree). directory_of y root) (sym same)) ((kind told).0 yes_root))
+
+pub root_none_now : (s : DiskState) (root : List ℕ) (is : Bool) → (IsTrue is ↔ IsSome (directory_of s.tree root)) → is ≡ false → IsPending s.tree root → ⊥
+root_none_now s root is kind no_root pending = cc (sym no_root ∙ kind.1 (ap is_some pending.leads))
+
+-- what holds of the error that is told on, which is one
+pub told_on_err : {T E : Type 0} (P : E → Type 0) (r : Result T E) (e : E) → IsErrAnd r (λ x. x ≡ e) → P e → IsErrAnd r P
+told_on_err P (Ok x) e is p = absurd is
+told_on_err P (Err x) e is p = subst P (sym is) p

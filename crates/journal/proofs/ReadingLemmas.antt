@@ -7,7 +7,7 @@ use Rattle.std.proofs.lemmas.List.{take_all, take_more, drop_more, take-append-d
 use Rattle.std.proofs.lemmas.List.Elements.{Contains-push_cases}
 use Rattle.sd_io.specs.declared.fault.DiskFault.{DiskFault}
 use Rattle.sd_io.specs.declared.fault.DiskFault.TheVariants as disk
-use Rattle.sd_io.specs.Tree.{NameList, Content, directory, link, file, other, Node, Tree, IsTree, node_at, file_content, file_node, file_at, is_directory_node, is_directory_at}
+use Rattle.sd_io.specs.Tree.{NameList, Content, directory, link, file, other, Node, Tree, IsTree, node_at, file_content, file_node, file_at, is_directory_at}
 use Rattle.sd_io.specs.Paths.{reached, named}
 use Rattle.sd_io.specs.declared.meta.Kind.{Kind}
 use Rattle.sd_io.specs.declared.meta.Kind.TheVariants as kinds
@@ -27,8 +27,8 @@ use Rattle.change_phases.specs.Between.{journal_name, stage_of}
 use Rattle.journal.specs.declared.fault.JournalFault.{JournalFault}
 use Rattle.journal.specs.declared.fault.JournalFault.TheVariants as fault
 use Rattle.journal.specs.Faults.{of_disk, of_text}
-use Rattle.journal.specs.Finding.{FindsEntry, LookFails, kind_at}
-use Rattle.journal.specs.Reading.{ReadsJournal, HoldsNoJournal, JournalFails, IsStageThere, AreStagesThere, HasOtherDigest, StageFails, FailsAtFirst, NoneStands, JournalStands, OtherStands, AllStand, StagesFail}
+use Rattle.journal.specs.Finding.{FindsEntry, LookFails}
+use Rattle.journal.specs.Reading.{ReadsJournal, HoldsNoJournal, JournalFails, IsStageThere, AreStagesThere, HasOtherDigest, StageFails, FailsAtFirst, NoneStands, JournalStands, OtherStands, AllStand}
 use Rattle.journal.specs.Recovering.{RecoverFails}
 use Rattle.journal.proofs.FileLemmas.{text_to_file}
 

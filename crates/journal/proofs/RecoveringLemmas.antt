@@ -1,19 +1,16 @@
 -- A change is recovered, whatever is left of it.
-use Rattle.std.proofs.Common.{arith, ◌+◌, ◌≡◌, ◌≢◌, ◌⊎◌, ◌<◌, ◌≤◌, ℕ, cond, Bool, true, false, List, [], ◌∷◌, ◌++◌, refl, sym, ◌∙◌, ap, subst, inl, inr}
+use Rattle.std.proofs.Common.{arith, ◌≡◌, ◌≢◌, ◌⊎◌, ◌<◌, ◌≤◌, ℕ, cond, Bool, true, false, List, [], ◌∷◌, ◌++◌, refl, sym, ◌∙◌, ap, subst, inl, inr}
 use Rattle.std.specs.Prelude.{Option, Some, None, IsSome, is_some, IsTrue, ◌↔◌, Contains, Result, Ok, Err, OnOk, IfErr, IsErrAnd, MatchResult}
 use Rattle.std.specs.Option.{option_and_then}
 use Rattle.std.proofs.lemmas.Option.{same_Some}
 use Rattle.std.proofs.lemmas.List.Elements.{Contains-append_right}
 use Rattle.sha2.specs.Sha256.{sha256}
-use Rattle.sd_io.specs.declared.meta.Kind.{Kind}
-use Rattle.sd_io.specs.declared.meta.Kind.TheVariants as kinds
 use Rattle.sd_io.specs.declared.fault.DiskFault.{DiskFault}
 use Rattle.sd_io.specs.declared.fault.DiskFault.TheVariants as disk
-use Rattle.sd_io.specs.Tree.{NameList, Content, file, Node, Tree, IsTree, node_at, file_node, file_at, is_directory_at}
+use Rattle.sd_io.specs.Tree.{NameList, Node, Tree, IsTree, node_at, file_node, file_at, is_directory_at}
 use Rattle.sd_io.specs.Paths.{parent_of, reached, named}
-use Rattle.sd_io.specs.Outcomes.{content_of}
 use Rattle.sd_io.specs.Disk.{DiskState, SameTree, HoldsPresent}
-use Rattle.sd_io.specs.Files.{path_text, kind_of, file_of, file_named}
+use Rattle.sd_io.specs.Files.{path_text, file_named}
 use Rattle.sd_io.specs.Lists.{directory_of, SyncsFolder}
 use Rattle.sd_io.proofs.PathTextLemmas.{text_names}
 use Rattle.sd_io.proofs.CrashLemmas.{settled_same, settled_folder}
@@ -32,7 +29,6 @@ use Rattle.change_phases.specs.Between.{Work, journal_name, journal_of, place_of
 use Rattle.change_phases.specs.Phases.{placing, cleared, IsIn}
 use Rattle.change_phases.proofs.LineLemmas.{first}
 use Rattle.change_phases.proofs.PhaseLemmas.{present, present_in, same_between, between_then}
-use Rattle.change_phases.proofs.WorkLemmas.{content_there}
 use Rattle.change_phases.proofs.RootLemmas.{directory_kept, between_ways}
 use Rattle.change_phases.proofs.RecoverLemmas.{between_folder, whole_now, underway}
 use Rattle.change_phases.proofs.AfterLemmas.{recoverable_now}
@@ -44,7 +40,7 @@ use Rattle.journal.specs.Clearing.{LeavesNoMore}
 use Rattle.journal.specs.Reading.{NoneStands, JournalStands, OtherStands, AllStand, StageFails, FailsAtFirst}
 use Rattle.journal.specs.Recovering.{MayRecover, IsMisread, RootFails, RecoverFails, IsBeforeWriting}
 use Rattle.journal.proofs.KeepingLemmas.{keeps_same, settled_still}
-use Rattle.journal.proofs.FileLemmas.{text_to_file, f, has, of, stands, stage_holds}
+use Rattle.journal.proofs.FileLemmas.{f, has, of, stands, stage_holds}
 use Rattle.journal.proofs.FinishingLemmas.{folder_there}
 use Rattle.journal.proofs.ClearingLemmas.{no_more_same, no_more_then, no_more_synced}
 use Rattle.journal.proofs.ReadingLemmas.{directory_reached, some_is, first_since}

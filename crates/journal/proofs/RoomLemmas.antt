@@ -1,15 +1,12 @@
 -- With room for all stages and the journal, nothing but want of memory refuses a change.
-use Rattle.std.proofs.Common.{true, false, Bool, ◌≡◌, ◌≢◌, ◌<◌, ◌≤◌, ◌+◌, ℕ, zero, suc, List, [], ◌∷◌, ◌++◌, length, if◌then◌else◌, refl, sym, ◌∙◌, ap, subst, ◌⊎◌, inl, inr, arith}
-use Rattle.std.specs.Prelude.{Option, Some, None, IsSome, is_some, IsTrue, Contains, Result, Ok, Err, IfErr}
+use Rattle.std.proofs.Common.{true, false, Bool, ◌≡◌, ◌<◌, ◌≤◌, ◌+◌, ℕ, List, [], ◌∷◌, ◌++◌, length, if◌then◌else◌, refl, sym, ◌∙◌, ap, subst, inl, inr, arith}
+use Rattle.std.specs.Prelude.{Some, None, IsSome, is_some, IsTrue, Result, Ok, Err, IfErr}
 use Rattle.std.specs.Option.{option_and_then}
-use Rattle.std.specs.List.{IsDistinct}
 use Rattle.std.specs.Cmp.{IsEquivalence}
 use Rattle.std.specs.Cmp.Lexicographic.{pointwise_decides, bytes_decides}
-use Rattle.std.specs.Set.{is_member}
 use Rattle.std.proofs.lemmas.Map.Made.{is_member-Decides, length-le_from_is_member}
 use Rattle.std.proofs.lemmas.Option.{same_Some}
 use Rattle.sd_io.specs.Tree.{NameList, Tree, node_at, file_at, is_directory_at}
-use Rattle.sd_io.specs.Paths.{reached}
 use Rattle.sd_io.specs.Outcomes.{same_place}
 use Rattle.sd_io.specs.Disk.{DiskState}
 use Rattle.sd_io.specs.Files.{file_of}
@@ -25,7 +22,7 @@ use Rattle.file_rewrite.specs.declared.fault.JobFault.TheVariants as job
 use Rattle.change_phases.specs.Between.{Work, journal_name}
 use Rattle.journal.specs.declared.fault.JournalFault.{JournalFault}
 use Rattle.journal.specs.declared.fault.JournalFault.TheVariants as fault
-use Rattle.journal.specs.Planning.{IsChangeOf, AreChangesOf, HaveChangesIn, LeadToFiles}
+use Rattle.journal.specs.Planning.{AreChangesOf, LeadToFiles}
 use Rattle.journal.specs.Changing.{IsChangeBelow, IsUnfinished, ChangeFails, HasFree, HasRoomFor, WantsMemory}
 use Rattle.journal.proofs.SameFilesLemmas.{none_stands}
 use Rattle.journal.proofs.StagingLemmas.{cons_cases}

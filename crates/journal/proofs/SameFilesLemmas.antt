@@ -1,15 +1,13 @@
 -- Files are put in place: where a file stood, one stands.
-use Rattle.std.proofs.Common.{true, ◌≡◌, ◌≢◌, ℕ, List, [], ◌∷◌, refl, sym, ◌∙◌, ap, subst, ◌⊎◌, inl, inr}
+use Rattle.std.proofs.Common.{true, ◌≡◌, ℕ, List, [], ◌∷◌, refl, sym, ◌∙◌, ap, subst, ◌⊎◌, inl, inr}
 use Rattle.std.specs.Prelude.{Option, Some, None, IsSome, is_some, Contains, Result, Ok, Err, OnOk}
 use Rattle.std.specs.Option.{option_and_then}
-use Rattle.std.proofs.lemmas.Option.{same_Some}
 use Rattle.sd_io.specs.Tree.{NameList, Node, Tree, node_at, file_node, file_at}
-use Rattle.sd_io.specs.Paths.{parent_of, reached, named, SameWays, way_of_node}
+use Rattle.sd_io.specs.Paths.{reached, SameWays, way_of_node}
 use Rattle.sd_io.specs.Disk.{DiskState, SameTree}
 use Rattle.sd_io.specs.Files.{file_of}
 use Rattle.sd_io.proofs.WayLemmas.{same_or_other, file_has_no_way, reached_still}
-use Rattle.file_exchange.specs.Reserved.{Free}
-use Rattle.file_rewrite.specs.OneFile.{FreeAtMost, IsCrowded}
+use Rattle.file_rewrite.specs.OneFile.{IsCrowded}
 use Rattle.file_rewrite.specs.Putting.{PutsFile}
 use Rattle.file_rewrite.specs.declared.fault.JobFault.{JobFault}
 use Rattle.journal_text.specs.declared.line.Line.{Line}

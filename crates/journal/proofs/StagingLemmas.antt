@@ -1,6 +1,6 @@
 -- Why stages aren't made, and what is left then.
-use Rattle.std.proofs.Common.{true, false, Bool, ◌≡◌, ◌≢◌, ◌<◌, ◌≤◌, ◌+◌, ℕ, zero, suc, List, [], ◌∷◌, ◌++◌, length, take, drop, get_or, refl, sym, ◌∙◌, ap, subst, ◌⊎◌, inl, inr, arith}
-use Rattle.std.specs.Prelude.{Option, Some, None, IsSome, is_some, IsTrue, Contains, slice_get, Result, Ok, Err, IsErrOf, IsErrAnd, IfErr}
+use Rattle.std.proofs.Common.{true, false, Bool, ◌≡◌, ◌≢◌, ◌≤◌, ◌+◌, ℕ, zero, suc, List, [], ◌∷◌, ◌++◌, length, take, drop, refl, sym, ◌∙◌, ap, subst, ◌⊎◌, inl, inr, arith}
+use Rattle.std.specs.Prelude.{Option, Some, None, IsSome, IsTrue, Contains, slice_get, Err}
 use Rattle.std.specs.Option.{option_and_then}
 use Rattle.std.proofs.lemmas.Option.{same_Some, get_or_from_slice_get, slice_get_within}
 use Rattle.std.proofs.lemmas.List.{take-append-drop, take_all, take_more, length-append}
@@ -14,29 +14,27 @@ use Rattle.sd_io.specs.Files.{path_text, file_of}
 use Rattle.sd_io.proofs.OutcomeLemmas.{parent_of_child}
 use Rattle.sd_io.proofs.WayLemmas.{same_or_other, reached_still}
 use Rattle.sd_change.specs.Change.{Change, FileChange}
-use Rattle.sd_course.specs.Course.{course, HasRisenBy}
+use Rattle.sd_course.specs.Course.{course}
 use Rattle.file_exchange.specs.Causes.{HasCauseOf}
-use Rattle.file_exchange.specs.Reserved.{Free, FirstFree, NoneFree, Reserved, IsFolderPath, reserved_name, reserved_names}
+use Rattle.file_exchange.specs.Reserved.{Free, NoneFree, IsFolderPath, reserved_name, reserved_names}
 use Rattle.file_exchange.specs.Exchange.{IsPathIn}
 use Rattle.file_exchange.specs.Crash.{Exchange}
 use Rattle.file_exchange.proofs.CauseLemmas.{risen_since}
 use Rattle.file_exchange.proofs.PlaceLemmas.{is_free, is_beside}
 use Rattle.file_rewrite.specs.Reading.{FindsFile}
-use Rattle.file_rewrite.specs.OneFile.{HasFileCause, IsFileFault, FreeAtMost}
-use Rattle.file_rewrite.specs.declared.fault.JobFault.{JobFault}
+use Rattle.file_rewrite.specs.OneFile.{HasFileCause, FreeAtMost}
 use Rattle.file_rewrite.specs.declared.fault.JobFault.TheVariants as job
 use Rattle.journal_text.specs.declared.line.Line.{Line}
-use Rattle.change_phases.specs.Between.{place_of, stage_of, IsLineOf}
+use Rattle.change_phases.specs.Between.{place_of, stage_of}
 use Rattle.change_phases.proofs.LineLemmas.{first, later}
 use Rattle.journal.specs.declared.fault.JournalFault.{JournalFault}
 use Rattle.journal.specs.declared.fault.JournalFault.TheVariants as fault
 use Rattle.journal.specs.Faults.{of_disk}
 use Rattle.journal.specs.Beside.{LeavesBeside, KeepsAllButFree}
 use Rattle.journal.specs.Clearing.{IsStage}
-use Rattle.journal.specs.Planning.{IsChangeOf, AddsFiles, AddsStages, StagesFile, LeavesStage, ChangesIn, HaveChangesIn, CountStages, HasTooFew, LeadToFiles, MissesFile, IsCrowdedAt, IsNotStaged, AreNotStaged}
-use Rattle.journal.proofs.SameFilesLemmas.{none_stands, none_or_some, some_of, file_stands}
+use Rattle.journal.specs.Planning.{IsChangeOf, AddsFiles, AddsStages, StagesFile, LeavesStage, ChangesIn, HaveChangesIn, CountStages, HasTooFew, LeadToFiles, IsCrowdedAt, IsNotFound, IsNotStaged, AreNotStaged}
+use Rattle.journal.proofs.SameFilesLemmas.{none_stands, none_or_some, file_stands}
 use Rattle.journal.proofs.CauseLemmas.{more_since}
-use Rattle.journal.proofs.PlanningLemmas.{free_before, stood_no_stage}
 
 -- ---- all but reserved names that were free
 
@@ -144,8 +142,7 @@ module _ (change : Change) (old now next : DiskState) (paths : List (List ℕ)) 
   -- a file was passed over
   pub count_same : longer ≡ lines → CountStages change old.tree (take (n + 1) paths) longer
   count_same e folder =
-      let (places, have, among) = counted folder in
-      (
+      let (places, have, among) = counted folder in (
         places,
         subst (λ (ps : List (List ℕ)). HaveChangesIn change old.tree folder ps (length places)) (sym taken) (more_paths change old.tree folder (take n paths) (path ∷ []) (length places) have),
         (λ line has of. among line (subst (λ (ls : List Line). Contains ls line) e has) of),
@@ -160,8 +157,8 @@ module _ (change : Change) (old now next : DiskState) (paths : List (List ℕ)) 
         | inl here ↦ (
           places ++ stage_of line ∷ [],
           subst (λ (k : ℕ). HaveChangesIn change old.tree folder (take (n + 1) paths) k) (sym (length-append places (stage_of line ∷ [])))
-          (subst (λ (ps : List (List ℕ)). HaveChangesIn change old.tree folder ps (length places + 1)) (sym taken)
-          (one_more change old.tree folder (take n paths) path (length places) have (m.f, was, ap parent_of (sym m.of.place) ∙ here))),
+              (subst (λ (ps : List (List ℕ)). HaveChangesIn change old.tree folder ps (length places + 1)) (sym taken)
+              (one_more change old.tree folder (take n paths) path (length places) have (m.f, was, ap parent_of (sym m.of.place) ∙ here))),
           (λ other has of. elim (Contains-push_cases lines line other (subst (λ (ls : List Line). Contains ls other) pushed has)) [
             | inl before ↦ Contains-append_left places (stage_of line ∷ []) (stage_of other) (among other before of)
             | inr same ↦ Contains-append_right places (stage_of line ∷ []) (stage_of other) (subst (λ (l : Line). Contains (stage_of line ∷ []) (stage_of l)) same (first (stage_of line) []))
@@ -194,12 +191,24 @@ free_at_most old now lines folder places a among none = record {
 
 -- ---- why one isn't staged
 
-pub found_fails : (change : Change) (tells : Bool) (s t : DiskState) (path : List ℕ) (refused : DiskFault) → HasFileCause (course tells s t) path (job.File refused) → IsNotStaged change (course tells s t) path (fault.File refused)
-found_fails change true s t path disk.Absent cause = inr (refl, (path, first path [], cause.0 refl))
-found_fails change false s t path disk.Absent cause = inl (cause.1 refl)
-found_fails change tells s t path disk.Taken cause = absurd cause
-found_fails change tells s t path disk.Failed cause = inl cause
-found_fails change tells s t path disk.NoMemory cause = absurd cause
+pub found_fails : (tells : Bool) (s t : DiskState) (path : List ℕ) (refused : DiskFault) → HasFileCause (course tells s t) path (job.File refused) → IsNotFound (course tells s t) path (fault.File refused)
+found_fails true s t path disk.Absent cause = inr (refl, (path, first path [], cause.0 refl))
+found_fails false s t path disk.Absent cause = inl (cause.1 refl)
+found_fails tells s t path disk.Taken cause = absurd cause
+found_fails tells s t path disk.Failed cause = inl cause
+found_fails tells s t path disk.NoMemory cause = absurd cause
+
+-- a file that isn't found isn't staged
+pub not_found : (change : Change) (tells : Bool) (s t : DiskState) (path : List ℕ) (refused : JournalFault) → IsNotFound (course tells s t) path refused → IsNotStaged change (course tells s t) path refused
+not_found change tells s t path fault.RootMissing fails = fails
+not_found change tells s t path (fault.File refused) fails = fails
+not_found change tells s t path fault.Pending fails = fails
+not_found change tells s t path (fault.TempName folder) fails = absurd fails
+not_found change tells s t path (fault.Unfinished job) fails = fails
+not_found change tells s t path fault.BadJournal fails = fails
+not_found change tells s t path (fault.StageMissing stage) fails = fails
+not_found change tells s t path (fault.StageDiffers stage planned found) fails = fails
+not_found change tells s t path fault.NoMemory fails = fails
 
 pub made_fails : {T : Type 0} (change : Change) (tells : Bool) (old s t : DiskState) (path : List ℕ) (refused : DiskFault) → old.faults ≤ s.faults → HasCauseOf {T = T} (λ f. f) tells s t (Err refused)
     → IsNotStaged change (course tells old t) path (of_disk refused)
@@ -239,8 +248,7 @@ module _ (change : Change) (tells : Bool) (old now new : DiskState) (paths : Lis
       let one : HaveChangesIn change old.tree folder (take n paths ++ path ∷ []) (length places + 1) = one_more change old.tree folder (take n paths) path (length places) have (c.f, was, refl) in
       let taken : take (n + 1) paths ≡ take n paths ++ path ∷ [] = take_more paths n path (slice_get_within paths n path at) ∙ ap (λ (p : List ℕ). take n paths ++ p ∷ []) (get_or_from_slice_get paths n path path at) in
       let all : HaveChangesIn change old.tree folder (take (n + 1) paths ++ drop (n + 1) paths) (length places + 1) =
-      more_paths change old.tree folder (take (n + 1) paths) (drop (n + 1) paths) (length places + 1) (subst (λ (ps : List (List ℕ)). HaveChangesIn change old.tree folder ps (length places + 1)) (sym taken) one) in
-      (
+      more_paths change old.tree folder (take (n + 1) paths) (drop (n + 1) paths) (length places + 1) (subst (λ (ps : List (List ℕ)). HaveChangesIn change old.tree folder ps (length places + 1)) (sym taken) one) in (
         folder,
         c.folder_is,
         record {

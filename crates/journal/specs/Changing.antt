@@ -83,7 +83,6 @@ pub record IsWritten (lines : List Line) (temporary path root : List ℕ) (tree 
   pub free : node_at tree (folder ++ journal_name ∷ []) ≡ None
   pub place : NameList
   pub names : named tree temporary ≡ Some place
-  pub reserved : Reserved folder place
   pub is_file : IsSome (file_at tree place)
   pub apart : (line : Line) → Contains lines line → (place ≢ place_of line) × (place ≢ stage_of line)
   pub paths : (line : Line) → Contains lines line → IsFilePath tree line.path

@@ -139,7 +139,19 @@ pub record IsCrowdedAt (change : Change) (tree : Tree) (path folder : List ℕ) 
   pub folder_is : folder ≡ path_text (parent_of f.0)
   pub none_free : NoneFree tree (parent_of f.0)
 
--- why one isn't
+-- why the file that a path leads to isn't found
+abbrev pub IsNotFound : Course DiskState → List ℕ → JournalFault → Type 0
+IsNotFound d path fault.RootMissing = ⊥
+IsNotFound d path (fault.File refused) = MissesFile d (path ∷ [])
+IsNotFound d path fault.Pending = ⊥
+IsNotFound d path (fault.TempName folder) = ⊥
+IsNotFound d path (fault.Unfinished job) = ⊥
+IsNotFound d path fault.BadJournal = ⊥
+IsNotFound d path (fault.StageMissing stage) = ⊥
+IsNotFound d path (fault.StageDiffers stage planned found) = ⊥
+IsNotFound d path fault.NoMemory = ⊤
+
+-- why one isn't staged
 abbrev pub IsNotStaged : Change → Course DiskState → List ℕ → JournalFault → Type 0
 IsNotStaged change d path fault.RootMissing = ⊥
 IsNotStaged change d path (fault.File refused) = MissesFile d (path ∷ [])

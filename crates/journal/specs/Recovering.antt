@@ -1,13 +1,13 @@
 -- A change is recovered.
-use Rattle.std.specs.Prelude.{◌≡◌, ◌<◌, ◌⊎◌, ◌++◌, ◌∷◌, [], ℕ, true, List, length, Some, None, IsTrue, Contains, ⊤}
-use Rattle.sd_io.specs.Tree.{NameList, Tree, node_at}
-use Rattle.sd_io.specs.Paths.{parent_of, reached}
+use Rattle.std.specs.Prelude.{◌≡◌, ◌<◌, ◌⊎◌, ℕ, true, List, length, Some, IsTrue, Contains, ⊤}
+use Rattle.sd_io.specs.Tree.{NameList, Tree}
+use Rattle.sd_io.specs.Paths.{parent_of}
 use Rattle.sd_io.specs.Lists.{directory_of}
 use Rattle.sd_io.specs.Files.{LeadsNowhere}
 use Rattle.sd_io.specs.Disk.{DiskState}
 use Rattle.sd_course.specs.Course.{Course, AsTold, DiskFailed}
 use Rattle.journal_text.specs.declared.line.Line.{Line}
-use Rattle.change_phases.specs.Between.{Work, IsWork, journal_name, AllNew}
+use Rattle.change_phases.specs.Between.{Work, IsWork, AllNew}
 use Rattle.change_phases.specs.Recovery.{IsRecoverable}
 use Rattle.journal.specs.declared.fault.JournalFault.{JournalFault}
 use Rattle.journal.specs.declared.fault.JournalFault.TheVariants as fault

@@ -1,21 +1,22 @@
 //! A change of many files, made with a journal.
 
-ghost use Rattle.std.specs.Prelude.{◌≡◌, ◌<◌, ◌≤◌, ℕ, IsTrue, IsSome, IfOk, IfErr, OnOk, Contains, List, length, None};
-ghost use Rattle.sd_io.specs.Tree.{node_at};
+ghost use Rattle.std.specs.Prelude.{◌≡◌, ◌<◌, ◌≤◌, ◌++◌, ◌∷◌, [], ℕ, IsTrue, IsSome, IfOk, IfErr, OnOk, IsErrAnd, Contains, List, length, Some, None};
+ghost use Rattle.sd_io.specs.Tree.{NameList, node_at};
 ghost use Rattle.sd_io.specs.Paths.{parts_of, parent_of};
 ghost use Rattle.sd_io.specs.Disk.{SameTree, SameLists};
 ghost use Rattle.sd_io.specs.Lists.{directory_of};
-ghost use Rattle.sd_course.specs.Course.{course};
+ghost use Rattle.sd_course.specs.Course.{course, DiskFailed};
 ghost use Rattle.file_exchange.specs.Exchange.{IsFilePath, IsPathIn};
 ghost use Rattle.journal_text.specs.declared.line.Line as line;
-ghost use Rattle.change_phases.specs.Between.{Work, journal_of};
+ghost use Rattle.change_phases.specs.Between.{Work, journal_name, journal_of};
 ghost use Rattle.change_phases.specs.Phases.{naming, cleared, IsIn};
 ghost use Rattle.journal.specs.Keeping.{AreRootPaths, IsSettledIn, KeepsPhase, KeepsBetween};
 ghost use Rattle.journal.specs.Finding.{LeavesLists};
 ghost use Rattle.journal.specs.Finishing.{StagesAreGone};
+ghost use Rattle.journal.specs.Clearing.{LeavesNoMore};
 ghost use Rattle.journal.specs.Beside.{KeepsAllButFree, AddsBeside};
 ghost use Rattle.journal.specs.Naming.{MayBeNamed};
-ghost use Rattle.journal.specs.Changing.{IsChangeBelow, MayChange, IsChanged, ExchangesFiles, LeavesNothing, WritingFails, IsWritten, EndFails};
+ghost use Rattle.journal.specs.Changing.{IsChangeBelow, MayChange, IsChanged, ExchangesFiles, LeavesNothing, WritingFails, IsWritten, EndFails, MakingFails, ChangeFails, IsPending, ComesFirst, HasRoomFor, WantsMemory};
 
 use crate::JournalFault;
 use crate::beside::make_beside;
@@ -36,11 +37,18 @@ use std::alloc::Global;
 
 /// Gives each file that the paths lead to its new bytes, so that whatever a crash at any moment leaves, `recover` of the same root makes all of
 /// them old, or all of them new. A file whose bytes don't change is left alone; where none changes, or the root leads to a node that is no
-/// directory, nothing is written. Refuses `Pending` where a journal stands in the root.
+/// directory, nothing is written.
+///
+/// Refuses `RootMissing` where the root leads to no node, and `Pending` where something stands in the journal's place; nothing was written then. A
+/// counted fault and want of memory may come first.
+/// Refuses `TempName` where a folder has fewer free reserved names than files that change, one more counted for the root; `File` with a counted
+/// fault, or where a path leads to no regular file; and for want of memory. All but reserved names that were free is then as it was. `Unfinished`
+/// comes from the step on that gives the journal its name: the change is to be recovered.
 ///
 /// On a disk that tells its tree, where each crash leaves it as it stands and the paths lead to the files that change, each in a place of its own:
-/// every image that a crash at any moment leaves is between old and new, and so it is after each refusal; after `Ok` each crash leaves each file
-/// new, with its mode, and no journal.
+/// every image that a crash at any moment leaves is between old and new, and so it is after each refusal; after `Ok` each file has its mode and its
+/// new bytes, every other place is as it was, and each crash leaves each file new, and no journal. With a free reserved name for each file that
+/// changes, one more in each folder and in the root yet one more, nothing but a counted fault and want of memory refuses it.
 pub fn change_files<D: Disk, R: Replaces>(
     alloc: Global,
     disk: &mut D,
@@ -54,6 +62,12 @@ pub fn change_files<D: Disk, R: Replaces>(
         → OnOk result (IsChanged work (D.state disk.new)) }
     ensures tree { IsTrue D.tells → (work : Work) → IsChangeBelow (R.change replacer.now) work root.now paths.now (D.state disk.old)
         → OnOk result (ExchangesFiles work.files (D.state disk.old).tree (D.state disk.new).tree) }
+    ensures fails { IfErr result (ChangeFails (R.change replacer.now) root.now paths.now (course D.tells (D.state disk.old) (D.state disk.new))) }
+    ensures pending { IsTrue D.tells → IsPending (D.state disk.old).tree root.now → IsErrAnd result ComesFirst }
+    ensures unwritten { IsTrue D.tells → IsPending (D.state disk.old).tree root.now → LeavesNoMore (D.state disk.old) (D.state disk.new) }
+    ensures complete { IsTrue D.tells → (work : Work) → IsChangeBelow (R.change replacer.now) work root.now paths.now (D.state disk.old)
+        → HasRoomFor (R.change replacer.now) (D.state disk.old).tree root.now paths.now
+        → (DiskFailed (course D.tells (D.state disk.old) (D.state disk.new)) → ⊥) → IfErr result WantsMemory }
     ensures no_directory { IsTrue D.tells → directory_of (D.state disk.old).tree root.now ≡ None → OnOk result (SameTree (D.state disk.old) (D.state disk.new)) }
     ensures lists { LeavesLists (D.state disk.old) (D.state disk.new) }
     ensures never_falls { (D.state disk.old).faults ≤ (D.state disk.new).faults }
@@ -76,11 +90,14 @@ fn make_change<D: Disk, R: Replaces>(
     paths: &[Text],
     replacer: &R,
 ) -> Result<(), JournalFault>
-    requires { IsTrue D.tells → IsSome (directory_of (D.state disk.old).tree root.now) }
+    requires directory { IsTrue D.tells → IsSome (directory_of (D.state disk.old).tree root.now) }
+    requires no_journal { IsTrue D.tells → (folder : NameList) → directory_of (D.state disk.old).tree root.now ≡ Some folder
+        → node_at (D.state disk.old).tree (folder ++ journal_name ∷ []) ≡ None }
     ensures kept { IsTrue D.tells → (work : Work) → MayChange (R.change replacer.now) work root.now paths.now (D.state disk.old)
         → KeepsBetween work (D.state disk.old) (D.state disk.new) }
     ensures changed { IsTrue D.tells → (work : Work) → MayChange (R.change replacer.now) work root.now paths.now (D.state disk.old)
         → OnOk result (IsChanged work (D.state disk.new)) }
+    ensures fails { IfErr result (MakingFails (R.change replacer.now) root.now paths.now (course D.tells (D.state disk.old) (D.state disk.new))) }
     ensures tree { IsTrue D.tells → (work : Work) → MayChange (R.change replacer.now) work root.now paths.now (D.state disk.old)
         → OnOk result (ExchangesFiles work.files (D.state disk.old).tree (D.state disk.new).tree) }
     ensures lists { SameLists (D.state disk.old) (D.state disk.new) }

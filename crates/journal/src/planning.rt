@@ -1,14 +1,15 @@
 //! Stages of files that are to change, made in turn.
 
-ghost use Rattle.std.specs.Prelude.{◌≡◌, ◌≤◌, IsTrue, IfOk, IfSome, IfNone, Contains};
+ghost use Rattle.std.specs.Prelude.{◌≡◌, ◌≤◌, IsTrue, IfOk, IfErr, IfSome, IfNone, Contains};
 ghost use Rattle.sd_io.specs.Disk.{SameTree, SameLists};
+ghost use Rattle.sd_course.specs.Course.{course};
 ghost use Rattle.file_exchange.specs.Exchange.{IsFilePath};
 ghost use Rattle.file_rewrite.specs.Reading.{FindsFile};
 ghost use Rattle.change_phases.specs.Between.{Work};
 ghost use Rattle.journal_text.specs.declared.line.Line as line;
 ghost use Rattle.journal.specs.Keeping.{KeepsPreparing};
 ghost use Rattle.journal.specs.Beside.{KeepsAllButFree};
-ghost use Rattle.journal.specs.Planning.{IsPlanned, IsUnchanged, StagesFile, LeavesStage, AddsFiles, AddsStages, AreStagesMade, CountStages, LeadToFiles};
+ghost use Rattle.journal.specs.Planning.{IsPlanned, IsUnchanged, StagesFile, LeavesStage, AddsFiles, AddsStages, AreStagesMade, CountStages, LeadToFiles, IsNotFound, IsNotStaged, AreNotStaged};
 
 use crate::JournalFault;
 use crate::beside::make_beside;
@@ -38,6 +39,7 @@ pub(crate) fn make_stages<D: Disk, R: Replaces>(
     ensures counted { IsTrue D.tells → LeadToFiles (D.state disk.old).tree paths.now
         → IfOk result (CountStages (R.change replacer.now) (D.state disk.old).tree paths.now) }
     ensures free { IsTrue D.tells → KeepsAllButFree (D.state disk.old).tree (D.state disk.new).tree }
+    ensures fails { IfErr result (AreNotStaged (R.change replacer.now) (course D.tells (D.state disk.old) (D.state disk.new)) paths.now) }
     ensures paths { IsTrue D.tells → IfOk result (λ journal. (line : line.Line) → Contains journal line → IsFilePath (D.state disk.new).tree line.path) }
     ensures lists { SameLists (D.state disk.old) (D.state disk.new) }
     ensures never_falls { (D.state disk.old).faults ≤ (D.state disk.new).faults }
@@ -61,6 +63,7 @@ fn stage_file<D: Disk, R: Replaces>(
     ensures staged { IsTrue D.tells → IfOk result (λ made. IfSome made (λ line. StagesFile (R.change replacer.now) path.now line (D.state disk.old) (D.state disk.new))) }
     ensures unchanged { IsTrue D.tells → IfOk result (λ made. IfNone made (IsUnchanged (R.change replacer.now) path.now (D.state disk.old) (D.state disk.new))) }
     ensures left { IsTrue D.tells → LeavesStage path.now (D.state disk.old) (D.state disk.new) }
+    ensures fails { IfErr result (IsNotStaged (R.change replacer.now) (course D.tells (D.state disk.old) (D.state disk.new)) path.now) }
     ensures lists { SameLists (D.state disk.old) (D.state disk.new) }
     ensures never_falls { (D.state disk.old).faults ≤ (D.state disk.new).faults }
 {
@@ -85,6 +88,7 @@ fn stage_file<D: Disk, R: Replaces>(
 /// The file that a path leads to. Refuses `File` where `find_file` does, whose only other answer is want of memory.
 fn find<D: Disk>(alloc: Global, disk: &mut D, path: &str) -> Result<FoundFile, JournalFault>
     ensures found { IsTrue D.tells → IfOk result (λ found. FindsFile (D.state disk.old).tree path.now found.path found.bytes.items) }
+    ensures fails { IfErr result (IsNotFound (course D.tells (D.state disk.old) (D.state disk.new)) path.now) }
     ensures tree { SameTree (D.state disk.old) (D.state disk.new) }
     ensures lists { SameLists (D.state disk.old) (D.state disk.new) }
     ensures never_falls { (D.state disk.old).faults ≤ (D.state disk.new).faults }

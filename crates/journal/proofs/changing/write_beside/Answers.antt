@@ -81,10 +81,9 @@ returns-in_err-made-clause-fails g c =
 
 pub returns-clause-fails : goal.returns-clause-fails
 returns-clause-fails g c = (
-  (λ told.
-      (
-        folder_text_is (g.D.Disk.state c.args.disk.now).tree c.args.path.now c.args.path.now c.folder_path.result.now c.in_ok-new-in-None.field-0 (c.requires.beside told) refl c.folder_path.ensures c.in_ok-new-in-None.ensures,
-        (rw c.in-None.is at (c.in_ok-made.ensures.none_free told))
-      )),
+  (λ told. (
+    folder_text_is (g.D.Disk.state c.args.disk.now).tree c.args.path.now c.args.path.now c.folder_path.result.now c.in_ok-new-in-None.field-0 (c.requires.beside told) refl c.folder_path.ensures c.in_ok-new-in-None.ensures,
+    (rw c.in-None.is at (c.in_ok-made.ensures.none_free told)),
+  )),
   (λ untold. rw c.in-None.is at (c.in_ok-made.ensures.risen untold)),
 )

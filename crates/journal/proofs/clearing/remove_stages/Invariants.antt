@@ -13,4 +13,3 @@ invariant-loop-line g l = record {
   cleared : IsTrue g.D.Disk.tells → HaveFolders (g.D.Disk.state l.fn.disk).tree l.fn.journal
       → IsClearedTo l.fn.journal (g.D.Disk.state l.fn.disk) l.line-index (g.D.Disk.state l.disk);
 }
-

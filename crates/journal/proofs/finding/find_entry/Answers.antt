@@ -1,5 +1,5 @@
 use Rattle.sd_io.specs.Lists.{IsNoDirectory}
-use Rattle.journal.proofs.FindingLemmas.{opened_list, entry_found, look_refused, listing_refused}
+use Rattle.journal.proofs.FindingLemmas.{opened_list, entry_found, listing_refused}
 use Rattle.journal.proofs.finding.find_entry.Goals as goal
 
 pub returns-clause-found : goal.returns-clause-found

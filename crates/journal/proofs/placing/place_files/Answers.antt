@@ -1,7 +1,7 @@
 use Rattle.std.proofs.Common.{rules, ap, length, arith, [], ◌∷◌}
 use Rattle.journal.proofs.LineLemmas.{item_at, contains_at}
 use Rattle.journal.proofs.PlacingLemmas.{placing_still, kept_more, placed_more, placed_all}
-use Rattle.journal.proofs.SameFilesLemmas.{changes_none, changes_then}
+use Rattle.journal.proofs.SameFilesLemmas.{changes_then}
 use Rattle.journal.proofs.CauseLemmas.{told_on, cause_since, one_among}
 use Rattle.journal.proofs.placing.place_files.Goals as goal
 

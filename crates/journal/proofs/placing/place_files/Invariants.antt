@@ -16,4 +16,3 @@ invariant-loop-line g l = record {
   placed : IsTrue g.D.Disk.tells → (work : Work) → IsSettledIn placing work l.fn.journal (g.D.Disk.state l.fn.disk)
       → IsPlacedTo work l.fn.journal (g.D.Disk.state l.fn.disk) l.line-index (g.D.Disk.state l.disk);
 }
-

@@ -2,7 +2,8 @@ use Rattle.std.specs.Prelude.{Contains}
 use Rattle.std.proofs.Common.{rules, subst, sym, ◌∙◌, refl, arith, List}
 use Rattle.journal_text.specs.declared.line.Line.{Line}
 use Rattle.journal.proofs.PlanningLemmas.{IsMadeTo, made_none, adds_same, no_paths, path_at, left_on, made_more, not_unchanged, adds_then, adds_stage, stages_none, stages_same, stages_more, paths_still, paths_more, made_all}
-use Rattle.journal.proofs.StagingLemmas.{contains_path, count_none, count_same, count_more, count_all, stages_free, left_free, free_then}
+use Rattle.journal.proofs.StagingLemmas.{contains_path, count_none, count_same, count_more, count_all, stages_free, left_free, free_then, stages_fail}
+use Rattle.journal.proofs.CauseLemmas.{told_on}
 use Rattle.journal.proofs.planning.make_stages.Goals as goal
 use Rattle.journal.proofs.planning.make_stages.Goals.{in-Some+in_ok-push, in_default}
 
@@ -153,3 +154,18 @@ returns-clause-counted g c =
     λ told lead.
     count_all (g.R.Replaces.change c.args.replacer.now) (g.D.Disk.state c.args.disk.now).tree c.args.paths.now c.loop-path.path-index c.loop-path.journal
     (omega (arith, c.loop-path-test.false, c.loop-path.auto.path-index-end)) (c.loop-path.invariant.counted told lead)
+
+pub returns-in_err-line-clause-fails : goal.returns-in_err-line-clause-fails
+returns-in_err-line-clause-fails g c =
+    let change = g.R.Replaces.change c.args.replacer.now in
+    let paths = c.args.paths.now in
+    let start = g.D.Disk.state c.args.disk.now in
+    let n = c.loop-path.path-index in
+    let lines = c.loop-path.journal in
+    let now = g.D.Disk.state c.loop-path.disk in
+    let next = g.D.Disk.state c.stage_file.new.disk in
+    let path = c.as_str.result.now in
+    let at = path_at paths n c.path-item.result path (omega arith) c.path-item.is c.as_str.ensures.same in
+    told_on _ c.from_residual.result _ c.from_residual.ensures.1
+    (stages_fail change g.D.Disk.tells start now next paths n path at c.loop-path.invariant.never_falls lines c.loop-path.invariant.adds c.loop-path.invariant.stages c.loop-path.invariant.counted
+    c.in_err-line.field-0.0 c.in_err-line.ensures.fails)

@@ -1,4 +1,4 @@
-use Rattle.std.proofs.Common.{List, ◌≡◌, ℕ, true, inl, inr, refl, ◌∙◌, ap, sym, subst, arith}
+use Rattle.std.proofs.Common.{List, ◌≡◌, true, inl, inr, refl, ◌∙◌, ap, sym, subst, arith}
 use Rattle.std.specs.Prelude.{IsTrue, is_some}
 use Rattle.sd_io.specs.Tree.{Tree}
 use Rattle.sd_io.specs.Paths.{reached}
@@ -273,9 +273,11 @@ returns-in_err-map_err-clause-fails g c =
       stand = λ told. all_same s.tree s2.tree root lines (same told) (read_if told).0;
       cause = line_cause_since g.D.Disk.tells s s3 (g.D.Disk.state c.finish.new.disk) lines (λ told. (c.read_in_root.ensures.tree told).tree ∙ same told) (omega (arith, low, low_then, low_last))
           job (rw is at (c.finish.ensures.fails (λ told.
-              let (all, path_is) = read_if told in
-              (_, journal_there s2.tree s3.tree root c.as_str-path.result.now lines (c.read_in_root.ensures.tree told).tree (g.met.D.Disk.is_tree c.sync_dir.new.self told) all
-              (c.as_str-path.ensures.same ∙ path_is)))));
+          let (all, path_is) = read_if told in (
+            _,
+            journal_there s2.tree s3.tree root c.as_str-path.result.now lines (c.read_in_root.ensures.tree told).tree (g.met.D.Disk.is_tree c.sync_dir.new.self told) all
+                (c.as_str-path.ensures.same ∙ path_is),
+          ))));
     }))
 
 -- ---- nothing was written
