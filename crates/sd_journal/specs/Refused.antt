@@ -54,7 +54,7 @@ JournalledFails change root globs d error.Pending = IsTrue d.tells → IsPending
 JournalledFails change root globs d (error.TempName text) =
     LeavesAllButFree d
     × AsTold d.tells (OfChangedPaths change root globs d.old.tree (λ paths. IsTooCrowded change d.old.tree root paths text))
-      (HasRisenBy reserved_names d.old.faults d.new.faults)
+    (HasRisenBy reserved_names d.old.faults d.new.faults)
 JournalledFails change root globs d (error.Unfinished job) = IsUnfinishedSweep change root globs d job
 JournalledFails change root globs d error.BadJournal = ⊥
 JournalledFails change root globs d (error.StageMissing path) = ⊥

@@ -121,7 +121,7 @@ module _ (change : Change) (one : IsOne change) (root : List ℕ) (globs : List 
       → IfErr r (IsFaultOf (ChangeFails change root (changed_paths lines) (course tells t u))) → (IsTrue tells → IsPending t.tree root → IsErrAnd r (IsFaultOf ComesFirst))
       → (IsTrue tells → IsPending t.tree root → LeavesNoMore t u)
       → (IsTrue tells → (work : Work) → IsChangeBelow change work root (changed_paths lines) t → HasRoomFor change t.tree root (changed_paths lines) → (DiskFailed (course tells t u) → ⊥)
-          → IfErr r (IsFaultOf WantsMemory))
+      → IfErr r (IsFaultOf WantsMemory))
       → LeavesLists t u → t.faults ≤ u.faults
       → SweepsJournalled change root globs same_later r (course tells s u)
   swept r keeps changes exchanges no_root counts fails pending unwritten complete lists low = record {
