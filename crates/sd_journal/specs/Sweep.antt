@@ -1,5 +1,5 @@
 -- What a journalled sweep does, and how it ends.
-use Rattle.std.specs.Prelude.{◌≡◌, ◌⊎◌, ◌≤◌, ℕ, IsTrue, List, length, Some, None, Result, Err, IfOk, OnOk}
+use Rattle.std.specs.Prelude.{◌≡◌, ◌⊎◌, ◌≤◌, ℕ, IsTrue, List, length, Some, None, Result, Err, IsErrAnd, IfOk, IfErr, OnOk}
 use Rattle.sd_io.specs.Tree.{NameList, Tree}
 use Rattle.sd_io.specs.Lists.{directory_of}
 use Rattle.sd_io.specs.Disk.{DiskState, SameTree}
@@ -13,11 +13,13 @@ use Rattle.sd_plan.specs.Plan.{changed_in, replaced_in}
 use Rattle.sd_plan.specs.declared.line.PlanLine.{PlanLine}
 use Rattle.change_phases.specs.Between.{Work}
 use Rattle.journal.specs.Keeping.{KeepsBetween}
-use Rattle.journal.specs.Changing.{IsChanged, ExchangesFiles}
+use Rattle.journal.specs.Changing.{IsChanged, IsPending, ExchangesFiles}
+use Rattle.journal.specs.Clearing.{LeavesNoMore}
 use Rattle.sd_core.specs.Selection.{IsChosenBelow, by_globs, ListsChosenAt}
-use Rattle.sd_core.specs.Sweep.{sweep_cap}
+use Rattle.sd_core.specs.Sweep.{IsClear, sweep_cap}
 use Rattle.sd_core.specs.declared.error.Error.TheVariants as sweep
 use Rattle.sd_journal.specs.Work.{IsWorkOf, IsFresh}
+use Rattle.sd_journal.specs.Refused.{JournalledFails, ComesBefore, HasRoomForChosen, IsForWantOfMemory}
 use Rattle.sd_journal.specs.declared.error.JournalError.{JournalError}
 use Rattle.sd_journal.specs.declared.error.JournalError.TheVariants as error
 
@@ -58,6 +60,11 @@ pub record SweepsJournalled (change : Change) (root : List ℕ) (globs : List (L
   pub nowhere : IsTrue d.tells → directory_of d.old.tree root ≡ None → OnOk result (SameTree d.old d.new)
   pub counted : IsTrue d.tells → IfOk result (CountsChosen change root globs d.old.tree)
   pub few : IsTrue d.tells → OnOk result ((by_globs root globs).HasFewer sweep_cap d.old.tree)
+  pub fails : IfErr result (JournalledFails change root globs d)
+  pub pending : IsTrue d.tells → IsPending d.old.tree root → IsErrAnd result ComesBefore
+  pub unwritten : IsTrue d.tells → IsPending d.old.tree root → LeavesNoMore d.old d.new
+  pub complete : IsClear (by_globs root globs) sweep_cap d → (folder : NameList) → directory_of d.old.tree root ≡ Some folder → IsFresh root d.old
+      → HasRoomForChosen change root globs d.old.tree → IfErr result IsForWantOfMemory
   pub bad_glob : (place : ℕ) → IsFirstInvalid globs place → same_disk × IsErrOrMemory (error.Sweep (sweep.BadGlob place)) result
   pub lists : KeepsLists 10 d.old d.new
   pub never_falls : d.old.faults ≤ d.new.faults

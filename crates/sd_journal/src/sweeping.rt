@@ -1,14 +1,16 @@
 //! A command on a tree that is done whole, or not at all.
 
-ghost use Rattle.std.specs.Prelude.{◌≡◌, ◌≤◌, IsTrue, IfOk, OnOk, None};
+ghost use Rattle.std.specs.Prelude.{◌≡◌, ◌≤◌, IsTrue, IfOk, IfErr, IsErrAnd, OnOk, None};
 ghost use Rattle.sd_io.specs.Disk.{SameTree};
 ghost use Rattle.sd_io.specs.Lists.{directory_of};
-ghost use Rattle.sd_course.specs.Course.{course};
+ghost use Rattle.sd_course.specs.Course.{course, DiskFailed};
 ghost use Rattle.change_phases.specs.Between.{Work};
-ghost use Rattle.journal.specs.Changing.{IsChangeBelow, IsChanged, ExchangesFiles};
+ghost use Rattle.journal.specs.Clearing.{LeavesNoMore};
+ghost use Rattle.journal.specs.Changing.{IsChangeBelow, IsChanged, ExchangesFiles, ChangeFails, IsPending, ComesFirst, HasRoomFor, WantsMemory};
 ghost use Rattle.journal.specs.Finding.{LeavesLists};
 ghost use Rattle.journal.specs.Keeping.{KeepsBetween};
 ghost use Rattle.sd_journal.specs.Recover.{Recovers};
+ghost use Rattle.sd_journal.specs.Refused.{IsFaultOf};
 ghost use Rattle.sd_journal.specs.Sweep.{SweepsJournalled, CountsPlan};
 ghost use Rattle.sd_journal.specs.Work as form;
 
@@ -57,6 +59,13 @@ fn change_planned<D: Disk, R: Replaces>(
         → OnOk result (ExchangesFiles work.files (D.state disk.old).tree (D.state disk.new).tree) }
     ensures no_directory { IsTrue D.tells → directory_of (D.state disk.old).tree root.now ≡ None → OnOk result (SameTree (D.state disk.old) (D.state disk.new)) }
     ensures counted { IfOk result (CountsPlan planned.now) }
+    ensures fails { IfErr result (IsFaultOf (ChangeFails (R.change replacer.now) root.now (form.changed_paths planned.now)
+        (course D.tells (D.state disk.old) (D.state disk.new)))) }
+    ensures pending { IsTrue D.tells → IsPending (D.state disk.old).tree root.now → IsErrAnd result (IsFaultOf ComesFirst) }
+    ensures unwritten { IsTrue D.tells → IsPending (D.state disk.old).tree root.now → LeavesNoMore (D.state disk.old) (D.state disk.new) }
+    ensures complete { IsTrue D.tells → (work : Work) → IsChangeBelow (R.change replacer.now) work root.now (form.changed_paths planned.now) (D.state disk.old)
+        → HasRoomFor (R.change replacer.now) (D.state disk.old).tree root.now (form.changed_paths planned.now)
+        → (DiskFailed (course D.tells (D.state disk.old) (D.state disk.new)) → ⊥) → IfErr result (IsFaultOf WantsMemory) }
     ensures lists { LeavesLists (D.state disk.old) (D.state disk.new) }
     ensures never_falls { (D.state disk.old).faults ≤ (D.state disk.new).faults }
 {

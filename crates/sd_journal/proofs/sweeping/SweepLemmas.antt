@@ -1,12 +1,12 @@
 -- A sweep by a plan, from its beginning to its end.
 use Rattle.std.proofs.Common.{◌≡◌, ◌∙◌, ℕ, ◌≤◌, Bool, List, sym, ap, subst, inl, inr, arith}
-use Rattle.std.specs.Prelude.{◌⊎◌, Some, None, IsTrue, Result, Ok, Err, IfOk, OnOk}
+use Rattle.std.specs.Prelude.{◌⊎◌, Some, None, IsTrue, Result, Ok, Err, IsErrAnd, IfOk, IfErr, OnOk}
 use Rattle.sd_io.specs.Tree.{NameList, Tree, IsTree}
 use Rattle.sd_io.specs.Lists.{directory_of}
 use Rattle.sd_io.specs.Outcomes.{Outcome, Leaves, content_at}
 use Rattle.sd_io.specs.Disk.{DiskState, SameTree}
 use Rattle.sd_change.specs.Change.{Change, IsOne}
-use Rattle.sd_course.specs.Course.{course}
+use Rattle.sd_course.specs.Course.{course, DiskFailed}
 use Rattle.chosen_files.specs.Choice.{KeepsLists}
 use Rattle.many_files.specs.declared.report.Report.{Report}
 use Rattle.sd_plan.specs.declared.line.PlanLine.{PlanLine}
@@ -15,7 +15,8 @@ use Rattle.change_phases.proofs.PhaseLemmas.{between_then}
 use Rattle.journal.specs.Keeping.{KeepsBetween}
 use Rattle.journal.specs.Finding.{LeavesLists}
 use Rattle.journal.specs.Planning.{AreChangesOf}
-use Rattle.journal.specs.Changing.{IsChangeBelow, IsChanged, ExchangesFiles}
+use Rattle.journal.specs.Clearing.{LeavesNoMore}
+use Rattle.journal.specs.Changing.{IsChangeBelow, IsChanged, ExchangesFiles, ChangeFails, IsPending, ComesFirst, HasRoomFor, WantsMemory}
 use Rattle.journal.proofs.ChangingLemmas.{looked_keeps, preparing_between}
 use Rattle.sd_core.specs.Plan.{PlansTree}
 use Rattle.sd_core.specs.Selection.{IsChosenBelow, by_globs}
@@ -24,9 +25,11 @@ use Rattle.sd_core.specs.declared.error.Error.{Error}
 use Rattle.sd_core.specs.declared.error.Error.TheVariants as sweep
 use Rattle.sd_core.proofs.SelectionLemmas.{globs_select}
 use Rattle.sd_journal.specs.Work.{changed_paths, IsWorkOf, IsFresh}
+use Rattle.sd_journal.specs.Refused.{IsFaultOf, JournalledFails, ComesBefore, IsForWantOfMemory}
 use Rattle.sd_journal.specs.Sweep.{CountsPlan, IsOldOrBetween, SweepsJournalled}
 use Rattle.sd_journal.specs.declared.error.JournalError.{JournalError}
 use Rattle.sd_journal.proofs.sweeping.CountLemmas.{plan_counts}
+use Rattle.sd_journal.proofs.sweeping.RefusedLemmas.{risen_on, fault_so, fault_and, no_more_on, fails_on, before_so, memory_so}
 use Rattle.sd_journal.proofs.sweeping.WorkLemmas.{work_of, is_change_below, is_work_of}
 
 -- ---- nothing was written
@@ -114,9 +117,14 @@ module _ (change : Change) (one : IsOne change) (root : List ℕ) (globs : List 
   pub swept : (r : Result Report JournalError) → (IsTrue tells → (work : Work) → IsChangeBelow change work root (changed_paths lines) t → KeepsBetween work t u)
       → (IsTrue tells → (work : Work) → IsChangeBelow change work root (changed_paths lines) t → OnOk r (IsChanged work u))
       → (IsTrue tells → (work : Work) → IsChangeBelow change work root (changed_paths lines) t → OnOk r (ExchangesFiles work.files t.tree u.tree))
-      → (IsTrue tells → directory_of t.tree root ≡ None → OnOk r (SameTree t u)) → IfOk r (CountsPlan lines) → LeavesLists t u → t.faults ≤ u.faults
+      → (IsTrue tells → directory_of t.tree root ≡ None → OnOk r (SameTree t u)) → IfOk r (CountsPlan lines)
+      → IfErr r (IsFaultOf (ChangeFails change root (changed_paths lines) (course tells t u))) → (IsTrue tells → IsPending t.tree root → IsErrAnd r (IsFaultOf ComesFirst))
+      → (IsTrue tells → IsPending t.tree root → LeavesNoMore t u)
+      → (IsTrue tells → (work : Work) → IsChangeBelow change work root (changed_paths lines) t → HasRoomFor change t.tree root (changed_paths lines) → (DiskFailed (course tells t u) → ⊥)
+      → IfErr r (IsFaultOf WantsMemory))
+      → LeavesLists t u → t.faults ≤ u.faults
       → SweepsJournalled change root globs same_later r (course tells s u)
-  swept r keeps changes exchanges no_root counts lists low = record {
+  swept r keeps changes exchanges no_root counts fails pending unwritten complete lists low = record {
     kept = λ known folder leads fresh. kept_whole known folder leads fresh (keeps known);
     changed = λ known folder leads fresh.
         both_so r (changes known (the_work known folder leads fresh) (is_still known folder leads fresh)) (exchanges known (the_work known folder leads fresh) (is_still known folder leads fresh))
@@ -140,6 +148,16 @@ module _ (change : Change) (one : IsOne change) (root : List ℕ) (globs : List 
           counts = plan_counts change s.tree plan.paths plan.places lines report ((globs_select root globs).files s.tree (is_tree known) plan.paths plan.places plan.selected) plan.files is;
         });
     few = λ known. few_so r (plans.few known);
+    fails = fault_so (ChangeFails change root (changed_paths lines) (course tells t u)) (JournalledFails change root globs (course tells s u)) r fails
+        (fails_on change root globs tells s t u lines plans.planned plans.same plans.never_falls);
+    pending = λ known stands. fault_and ComesFirst ComesBefore r (pending known (subst (λ (tree : Tree). IsPending tree root) (sym plans.same.tree) stands)) before_so;
+    unwritten = λ known stands.
+        no_more_on change root globs tells s t u lines plans.planned plans.same plans.never_falls (unwritten known (subst (λ (tree : Tree). IsPending tree root) (sym plans.same.tree) stands));
+    complete = λ clear folder leads fresh room.
+        fault_so WantsMemory IsForWantOfMemory r
+        (complete clear.told (the_work clear.told folder leads fresh) (is_still clear.told folder leads fresh)
+        (subst (λ (tree : Tree). HasRoomFor change tree root (changed_paths lines)) (sym plans.same.tree) (room lines (plans.planned clear.told)))
+        (λ failed. clear.no_fault (risen_on s.faults t.faults u.faults plans.never_falls failed))) memory_so;
     bad_glob = λ place at. absurd (not_refused lines place (plans.bad_glob place at).1);
     lists = lists_then s t u plans.lists lists;
     never_falls = omega (arith, low, plans.never_falls);
