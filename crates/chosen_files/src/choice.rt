@@ -33,13 +33,14 @@ pub struct Choice {
     pub paths: Vec<Text>,
 }
 
-/// Chooses the regular files below a root that have at least one byte, whose path from the root fits one of the globs, and which the rules
-/// don't ignore, in the order of their names. A link below the root is neither followed nor chosen; the root may be one, and is never ignored. No
-/// globs choose nothing. A directory that is ignored isn't read; all others are listed before it answers, at most ten at once. Each entry is
-/// asked about as it comes, and nothing is kept of those that aren't chosen.
+/// Chooses the regular files below a root that have at least one byte, whose path from the root fits one of the globs, and which
+/// the rules don't ignore, in the order of their names. A link below the root is neither followed nor chosen; the root may be
+/// one, and is never ignored. No globs choose nothing. On a disk that tells its tree these are chosen and no others, and a
+/// directory that is ignored isn't read. At most ten directories are listed at once.
 ///
-/// Refuses `RootMissing` exactly where the root leads to no node, `Walk` with a counted fault of the disk, `TooMany` exactly
-/// where the cap or more entries lie below the root in directories that aren't ignored, and else for want of memory.
+/// Refuses `RootMissing`, `Walk` with a counted fault of the disk, `TooMany`, and for want of memory. On a disk that tells its
+/// tree `RootMissing` comes exactly where the root leads to no node, and `TooMany` only where the cap or more entries lie below
+/// the root in directories that aren't ignored.
 pub fn choose_kept<D: Disk>(
     alloc: Global,
     disk: &mut D,
@@ -57,10 +58,7 @@ pub fn choose_kept<D: Disk>(
 }
 
 /// Chooses the regular files below a root that have at least one byte and whose path from the root fits one of the globs, in the
-/// order of their names, as `choose_kept` does where nothing is ignored.
-///
-/// Refuses `RootMissing` exactly where the root leads to no node, `Walk` with a counted fault of the disk, `TooMany` exactly
-/// where the cap or more entries lie below the root, and else for want of memory.
+/// order of their names, as `choose_kept` does where nothing is ignored, and refuses as that does.
 pub fn choose_capped<D: Disk>(
     alloc: Global,
     disk: &mut D,

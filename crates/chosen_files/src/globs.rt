@@ -36,7 +36,7 @@ impl<T: Drop> From<AllocFailed<T>> for GlobsError {
     }
 }
 
-/// Reads globs, each once. Refuses `Invalid` with the place of the first invalid one, and else for want of memory.
+/// Reads globs. Refuses `Invalid` with the place of the first invalid one, and else for want of memory.
 pub fn read_globs(alloc: Global, globs: &Globs) -> Result<Vec<Glob>, GlobsError>
     ensures read { IfOk result (λ read. read.items ≡ globs.now) }
     ensures valid { OnOk result (All IsValid globs.now) }

@@ -24,7 +24,7 @@ use std::alloc::Global;
 ///
 /// On a disk that tells its tree the path has no links, `.` or `..`, and leads to a regular file. Refuses with a counted
 /// fault, where no reserved name of the folder is free, or for want of memory; the file is then old, or new where the
-/// answer is `Move` or want of memory. One counted fault leaves no temporary file.
+/// answer is `Move` or want of memory. Where one fault alone was counted, and no step wanted memory, no temporary file is left.
 ///
 /// There a crash at any moment leaves the file as one at entry could have left it, or with its mode and the new bytes; it
 /// may leave anything at that reserved name; and all else as one at entry could have left it. After `Ok` each

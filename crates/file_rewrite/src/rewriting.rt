@@ -24,7 +24,7 @@ use std::alloc::Global;
 /// Refuses `InvalidPath` before all else, where the path is empty or nothing but `/`; `File` and `TempfilePersist` with a
 /// counted fault, `File` also where no regular file stands at the path; `TempName` where no reserved name of the file's
 /// folder is free; and for want of memory. The file is then old, or new where the answer is `TempfilePersist` or
-/// `NoMemory`. One counted fault leaves no temporary file.
+/// `NoMemory`. Where one fault alone was counted, and no step wanted memory, no temporary file is left.
 ///
 /// On a disk that tells its tree a crash at any moment leaves the file as one at entry could have left it, or with its mode
 /// and its new bytes; it may leave anything at the first reserved name that was free in its folder; and all else as one at

@@ -51,8 +51,7 @@ impl Glob {
         }))
     }
 
-    /// Whether the glob fits a path. Asks of each piece and each place between the path's characters at most once.
-    /// Refuses for want of memory alone.
+    /// Whether the glob fits a path. Refuses for want of memory alone.
     pub fn fits(&self, alloc: Global, path: &str) -> Result<bool, NoMemory>
         ensures { IfOk result (λ fits. IsTrue fits ↔ Fits (chars self.now) (chars path.now)) }
     {

@@ -60,8 +60,8 @@ pub fn places_after<L: Ledger>(
 ///
 /// `?` takes one character but `/`, `*` any text without `/`, `[..]` a character of a class, `{a,b}` what one of
 /// its options takes, `**/` any folders, and `**` at the end any text. A `!` at the start negates the answer, and a
-/// backslash takes a sign's meaning away. An invalid glob fits nothing. Asks of each piece and each place
-/// between the path's characters at most once. Refuses for want of memory alone.
+/// backslash takes a sign's meaning away. An invalid glob fits nothing.
+/// Refuses for want of memory alone.
 pub fn glob_match(alloc: Global, glob: &str, path: &str) -> Result<bool, NoMemory>
     ensures { IfOk result (λ fits. IsTrue fits ↔ Fits (chars glob.now) (chars path.now)) }
 {

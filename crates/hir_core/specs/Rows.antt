@@ -3,7 +3,7 @@ use Rattle.std.specs.Prelude.{ℕ, ◌≤◌, List, [], reverse, Option, slice_r
 use Rattle.std.specs.List.{All}
 use Rattle.hir_core.specs.Program.{way}
 use Rattle.hir_core.specs.Trails.{Stop}
-use Rattle.hir_core.specs.declared.later.Row.{Row}
+use Rattle.hir_core.specs.declared.thread_list.Row.{Row}
 
 -- the spot and the way of a row, where these are all starts and all groups
 abbrev pub stop_in : List ℕ → List (Option (ℕ × ℕ)) → Row → Stop

@@ -6,10 +6,10 @@ use Rattle.hir_core.specs.Masks.{Covers, CoverTheirSpots, AreTakers, SaysWhatTak
 use Rattle.hir_core.specs.Program.{spot_at}
 use Rattle.hir_core.specs.declared.spot.Spot.{Spot}
 use Rattle.hir_core.specs.declared.scan.Scan.{Scan}
-use Rattle.hir_core.specs.declared.scan.cut.Cut.{Cut}
-use Rattle.hir_core.specs.declared.scan.stride.Stops.{Stops}
-use Rattle.hir_core.specs.declared.scan.stride.Stops.TheVariants as stops
-use Rattle.hir_core.specs.declared.scan.Sight.{Sight}
+use Rattle.hir_core.specs.declared.scan.required.Required.{Required}
+use Rattle.hir_core.specs.declared.scan.prefilter.Stops.{Stops}
+use Rattle.hir_core.specs.declared.scan.prefilter.Stops.TheVariants as stops
+use Rattle.hir_core.specs.declared.scan.FilterState.{FilterState}
 
 -- each run of the program asks the look, if there is one, before its first byte, so none begins where it doesn't hold
 abbrev pub IsAskedFirst : List Spot → Option Look → Type 0
@@ -19,29 +19,29 @@ IsAskedFirst spots look = IfSome look (λ l. (text : List ℕ) (at : ℕ) → ho
 abbrev pub NoEnd : List ℕ → ℕ → Option Look → ℕ → Type 0
 NoEnd text at look mask = (HasBit mask sure_bit → ⊥) × (HasBit mask match_bit → IsShut text at look)
 
--- Each match passes the cut: until one of its spots took a byte, only those of `before` may be tried, and no match ends.
-pub record IsCut (spots : List Spot) (of : List ℕ) (look : Option Look) (start : ℕ) (c : Cut) : Type 0 where
+-- Each match passes a required spot: until one of them took a byte, only those of `before` may be tried, and no match ends.
+pub record IsRequired (spots : List Spot) (of : List ℕ) (look : Option Look) (start : ℕ) (c : Required) : Type 0 where
   pub begun : IsPart start c.before
   pub follows : (i : ℕ) → i < length of → HasBit c.before i → (HasBit c.spots i → ⊥)
       → Covers spots of look c.before (next_of (spot_at spots (slice_index of i)))
   pub unmatched : c.before < 2 ^ 62
 
--- it is a cut of each program that moves on as these rows say
-abbrev pub IsCutOf : List ℕ → ℕ → Cut → Type 0
-IsCutOf rows start c =
-    (spots : List Spot) (of : List ℕ) (look : Option Look) → length of ≤ sure_bit → SaysWhatFollows spots of look rows → IsCut spots of look start c
+-- they are required in each program that moves on as these rows say
+abbrev pub IsRequiredOf : List ℕ → ℕ → Required → Type 0
+IsRequiredOf rows start c =
+    (spots : List Spot) (of : List ℕ) (look : Option Look) → length of ≤ sure_bit → SaysWhatFollows spots of look rows → IsRequired spots of look start c
 
--- no spot of the cut takes the byte, and none before it takes a character beyond ASCII that begins with it
-abbrev pub IsPassedOver : List ℕ → ℕ → Cut → ℕ → Type 0
+-- no required spot takes the byte, and none before one takes a character beyond ASCII that begins with it
+abbrev pub IsPassedOver : List ℕ → ℕ → Required → ℕ → Type 0
 IsPassedOver takes wide c byte = (bit_and (slice_index takes byte) c.spots ≡ 0) × ((byte < 128) ⊎ (bit_and c.before wide ≡ 0))
 
--- a stride stops at the byte
+-- the prefilter stops at the byte
 abbrev pub stops_at : Stops → ℕ → Bool
 stops_at (stops.One byte) b = b == byte
 stops_at (stops.Several table) b = slice_index_or table b true
 
--- a byte at which a stride to the cut doesn't stop is passed over
-abbrev pub TellsStops : List ℕ → ℕ → Cut → Stops → Type 0
+-- a byte at which the prefilter doesn't stop is passed over
+abbrev pub TellsStops : List ℕ → ℕ → Required → Stops → Type 0
 TellsStops takes wide c s = (b : ℕ) → b < 256 → stops_at s b ≡ false → IsPassedOver takes wide c b
 
 -- The filter tells where a match of the program may be: bit i is that of the spot `of` has at i. At most 62 spots have a bit,
@@ -56,7 +56,7 @@ pub record IsFilterOf (spots : List Spot) (s : Scan) : Type 0 where
   pub start : Covers spots s.of.items s.last_look s.start 0
   pub firsts : CoverTheirSpots spots s.of.items s.last_look s.firsts.items
   pub first : IsAskedFirst spots s.first_look
-  pub stride : IfSome s.stride (λ k. IsCut spots s.of.items s.last_look s.start k.cut × TellsStops s.takes.items s.wide k.cut k.stops)
+  pub prefilter : IfSome s.prefilter (λ k. IsRequired spots s.of.items s.last_look s.start k.required × TellsStops s.takes.items s.wide k.required k.stops)
 
 -- no run begins at a place from one on to before another, as the filter says
 abbrev pub NoneBegins : List ℕ → Scan → ℕ → ℕ → Type 0
@@ -65,7 +65,7 @@ NoneBegins text s from until =
 
 -- What the filter has looked at from a place on: no run begins before `from`, and none that begins from there on, unless a spot of the
 -- state gives something at the place.
-pub record Looked (text : List ℕ) (s : Scan) (at : ℕ) (k : Sight) : Type 0 where
+pub record Looked (text : List ℕ) (s : Scan) (at : ℕ) (k : FilterState) : Type 0 where
   pub after : at ≤ k.from
   pub before : k.from ≤ k.place
   pub within : k.place ≤ length text

@@ -1,4 +1,5 @@
-//! The search of a block of places, which tries each spot once at each place, depth first.
+//! The search of a block of places: bounded backtracking, depth first, which tries each spot at each place once at most, but for the
+//! ends of groups.
 
 ghost use Rattle.std.specs.Prelude.{◌≡◌, ℕ, List, ◌+◌, ◌-◌, ◌*◌, ◌^◌, ◌≤◌, ◌<◌, [], ◌++◌, false, length, replicate, None, IfOk, IfSome};
 ghost use Rattle.hir_core.specs.Blocks.{AreSpent, IsFollowed, KeepsMarks, TurnedAt, mark_of};
@@ -9,11 +10,11 @@ ghost use Rattle.hir_core.specs.Trails.{stops_of, stops_on, way_of};
 ghost use Rattle.hir_core.specs.declared.spot.Spot.{Spot};
 
 use crate::closure::{Turn, lead};
-use crate::later::Later;
 use crate::scan::Scan;
 use crate::set_size::{byte_size, char_size};
 use crate::spot::Spot;
 use crate::starts::Starts;
+use crate::thread_list::ThreadList;
 use crate::trail::Trail;
 use crate::visited::Visited;
 use sd_base::NoMemory;
@@ -82,7 +83,7 @@ pub struct Block {
     /// Which spots were tried at which places: a row of all spots for each place of the block.
     pub marks: Visited,
     /// The threads that go on past the block, in order.
-    pub later: Later,
+    pub later: ThreadList,
 }
 
 impl Block {
@@ -93,7 +94,7 @@ impl Block {
         Block {
             trail: Trail::new(alloc),
             marks: Visited::new(alloc),
-            later: Later::new(alloc),
+            later: ThreadList::new(alloc),
         }
     }
 
@@ -201,7 +202,7 @@ impl Block {
         filter: &Scan,
         text: &[u8],
         places: Places,
-        threads: &Later,
+        threads: &ThreadList,
     ) -> Result<bool, NoMemory>
         requires falls { ClosesFall spots.now }
         requires filters { IsFilterOf spots.now filter.now }

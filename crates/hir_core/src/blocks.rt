@@ -1,4 +1,4 @@
-//! The search over a text, block by block, depth first in each.
+//! The search over a text, block by block: bounded backtracking in each, and the threads that go on past it are kept for the next.
 
 ghost use Rattle.std.specs.Prelude.{◌≡◌, ◌+◌, ◌-◌, ◌*◌, ◌≤◌, ◌<◌, [], None, false, is_some, length, IfOk};
 ghost use Rattle.std.specs.Option.{option_or};
@@ -8,11 +8,11 @@ ghost use Rattle.hir_core.specs.Program.{ClosesFall};
 ghost use Rattle.hir_core.specs.Scan.{IsFilterOf};
 
 use crate::block::{Block, Places};
-use crate::later::Later;
 use crate::pass::Best;
 use crate::scan::Scan;
 use crate::spot::Spot;
 use crate::starts::Starts;
+use crate::thread_list::ThreadList;
 use sd_base::NoMemory;
 use std::alloc::Global;
 use std::mem;
@@ -27,7 +27,7 @@ pub const SPOTS: usize = 256;
 #[derive(Drop)]
 pub struct Blocks {
     /// The threads that come into the block, in order.
-    threads: Later,
+    threads: ThreadList,
     /// The best match so far.
     best: Best,
     /// The search of a block.
@@ -38,7 +38,7 @@ impl Blocks {
     /// A search with empty lists.
     pub fn new(alloc: Global) -> Blocks {
         Blocks {
-            threads: Later::new(alloc),
+            threads: ThreadList::new(alloc),
             best: Best::new(alloc),
             block: Block::new(alloc),
         }

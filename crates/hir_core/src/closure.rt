@@ -1,4 +1,4 @@
-//! The search of one place, which visits each spot once.
+//! The search of one place, as in Pike's virtual machine: it visits each spot once at most, but for the ends of groups.
 
 ghost use Rattle.std.specs.Prelude.{◌≡◌, ◌+◌, ◌^◌, ◌≤◌, ◌<◌, [], ◌++◌, false, length, IfOk, IfSome};
 ghost use Rattle.hir_core.specs.Program.{ClosesFall, spot_at};
@@ -7,9 +7,9 @@ ghost use Rattle.sd_base.specs.Steps.{IsTicked};
 ghost use Rattle.hir_core.specs.Pass.{leads, taken, some_run, match_of, stops_give, Spent, Turned, Followed, AllLater, AllFrom, stop_gives, was_visited, visiting, is_counted, visit_ticks, CountsVisits};
 
 use crate::holds;
-use crate::later::Later;
 use crate::set_size::{byte_size, char_size};
 use crate::spot::Spot;
+use crate::thread_list::ThreadList;
 use crate::trail::Trail;
 use crate::visited::Visited;
 use sd_base::{Ledger, NoMemory, Steps};
@@ -54,7 +54,12 @@ pub fn lead(spot: &Spot, text: &[u8], trail: &mut Trail) -> Result<Option<usize>
 
 /// Keeps the thread of a trail, which goes on by so many bytes to another spot, if there are any. Refuses for want of memory
 /// alone.
-fn keep(size: Option<usize>, next: usize, trail: &Trail, later: &mut Later) -> Result<(), NoMemory>
+fn keep(
+    size: Option<usize>,
+    next: usize,
+    trail: &Trail,
+    later: &mut ThreadList,
+) -> Result<(), NoMemory>
     requires { IfSome size (λ bytes. trail.now.at + bytes < 2 ^ 64) }
     ensures { IfOk result (λ _. later.new ≡ later.old ++ taken size next (way_of trail.now)) }
 {
@@ -91,7 +96,7 @@ pub struct Closure {
     /// Which spots were visited at this place.
     pub visited: Visited,
     /// The threads that go on later, in order.
-    pub later: Later,
+    pub later: ThreadList,
 }
 
 impl Closure {
@@ -103,7 +108,7 @@ impl Closure {
         Closure {
             trail: Trail::new(alloc),
             visited: Visited::new(alloc),
-            later: Later::new(alloc),
+            later: ThreadList::new(alloc),
         }
     }
 
@@ -221,7 +226,7 @@ impl Closure {
         spots: &[Spot],
         text: &[u8],
         at: usize,
-        threads: &Later,
+        threads: &ThreadList,
         steps: &mut Steps<L>,
     ) -> Result<bool, NoMemory>
         requires falls { ClosesFall spots.now }

@@ -8,7 +8,6 @@ mod block;
 mod blocks;
 mod closure;
 mod compile;
-mod later;
 mod pass;
 mod plain;
 mod push;
@@ -21,6 +20,7 @@ mod slots;
 mod spot;
 mod stack_search;
 mod starts;
+mod thread_list;
 mod trail;
 mod visited;
 

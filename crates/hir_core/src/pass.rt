@@ -1,4 +1,4 @@
-//! The pass of a search over a text, which keeps one run for each spot and byte.
+//! Pike's virtual machine: one pass over a text, which keeps one run for each spot and byte.
 
 ghost use Rattle.std.specs.Prelude.{◌≡◌, ◌+◌, ◌-◌, ◌*◌, ◌≤◌, ℕ, List, [], None, is_some, length, IfOk, IfSome, IsTrue, ◌++◌};
 ghost use Rattle.std.specs.Option.{option_or};
@@ -9,9 +9,9 @@ ghost use Rattle.hir_core.specs.declared.spot.Spot.{Spot};
 ghost use Rattle.hir_core.specs.Pass.{stops_give, match_of, first_of, begins_unless, answer, first_from, best_in, AllLater, AllFrom, counted};
 
 use crate::closure::Closure;
-use crate::later::Later;
 use crate::scan::Scan;
 use crate::spot::Spot;
+use crate::thread_list::ThreadList;
 use crate::trail::Trail;
 use sd_base::{Ledger, NoMemory, Steps};
 use std::alloc::Global;
@@ -73,7 +73,7 @@ impl Best {
 #[derive(Drop)]
 pub struct Pass {
     /// The threads that are to be followed, in order.
-    threads: Later,
+    threads: ThreadList,
     /// The best match so far.
     best: Best,
     /// The search of a place.
@@ -87,7 +87,7 @@ impl Pass {
         ensures best { best_in result.best ≡ None }
     {
         Pass {
-            threads: Later::new(alloc),
+            threads: ThreadList::new(alloc),
             best: Best::new(alloc),
             closure: Closure::new(alloc),
         }

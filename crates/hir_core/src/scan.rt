@@ -1,4 +1,5 @@
-//! A filter that finds quickly where a match of a program may be.
+//! A filter that finds quickly where a match of a program may be: shift-and over the spots that take bytes, behind a rare-byte
+//! prefilter.
 
 ghost use Rattle.std.specs.Prelude.{◌≡◌, ◌<◌, ◌≤◌, ◌+◌, ◌⊎◌, ℕ, false, true, List, length, vec_len, slice_index, bit_and, IfOk, IfSome, IfNone};
 ghost use Rattle.hir_core.specs.Masks.{AreShifts, HasBit-prop};
@@ -6,20 +7,20 @@ ghost use Rattle.std.proofs.Props.{props};
 
 mod asked;
 mod bits;
-mod cut;
+mod prefilter;
 mod reach;
+mod required;
 mod shifts;
-mod stride;
 mod takes;
 
 use crate::spot::Spot;
 use crate::{Look, holds};
 use bits::{Moves, SURE, joined, moves_in};
-use cut::Cut;
+use prefilter::Prefilter;
+use required::Required;
 use sd_base::NoMemory;
 use shifts::Shift;
 use std::alloc::Global;
-use stride::Stride;
 
 /// A filter: which places of a text may have a match. One bit for each spot that takes bytes.
 #[derive(Drop)]
@@ -45,9 +46,9 @@ pub struct Scan {
     first_look: Option<Look>,
     /// A look that may be asked before the end of a match, if there is one.
     last_look: Option<Look>,
-    /// How places are passed over up to the next one where a match may pass a cut, if it does by bytes that are rare in texts, or
+    /// How places are passed over up to the next one where a match may pass a required spot, if it does by bytes that are rare in texts, or
     /// begins by a look.
-    stride: Option<Stride>,
+    prefilter: Option<Prefilter>,
     ghost all_bytes: { vec_len takes ≡ 256 },
     ghost all_rows: { vec_len after ≡ 2048 },
     ghost all_shifts: { vec_len shifts ≡ 256 },
@@ -56,23 +57,23 @@ pub struct Scan {
 
 /// How far the filter has looked.
 #[derive(Clone, Copy)]
-struct Sight {
+struct FilterState {
     /// The least place where a run may begin.
     from: usize,
     /// The place that it has come to.
     place: usize,
     /// The spots that may be tried there, of the runs that began before.
     state: u64,
-    /// The place from which on the next stride is worth while.
+    /// The place from which on the prefilter is worth while again.
     ahead: usize,
 }
 
-impl Sight {
+impl FilterState {
     ghost use Rattle.hir_core.specs.Scan.{Looked};
     ghost use Rattle.hir_core.specs.declared.scan.Scan.{Scan};
 
     /// The same, but where no spot may be tried, a run begins at the place at the earliest.
-    fn settled(self) -> Sight
+    fn settled(self) -> FilterState
         ensures looked { (text : List ℕ) (filter : Scan) (at : ℕ) → Looked text filter at self → Looked text filter at result }
         ensures place { result.place ≡ self.place }
     {
@@ -81,7 +82,7 @@ impl Sight {
         } else {
             self.from
         };
-        Sight {
+        FilterState {
             from,
             place: self.place,
             state: self.state,
@@ -122,8 +123,8 @@ impl Scan {
         let moves = moves_in(after.as_slice(), of.len());
         let wide = takes::wide(spots, of.as_slice());
         let shifts = shifts::shifts(alloc, takes.as_slice(), moves, start, wide)?;
-        let cut = Cut::rarest(takes.as_slice(), after.as_slice(), start, of.len());
-        let stride = stride::worth_while(cut, takes.as_slice(), wide, first_look);
+        let required = Required::rarest(takes.as_slice(), after.as_slice(), start, of.len());
+        let prefilter = prefilter::worth_while(required, takes.as_slice(), wide, first_look);
         Ok(Some(Scan {
             of,
             takes,
@@ -135,7 +136,7 @@ impl Scan {
             first_look,
             last_look,
             shifts,
-            stride,
+            prefilter,
         }))
     }
 
@@ -209,10 +210,10 @@ impl Scan {
         self.may_take(mask, text[place])
     }
 
-    /// Passes over places from one on up to the next one where a match may pass the cut, and goes back from there as long as spots
+    /// Passes over places from one on up to the next one where a match may pass a required spot, and goes back from there as long as spots
     /// before it may have taken the bytes.
     #[inline(never)]
-    fn strode(&self, text: &[u8], at: usize) -> Sight
+    fn skip_ahead(&self, text: &[u8], at: usize) -> FilterState
         requires { at ≤ length text.now }
         ensures none { NoneBegins text.now self.now at result.from }
         ensures state { result.state ≡ 0 }
@@ -220,25 +221,25 @@ impl Scan {
         ensures after { at ≤ result.from }
         ensures within { result.from ≤ length text.now }
     {
-        let Some(stride) = &self.stride else {
-            return Sight {
+        let Some(prefilter) = &self.prefilter else {
+            return FilterState {
                 from: at,
                 place: at,
                 state: 0,
                 ahead: text.len(),
             };
         };
-        let next = stride.next(text, at);
+        let next = prefilter.next(text, at);
         if next == text.len() {
-            return Sight {
+            return FilterState {
                 from: next,
                 place: next,
                 state: 0,
                 ahead: next,
             };
         }
-        let gap = stride.gap(self.takes.as_slice(), text, at, next);
-        Sight {
+        let gap = prefilter.gap(self.takes.as_slice(), text, at, next);
+        FilterState {
             from: gap,
             place: gap,
             state: 0,
@@ -247,7 +248,7 @@ impl Scan {
     }
 
     /// The spots that may be tried at a place: those of the state, and those of the start, if a run may begin there.
-    fn tried(&self, state: u64, text: &[u8], place: usize) -> u64
+    fn live(&self, state: u64, text: &[u8], place: usize) -> u64
         requires { place < length text.now }
         ensures kept { IsPart state result }
         ensures begun { IsPart self.now.start result ⊎ NoneBegins text.now self.now place (place + 1) }
@@ -259,54 +260,54 @@ impl Scan {
         state | self.start
     }
 
-    /// Whether no spot may be tried, and a stride is worth while.
-    fn is_due(&self, sight: Sight) -> bool
-        ensures { result ≡ true → sight.state ≡ 0 }
+    /// Whether no spot may be tried, and the prefilter is worth while.
+    fn may_skip(&self, so_far: FilterState) -> bool
+        ensures { result ≡ true → so_far.state ≡ 0 }
     {
-        self.stride.is_some() && sight.state == 0 && sight.place >= sight.ahead
+        self.prefilter.is_some() && so_far.state == 0 && so_far.place >= so_far.ahead
     }
 
-    /// The same, or after a stride, if one is worth while.
+    /// The same, or after a skip, if one is worth while.
     #[inline(always)]
-    fn rested(&self, text: &[u8], sight: Sight) -> Sight
-        requires { sight.place ≤ length text.now }
-        ensures looked { (at : ℕ) → Looked text.now self.now at sight → Looked text.now self.now at result }
-        ensures after { sight.place ≤ result.place }
+    fn skipped(&self, text: &[u8], so_far: FilterState) -> FilterState
+        requires { so_far.place ≤ length text.now }
+        ensures looked { (at : ℕ) → Looked text.now self.now at so_far → Looked text.now self.now at result }
+        ensures after { so_far.place ≤ result.place }
         ensures within { result.place ≤ length text.now }
     {
-        if self.is_due(sight) {
-            self.strode(text, sight.place)
+        if self.may_skip(so_far) {
+            self.skip_ahead(text, so_far.place)
         } else {
-            sight
+            so_far
         }
     }
 
-    /// Goes on by shifts, up to a byte that an odd spot takes, or that may begin a character beyond ASCII, or to where a stride is
-    /// worth while.
-    fn glide(&self, text: &[u8], begin: Sight) -> Sight
+    /// Goes on by shifts, up to a byte that an odd spot takes, or that may begin a character beyond ASCII, or to where the
+    /// prefilter is worth while.
+    fn run_shifts(&self, text: &[u8], begin: FilterState) -> FilterState
         requires { begin.place ≤ length text.now }
         ensures looked { (at : ℕ) → Looked text.now self.now at begin → Looked text.now self.now at result }
         ensures after { begin.place ≤ result.place }
         ensures within { result.place ≤ length text.now }
     {
-        let mut sight = begin.settled();
+        let mut so_far = begin.settled();
         if self.first_look.is_some() || self.start >= SURE {
-            return sight;
+            return so_far;
         }
-        while sight.place < text.len() && !self.is_due(sight) {
-            let shift = self.shifts[text[sight.place] as usize];
-            if (sight.state | self.start) & shift.odd != 0 {
-                return sight;
+        while so_far.place < text.len() && !self.may_skip(so_far) {
+            let shift = self.shifts[text[so_far.place] as usize];
+            if (so_far.state | self.start) & shift.odd != 0 {
+                return so_far;
             }
-            let next = Sight {
-                from: sight.from,
-                place: sight.place + 1,
-                state: shift.after(sight.state),
-                ahead: sight.ahead,
+            let next = FilterState {
+                from: so_far.from,
+                place: so_far.place + 1,
+                state: shift.after(so_far.state),
+                ahead: so_far.ahead,
             };
-            sight = next.settled();
+            so_far = next.settled();
         }
-        sight
+        so_far
     }
 
     /// The next places of a text, from one on, that may have a match. None where no place from there on has one.
@@ -316,45 +317,45 @@ impl Scan {
         ensures some { IfSome result (λ c. (spots : List Spot) → IsFilterOf spots self.now → NoRun text.now spots at c.from) }
         ensures order { IfSome result (λ c. (at ≤ c.from) × (c.from ≤ c.until) × (c.until ≤ length text.now)) }
     {
-        let begin = Sight {
+        let begin = FilterState {
             from: at,
             place: at,
             state: 0,
             ahead: at,
         };
-        let mut sight = self.glide(text, self.rested(text, begin));
-        while sight.place < text.len() {
-            let Sight {
+        let mut so_far = self.run_shifts(text, self.skipped(text, begin));
+        while so_far.place < text.len() {
+            let FilterState {
                 from,
                 place,
                 state,
                 ahead,
-            } = sight;
-            let tried = self.tried(state, text, place);
+            } = so_far;
+            let live = self.live(state, text, place);
             let byte = text[place];
-            if byte >= 128 && tried & self.wide != 0 {
+            if byte >= 128 && live & self.wide != 0 {
                 return Some(Candidate { from, until: place });
             }
             if self.may_be_empty(text, place) {
                 return Some(Candidate { from, until: place });
             }
-            let next = joined(self.after.as_slice(), tried & self.takes[byte as usize]);
+            let next = joined(self.after.as_slice(), live & self.takes[byte as usize]);
             let until = place + 1;
             if self.may_end(next, text, until) {
                 return Some(Candidate { from, until });
             }
-            let on = Sight {
+            let on = FilterState {
                 from,
                 place: until,
                 state: next,
                 ahead,
             };
-            sight = self.glide(text, self.rested(text, on));
+            so_far = self.run_shifts(text, self.skipped(text, on));
         }
-        if self.may_be_empty(text, sight.place) {
+        if self.may_be_empty(text, so_far.place) {
             return Some(Candidate {
-                from: sight.from,
-                until: sight.place,
+                from: so_far.from,
+                until: so_far.place,
             });
         }
         None

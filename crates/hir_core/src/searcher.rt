@@ -143,7 +143,8 @@ impl Searcher {
     }
 
     /// [`search_at`](Searcher::search_at) with counted steps: one for each visit of a spot that takes a byte or a character,
-    /// looks, or goes on both ways. At a place of the text each spot is visited once at most.
+    /// looks, or goes on both ways. At a place of the text each of them is
+    /// visited once at most; ends of groups aren't counted.
     pub fn search_at_steps<L: Ledger>(
         &self,
         text: &[u8],

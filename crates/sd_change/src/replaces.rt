@@ -13,8 +13,8 @@ pub trait Replaces {
     /// From the old bytes to the new ones, in which so many spans were replaced.
     ghost change: { Self → Change };
 
-    /// The new bytes and the number of spans that were replaced. `None` exactly where none is: then nothing changes, and no
-    /// memory was taken. At most one span begins at each place, the end among them.
+    /// The new bytes and the number of spans that were replaced. `None` exactly where none is: then nothing
+    /// changes. At most one span begins at each place, the end among them.
     ///
     /// Refuses only where memory is out.
     fn change(&self, content: &[u8]) -> Result<Option<Changed>, NoMemory>

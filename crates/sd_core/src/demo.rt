@@ -12,7 +12,7 @@ use std::alloc::Global;
 /// Rewrites the chosen files of the tree of a demo of `n` files, from the root `/demo` on, and reports what was chosen, changed
 /// and replaced. The tree stands in memory and goes with the call.
 ///
-/// Refuses `BadGlob` with the place of the first invalid glob, and for want of memory: before anything is written, or as
+/// Refuses `BadGlob` with the place of the first invalid glob, and for want of memory: `NoMemory`, or
 /// `FailedProcessing` with the files that it kept from being rewritten.
 pub fn sweep_demo<R: Replaces>(alloc: Global, n: u64, globs: &Globs, replacer: &R) -> Result<Report>
     requires { n ≤ 100000 }

@@ -14,8 +14,8 @@ use sd_ignore::Ignore;
 use sd_io::{Disk, Globs};
 use std::alloc::Global;
 
-/// Rewrites each chosen file below a root that the rules don't ignore, as [`sweep`](crate::sweep) does without rules. A directory that is
-/// ignored is never read, and all below it is ignored.
+/// Rewrites each chosen file below a root that the rules don't ignore, as [`sweep`](crate::sweep) does without rules. On a disk
+/// that tells its tree a directory that is ignored isn't read; all below it is ignored.
 ///
 /// Refuses as [`sweep`](crate::sweep) does; `TooMany` where 2^32 or more entries lie in the root and in directories below it that aren't
 /// ignored.

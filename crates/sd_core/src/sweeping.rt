@@ -17,13 +17,13 @@ use std::alloc::Global;
 pub(crate) const SWEEP_CAP: u64 = 1 << 32;
 
 /// Rewrites each chosen file below a root, where fewer than `cap` entries lie there: each regular nonempty file whose path from
-/// the root fits a glob, in the order of names. The tree is listed whole before the first write. A file that fails is a job,
-/// and the others go on. The path of a job is the root as it was given, `/` unless it ends with it, and the file's names from
-/// there, joined by `/`.
+/// the root fits a glob, in the order of names. A file that fails is a job, and the others go on. The path of a job is the root
+/// as it was given, `/` unless it ends with it, and the file's names from there, joined by `/`.
 ///
 /// Refuses, with the tree as it was, `BadGlob` with the place of the first invalid glob, before the disk is called;
 /// `RootMissing` where the root leads to no node; `Walk` with a counted fault; `TooMany` where the cap or more entries lie
-/// below the root; and for want of memory. Refuses `FailedProcessing` with the jobs where files failed: all others are rewritten.
+/// below the root; and for want of memory. Refuses `FailedProcessing` with the jobs where files failed: on a disk that tells its
+/// tree all others are rewritten.
 ///
 /// On a disk that tells its tree a crash at any moment leaves each chosen file as one at entry could have left it, or with its
 /// mode and its new bytes; it may leave anything at the reserved names that were free in their folders; and all else as one at

@@ -33,14 +33,14 @@ use std::alloc::Global;
 
 /// Runs the program on the words after its name.
 ///
-/// Where it reads a tree command and ends with status 0, every regular nonempty file below the root whose path there fits a
-/// glob keeps its mode and holds its entry bytes with the spans of its fair cover, or the first n where n isn't 0 (in each line
-/// under `-l`), replaced by their replacement texts; no other path changed; and what it printed counts exactly these files and
-/// spans.
+/// Where it reads a tree command on a disk that tells its tree, and ends with status 0, every regular nonempty file below the
+/// root whose path there fits a glob keeps its mode and holds its entry bytes with the spans of its fair cover, or the first n
+/// where n isn't 0 (in each line under `-l`), replaced by their replacement texts; no other path changed; and what it printed
+/// counts exactly these files and spans.
 ///
-/// However it ends, its answer has its cause. A tree command leaves each of these files wholly old or wholly new, also after a
-/// crash at any moment; a demo and standard input leave the disk alone; a preview changes nothing. Whatever goes wrong is
-/// printed to `err`, as `error: `, a text and a newline, without memory, and a fault there is passed over.
+/// However it ends, its answer has its cause. On a disk that tells its tree a tree command leaves each of these files wholly old
+/// or wholly new, also after a crash at any moment. A demo and standard input leave the disk alone; a preview changes nothing.
+/// Whatever goes wrong is printed to `err`, as `error: `, a text and a newline, without memory, and a fault there is passed over.
 pub fn run<D: Disk, S: Source, O: Sink, E: Sink>(
     alloc: Global,
     words: &Words,

@@ -36,7 +36,7 @@ impl Ignore {
         }
     }
 
-    /// Reads the rules of a text, each line once.
+    /// Reads the rules of a text.
     ///
     /// Refuses `BadRule` exactly where a line is bad, with the number of the first one, counted from 1, and else for want of
     /// memory.
@@ -59,7 +59,7 @@ impl Ignore {
     /// What the rules say of what stands at this path from the root on, a directory or another node: whether the last rule that
     /// fits it ignores it, and nothing where none fits. The path's names are joined by `/`.
     ///
-    /// Asks each rule once at most. Whether a directory above it is ignored plays no part. Refuses for want of memory alone.
+    /// Whether a directory above it is ignored plays no part. Refuses for want of memory alone.
     pub fn decides(
         &self,
         alloc: Global,

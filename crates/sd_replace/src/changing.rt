@@ -28,8 +28,8 @@ use sd_change::{Changed, Replaces, Rewritten};
 use std::alloc::Global;
 
 impl Replacer {
-    /// The new bytes and the number of matches that were replaced, of one search. `None` where there is no match: then no memory
-    /// was taken for new bytes. At most one match begins at each place, the end among them.
+    /// The new bytes and the number of matches that were replaced, of one search. `None` where there is no match. At most
+    /// one match begins at each place, the end among them.
     ///
     /// Refuses for want of memory alone.
     pub fn change(&self, content: &[u8]) -> Result<Option<Changed>, NoMemory>

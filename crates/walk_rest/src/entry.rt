@@ -49,8 +49,10 @@ impl DirEntry {
         self.followed || self.kind.is_symlink()
     }
 
-    /// The kind of its node, and a regular file's number of bytes; the target's, where it is a link that was followed. Refuses with
-    /// its path and depth: `Absent` exactly where its path leads nowhere, `Disk` with a counted fault; and for want of memory.
+    /// The kind of its node, and a regular file's number of bytes; the target's, where it is a link that was followed.
+    ///
+    /// Refuses with its path and depth: `Absent`, on a disk that tells its tree only where its path leads nowhere, `Disk` with a
+    /// counted fault; and for want of memory.
     pub fn metadata<D: Disk>(&self, alloc: Global, disk: &mut D) -> Result<Meta, Error>
         ensures answer { IsTrue D.tells → IfOk result (Describes (D.state disk.old) self.now.path self.now.followed) }
         ensures refused { IfErr result (IsRefusedFor D.tells (D.state disk.old) (D.state disk.new) self.now) }

@@ -43,6 +43,6 @@ pub struct Level {
     pub first: Option<DirEntry>,
     /// What is still to come of its entries.
     pub entries: Entries,
-    /// The failures that were met in it and not given yet, the oldest first.
+    /// The failures that were met in it and not given yet.
     pub faults: Vec<Due>,
 }

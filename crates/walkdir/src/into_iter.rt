@@ -130,8 +130,9 @@ impl<'d, D: Disk, S: Order + Drop> IntoIter<'d, D, S, Inside<S>> {
         collect(disk, inside, cap)
     }
 
-    /// Gathers the entries of the walk that aren't left out, each as it comes, up to its first error, or `TooMany` at the entry below the root with this
-    /// number that it comes to. A directory that is left out isn't read. Closes every list that the walk holds, and ends it.
+    /// Gathers the entries of the walk that aren't left out, each as it comes, up to its first error, or `TooMany` at the entry
+    /// below the root with this number that it comes to. On a disk that tells its tree a directory that is left out isn't read.
+    /// Closes every list that the walk holds, and ends it.
     pub fn gather<P: Prunes, G: Gathers>(
         &mut self,
         prune: &P,

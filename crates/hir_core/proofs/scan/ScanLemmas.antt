@@ -8,12 +8,12 @@ use Rattle.std.proofs.lemmas.Option.{slice_get_read, get_or_from_slice_get}
 use Rattle.hir_tree.specs.declared.look.Look.{Look}
 use Rattle.hir_core.specs.Program.{Way, gives, rank, spot_at}
 use Rattle.hir_core.specs.Masks.{HasBit, IsPart, match_bit, sure_bit, row_place, next_of, is_wide, Covers, IsMoved, IsDead, AreDead, NoRun}
-use Rattle.hir_core.specs.Scan.{IsCut, IsFilterOf, IsPassedOver, Looked, NoEnd, NoneBegins, TellsStops, stops_at}
+use Rattle.hir_core.specs.Scan.{IsRequired, IsFilterOf, IsPassedOver, Looked, NoEnd, NoneBegins, TellsStops, stops_at}
 use Rattle.hir_core.specs.declared.spot.Spot.{Spot}
 use Rattle.hir_core.specs.declared.scan.Scan.{Scan}
-use Rattle.hir_core.specs.declared.scan.Sight.{Sight}
-use Rattle.hir_core.specs.declared.scan.cut.Cut.{Cut}
-use Rattle.hir_core.specs.declared.scan.stride.Stride.{Stride}
+use Rattle.hir_core.specs.declared.scan.FilterState.{FilterState}
+use Rattle.hir_core.specs.declared.scan.required.Required.{Required}
+use Rattle.hir_core.specs.declared.scan.prefilter.Prefilter.{Prefilter}
 use Rattle.hir_core.proofs.scan.bits.MaskLemmas.{HasBit-none, HasBit-above, HasBit-and, HasBit-apart, HasBit-eight}
 use Rattle.hir_core.proofs.scan.reach.DeadLemmas.{AreDead-none, AreDead-part, Covers-part, IsDead-taker, spot_size-within, one_byte, NoRun-dead}
 
@@ -136,8 +136,8 @@ module _ (text : List ℕ) (spots : List Spot) (s : Scan) (filter : IsFilterOf s
       byte : ℕ
       byte = slice_index text place
 
-  module _ (c : Cut) (cut : IsCut spots s.of.items s.last_look s.start c) where
-    -- the spots before the cut are dead where it is passed over, if they are at the next place
+  module _ (c : Required) (required : IsRequired spots s.of.items s.last_look s.start c) where
+    -- the spots before a required one are dead where it is passed over, if they are at the next place
     AreDead-passed : (place : ℕ) → slice_index text place < 256 → IsPassedOver s.takes.items s.wide c (slice_index text place)
         → AreDead text spots s.of.items s.last_look (place + 1) c.before → AreDead text spots s.of.items s.last_look place c.before
     AreDead-passed place small passed later = record {
@@ -149,35 +149,35 @@ module _ (text : List ℕ) (spots : List Spot) (s : Scan) (filter : IsFilterOf s
           let one = one_byte text spots (taker i) place k (narrow_at byte c.before passed.1 i lt has) sized in
           let taken : HasBit (slice_index s.takes.items byte) i = filter.takes i byte lt small one.1 in
           subst (λ (j : ℕ). IsDead text spots (place + j) (next_of (taker i))) (sym one.0)
-          (cut.follows i lt has (λ in_cut. HasBit-apart (slice_index s.takes.items byte) c.spots i passed.0 taken in_cut) text (place + 1) later));
+          (required.follows i lt has (λ in_required. HasBit-apart (slice_index s.takes.items byte) c.spots i passed.0 taken in_required) text (place + 1) later));
     }
       where
         byte : ℕ
         byte = slice_index text place
 
         none : NoEnd text place s.last_look c.before
-        none = NoEnd-small text place s.last_look c.before cut.unmatched
+        none = NoEnd-small text place s.last_look c.before required.unmatched
 
     -- so they are from a place on where it is passed over at so many
-    AreDead-stride : (count place : ℕ) → ((q : ℕ) → slice_index text q < 256)
+    AreDead-prefilter : (count place : ℕ) → ((q : ℕ) → slice_index text q < 256)
         → ((q : ℕ) → place ≤ q → q < place + count → IsPassedOver s.takes.items s.wide c (slice_index text q))
         → AreDead text spots s.of.items s.last_look (place + count) c.before → AreDead text spots s.of.items s.last_look place c.before
-    AreDead-stride zero place small passed later =
+    AreDead-prefilter zero place small passed later =
         subst (λ (p : ℕ). AreDead text spots s.of.items s.last_look p c.before) (let here : place + 0 ≡ place = omega arith in here) later
-    AreDead-stride (suc count) place small passed later =
+    AreDead-prefilter (suc count) place small passed later =
         AreDead-passed place (small place) (passed place (omega arith) (omega arith))
-        (AreDead-stride count (place + 1) small (λ q low high. passed q (omega arith) (omega arith))
+        (AreDead-prefilter count (place + 1) small (λ q low high. passed q (omega arith) (omega arith))
         (subst (λ (p : ℕ). AreDead text spots s.of.items s.last_look p c.before)
         (let there : place + suc count ≡ place + 1 + count = omega arith in there) later))
 
-    -- no run begins before a place, and none there, where the spots before the cut are dead
-    IsDead-stride : (at end q : ℕ) → ((p : ℕ) → slice_index text p < 256)
+    -- no run begins before a place, and none there, where the spots before a required one are dead
+    IsDead-prefilter : (at end q : ℕ) → ((p : ℕ) → slice_index text p < 256)
         → ((p : ℕ) → at ≤ p → p < end → IsPassedOver s.takes.items s.wide c (slice_index text p))
         → AreDead text spots s.of.items s.last_look end c.before → at ≤ q → q ≤ end → IsDead text spots q 0
-    IsDead-stride at end q small passed later low high =
+    IsDead-prefilter at end q small passed later low high =
         filter.start text q
-        (AreDead-part text spots s.of.items s.last_look q s.start c.before cut.begun
-        (AreDead-stride (end - q) q small (λ p from until. passed p (omega arith) (omega arith))
+        (AreDead-part text spots s.of.items s.last_look q s.start c.before required.begun
+        (AreDead-prefilter (end - q) q small (λ p from until. passed p (omega arith) (omega arith))
         (subst (λ (p : ℕ). AreDead text spots s.of.items s.last_look p c.before) (let there : end ≡ q + (end - q) = omega arith in there) later)))
 
 -- a dead spot gives nothing
@@ -186,35 +186,35 @@ unfolding gives
 gives-dead text spots at q w here dead = dead (suc (rank text spots q w)) w here
 
 module _ (text : List ℕ) (s : Scan) where
-  module _ (k : Stride) (is : s.stride ≡ Some k) (small : (p : ℕ) → slice_index text p < 256) (at next : ℕ)
+  module _ (k : Prefilter) (is : s.prefilter ≡ Some k) (small : (p : ℕ) → slice_index text p < 256) (at next : ℕ)
       (passed : (p : ℕ) → at ≤ p → p < next → stops_at k.stops (slice_index text p) ≡ false) where
-    -- what the filter says of the stride
+    -- what the filter says of the prefilter
     said : (spots : List Spot) → IsFilterOf spots s
-        → IsCut spots s.of.items s.last_look s.start k.cut × TellsStops s.takes.items s.wide k.cut k.stops
+        → IsRequired spots s.of.items s.last_look s.start k.required × TellsStops s.takes.items s.wide k.required k.stops
     said spots filter =
         subst
-        (λ (o : Option Stride). IfSome o (λ j. IsCut spots s.of.items s.last_look s.start j.cut × TellsStops s.takes.items s.wide j.cut j.stops))
-        is filter.stride
+        (λ (o : Option Prefilter). IfSome o (λ j. IsRequired spots s.of.items s.last_look s.start j.required × TellsStops s.takes.items s.wide j.required j.stops))
+        is filter.prefilter
 
-    -- no run begins where a stride comes to the end of the text
+    -- no run begins where the prefilter comes to the end of the text
     pub NoneBegins-end : length text ≤ next → NoneBegins text s at next
     NoneBegins-end over spots filter q low high =
-        let is_cut = (said spots filter).0 in
-        IsDead-stride text spots s filter k.cut is_cut at next q small
+        let is_required = (said spots filter).0 in
+        IsDead-prefilter text spots s filter k.required is_required at next q small
         (λ p from until. (said spots filter).1 (slice_index text p) (small p) (passed p from until))
-        (AreDead-end text spots s filter k.cut.before next over (NoEnd-small text next s.last_look k.cut.before is_cut.unmatched)) low (omega arith)
+        (AreDead-end text spots s filter k.required.before next over (NoEnd-small text next s.last_look k.required.before is_required.unmatched)) low (omega arith)
 
-    -- nor before a byte that no spot before the cut takes
-    pub NoneBegins-gap : (gap : ℕ) → (gap ≡ at) ⊎ (bit_and k.cut.before (slice_index s.takes.items (slice_index text (gap - 1))) ≡ 0)
+    -- nor before a byte that no spot before a required one takes
+    pub NoneBegins-gap : (gap : ℕ) → (gap ≡ at) ⊎ (bit_and k.required.before (slice_index s.takes.items (slice_index text (gap - 1))) ≡ 0)
         → gap ≤ next → NoneBegins text s at gap
     NoneBegins-gap gap none within spots filter q low high = elim none [
       | inl here ↦ absurd (omega arith)
       | inr nothing ↦
-          let is_cut = (said spots filter).0 in
+          let is_required = (said spots filter).0 in
           let passes = λ (p : ℕ) (from : at ≤ p) (until : p < next). (said spots filter).1 (slice_index text p) (small p) (passed p from until) in
-          IsDead-stride text spots s filter k.cut is_cut at (gap - 1) q small (λ p from until. passes p from (omega arith))
-          (AreDead-by text spots s filter (gap - 1) k.cut.before (small (gap - 1))
-          (NoEnd-small text (gap - 1) s.last_look k.cut.before is_cut.unmatched) (passes (gap - 1) (omega arith) (omega arith)).1 nothing)
+          IsDead-prefilter text spots s filter k.required is_required at (gap - 1) q small (λ p from until. passes p from (omega arith))
+          (AreDead-by text spots s filter (gap - 1) k.required.before (small (gap - 1))
+          (NoEnd-small text (gap - 1) s.last_look k.required.before is_required.unmatched) (passes (gap - 1) (omega arith) (omega arith)).1 nothing)
           low (omega arith)
     ]
 
@@ -238,13 +238,13 @@ module _ (text : List ℕ) (s : Scan) where
   NoneBegins-more from mid until before after spots filter q low high =
       elim (cases_lt q mid) [ inl left ↦ before spots filter q low left | inr right ↦ after spots filter q right high ]
 
--- how far the filter has looked, and where the next stride is worth while
-abbrev pub sight : ℕ → ℕ → ℕ → ℕ → Sight
-sight from place state ahead = record { from = from; place = place; state = state; ahead = ahead }
+-- how far the filter has looked, and where the prefilter is worth while again
+abbrev pub so_far : ℕ → ℕ → ℕ → ℕ → FilterState
+so_far from place state ahead = record { from = from; place = place; state = state; ahead = ahead }
 
 module _ (text : List ℕ) (s : Scan) (at : ℕ) where
   -- at first nothing was looked at
-  pub Looked-begin : (ahead : ℕ) → at ≤ length text → Looked text s at (sight at at 0 ahead)
+  pub Looked-begin : (ahead : ℕ) → at ≤ length text → Looked text s at (so_far at at 0 ahead)
   Looked-begin ahead within = record {
     after = omega arith;
     before = omega arith;
@@ -256,8 +256,8 @@ module _ (text : List ℕ) (s : Scan) (at : ℕ) where
 
   -- a byte more, at a place where no match without a byte is
   pub Looked-next : (from place state tried next ahead : ℕ) → NoEnd text place s.last_look s.start ⊎ NoneBegins text s place (place + 1)
-      → NoEnd text (place + 1) s.last_look next → Looked text s at (sight from place state ahead) → Steps text s place state tried next
-      → Looked text s at (sight from (place + 1) next ahead)
+      → NoEnd text (place + 1) s.last_look next → Looked text s at (so_far from place state ahead) → Steps text s place state tried next
+      → Looked text s at (so_far from (place + 1) next ahead)
   Looked-next from place state tried next ahead empty none h steps = record {
     after = h.after;
     before = omega (arith, h.before);
@@ -281,13 +281,13 @@ module _ (text : List ℕ) (s : Scan) (at : ℕ) where
       ]
 
   -- a byte more, by a shift
-  pub Looked-shift : (from place state tried next ahead : ℕ) → s.start < 2 ^ 62 → next < 2 ^ 62 → Looked text s at (sight from place state ahead)
-      → Steps text s place state tried next → Looked text s at (sight from (place + 1) next ahead)
+  pub Looked-shift : (from place state tried next ahead : ℕ) → s.start < 2 ^ 62 → next < 2 ^ 62 → Looked text s at (so_far from place state ahead)
+      → Steps text s place state tried next → Looked text s at (so_far from (place + 1) next ahead)
   Looked-shift from place state tried next ahead low small h steps =
       Looked-next from place state tried next ahead (inl (NoEnd-small text place s.last_look s.start low)) (NoEnd-small text (place + 1) s.last_look next small) h steps
 
   -- where no spot may be tried, all before is over
-  pub Looked-over : (from place ahead : ℕ) → Looked text s at (sight from place 0 ahead) → Looked text s at (sight place place 0 ahead)
+  pub Looked-over : (from place ahead : ℕ) → Looked text s at (so_far from place 0 ahead) → Looked text s at (so_far place place 0 ahead)
   Looked-over from place ahead h = record {
     after = omega (arith, h.after, h.before);
     before = omega arith;
@@ -301,9 +301,9 @@ module _ (text : List ℕ) (s : Scan) (at : ℕ) where
   }
 
   -- places are passed over that begin no run
-  pub Looked-stride : (from ahead : ℕ) (k : Sight) → NoneBegins text s from k.from → from ≤ k.from → k.from ≤ length text → k.place ≡ k.from → k.state ≡ 0
-      → Looked text s at (sight from from 0 ahead) → Looked text s at k
-  Looked-stride from ahead k none forward end here rests h = record {
+  pub Looked-prefilter : (from ahead : ℕ) (k : FilterState) → NoneBegins text s from k.from → from ≤ k.from → k.from ≤ length text → k.place ≡ k.from → k.state ≡ 0
+      → Looked text s at (so_far from from 0 ahead) → Looked text s at k
+  Looked-prefilter from ahead k none forward end here rests h = record {
     after = omega (arith, h.after, forward);
     before = omega arith;
     within = omega arith;
@@ -316,12 +316,12 @@ module _ (text : List ℕ) (s : Scan) (at : ℕ) where
   }
 
   -- no run begins before `from`
-  pub Looked-quiet : (k : Sight) → Looked text s at k → (spots : List Spot) → IsFilterOf spots s → NoRun text spots at k.from
+  pub Looked-quiet : (k : FilterState) → Looked text s at k → (spots : List Spot) → IsFilterOf spots s → NoRun text spots at k.from
   Looked-quiet k h spots filter = NoRun-dead text spots at k.from (h.quiet spots filter)
 
   -- at the end of the text, where no match without a byte is, no run begins at all
   pub Looked-end : (from place state ahead : ℕ) → NoEnd text place s.last_look s.start ⊎ NoneBegins text s place (place + 1) → length text ≤ place
-      → Looked text s at (sight from place state ahead) → (spots : List Spot) → IsFilterOf spots s → NoRun text spots at (length text + 1)
+      → Looked text s at (so_far from place state ahead) → (spots : List Spot) → IsFilterOf spots s → NoRun text spots at (length text + 1)
   Looked-end from place state ahead empty over h spots filter =
       NoRun-dead text spots at (length text + 1)
       (λ q low high. elim (cases_lt q from) [

@@ -1,4 +1,4 @@
-//! What each byte does to the spots that may be tried.
+//! The tables of shift-and: what each byte does to the spots that may be tried.
 
 ghost use Rattle.std.specs.Prelude.{◌≡◌, ◌+◌, ◌^◌, ◌<◌, ℕ, length, slice_index, vec_len, IfOk};
 ghost use Rattle.hir_core.specs.Masks.{HasBit, IsShift, AreShifts};

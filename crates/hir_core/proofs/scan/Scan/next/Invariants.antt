@@ -3,8 +3,8 @@ use Rattle.hir_core.specs.Scan.{Looked}
 use Rattle.hir_core.proofs.scan.Scan.next.Given as goal
 
 -- no run begins before `from`, nor from there on, unless a spot of the state gives something at the place
-abbrev pub invariant-loop-sight : goal.invariant-loop-sight
-invariant-loop-sight l = Looked l.text l.self l.at l.sight
+abbrev pub invariant-loop-so_far : goal.invariant-loop-so_far
+invariant-loop-so_far l = Looked l.text l.self l.at l.so_far
 
-abbrev pub decreases-loop-sight : goal.decreases-loop-sight
-decreases-loop-sight l = length l.text - l.sight.place
+abbrev pub decreases-loop-so_far : goal.decreases-loop-so_far
+decreases-loop-so_far l = length l.text - l.so_far.place
