@@ -74,3 +74,5 @@ pub record Chooses (root : List ℕ) (globs : List (List ℕ)) (rules : List Rul
   pub tree : SameTree d.old d.new
   pub lists : KeepsLists 10 d.old d.new
   pub faults : d.old.faults ≤ d.new.faults
+  -- the count of listed entries never falls
+  pub later : d.old.listed ≤ d.new.listed

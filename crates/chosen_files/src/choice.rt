@@ -77,6 +77,7 @@ pub fn choose_capped<D: Disk>(
     ensures tree { SameTree (D.state disk.old) (D.state disk.new) }
     ensures lists { KeepsLists 10 (D.state disk.old) (D.state disk.new) }
     ensures faults { (D.state disk.old).faults ≤ (D.state disk.new).faults }
+    ensures later { (D.state disk.old).listed ≤ (D.state disk.new).listed }
 {
     choose_kept(alloc, disk, root, globs, &Ignore::new(alloc), cap)
 }
@@ -123,6 +124,7 @@ fn pick_below<'x, D: Disk>(
     ensures tree { SameTree (D.state disk.old) (D.state disk.new) }
     ensures lists { KeepsLists 10 (D.state disk.old) (D.state disk.new) }
     ensures faults { (D.state disk.old).faults ≤ (D.state disk.new).faults }
+    ensures later { (D.state disk.old).listed ≤ (D.state disk.new).listed }
 {
     let walk = WalkDir::new(alloc, top)?
         .max_open(MOST_LISTS)

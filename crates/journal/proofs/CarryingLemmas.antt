@@ -22,10 +22,10 @@ use Rattle.journal.specs.declared.fault.JournalFault.TheVariants as fault
 use Rattle.journal.specs.Keeping.{IsSettledIn}
 use Rattle.journal.specs.Placing.{OneLacksFile, OneIsCrowded, HasLineCause}
 use Rattle.journal.specs.Finishing.{HasJournalAt}
-use Rattle.journal.specs.Faults.{of_disk}
+use Rattle.journal.specs.Faults.{of_disk, WantsMemory}
 use Rattle.journal.specs.Finding.{LookFails}
 use Rattle.journal.specs.Reading.{NoneStands, JournalStands, OtherStands, AllStand}
-use Rattle.journal.specs.Recovering.{RootFails, RecoverFails, HaveFreeNames, IsWantOfMemory}
+use Rattle.journal.specs.Recovering.{RootFails, RecoverFails, HaveFreeNames}
 use Rattle.journal.proofs.LineLemmas.{line_path_text}
 use Rattle.journal.proofs.FileLemmas.{text_to_file, f, has, of, stands, stage_holds}
 use Rattle.journal.proofs.RecoveringLemmas.{stages_right}
@@ -87,7 +87,7 @@ module _ (work : Work) (lines : List Line) (s : DiskState) (is : IsTree s.tree) 
 
 -- a root that is looked at
 pub root_memory : (tells : Bool) (s t : DiskState) (root : List ℕ) → IsTrue tells → (reached s.tree root true ≡ None → ⊥) → (HasRisen s.faults t.faults → ⊥)
-    → (f : JournalFault) → RootFails (course tells s t) root f → IsWantOfMemory f
+    → (f : JournalFault) → RootFails (course tells s t) root f → WantsMemory f
 root_memory tells s t root told leads steady fault.RootMissing fails = absurd (leads (fails.0 told))
 root_memory tells s t root told leads steady (fault.File refused) fails = absurd (steady fails)
 root_memory tells s t root told leads steady fault.Pending fails = absurd fails
@@ -100,7 +100,7 @@ root_memory tells s t root told leads steady fault.NoMemory fails = tt
 
 -- a step that looks at the disk
 pub look_memory : (tells : Bool) (s t : DiskState) (absent : Type 0) → IsTrue tells → (absent → ⊥) → (HasRisen s.faults t.faults → ⊥) → (f : DiskFault) → LookFails (course tells s t) absent f
-    → IsWantOfMemory (of_disk f)
+    → WantsMemory (of_disk f)
 look_memory tells s t absent told there steady disk.Absent fails = absurd (there (fails.0 told))
 look_memory tells s t absent told there steady disk.Taken fails = absurd fails
 look_memory tells s t absent told there steady disk.Failed fails = absurd (steady fails)
@@ -109,7 +109,7 @@ look_memory tells s t absent told there steady disk.NoMemory fails = tt
 -- the journal and the stages that are read, and what comes then
 pub recover_memory : (work : Work) (root : List ℕ) (s t : DiskState) (tells : Bool) → IsTrue tells → IsTree s.tree → HoldsPresent s → (reached s.tree root true ≡ None → ⊥) → (OtherStands s.tree root → ⊥)
     → ((lines : List Line) → JournalStands s.tree root lines → IsSettledIn placing work lines s) → HaveFreeNames work s.tree → (HasRisen s.faults t.faults → ⊥)
-    → (f : JournalFault) → RecoverFails (course tells s t) root f → IsWantOfMemory f
+    → (f : JournalFault) → RecoverFails (course tells s t) root f → WantsMemory f
 recover_memory work root s t tells told is holds leads right placing_now free steady fault.RootMissing fails = absurd (leads (fails.0 told))
 recover_memory work root s t tells told is holds leads right placing_now free steady (fault.File refused) fails = absurd (steady fails)
 recover_memory work root s t tells told is holds leads right placing_now free steady fault.Pending fails = absurd fails

@@ -7,13 +7,13 @@ use Rattle.sd_io.specs.declared.fault.DiskFault.{DiskFault}
 use Rattle.sd_io.specs.declared.fault.DiskFault.TheVariants as disk
 use Rattle.sd_io.specs.declared.meta.Kind.{Kind}
 use Rattle.sd_io.specs.Tree.{NameList, Node, Tree, IsTree, node_at, file_node, file_at, is_directory_at}
-use Rattle.sd_io.specs.Paths.{parts_of, parent_of, way_of_node, SameWays}
+use Rattle.sd_io.specs.Paths.{parts_of, parent_of, reached, way_of_node, SameWays}
 use Rattle.sd_io.specs.Disk.{DiskState, SameTree, HoldsPresent}
 use Rattle.sd_io.specs.Files.{path_text, file_of, kind_of, LeadsNowhere}
 use Rattle.sd_io.specs.Lists.{directory_of, IsNoDirectory, SyncsFolder}
 use Rattle.sd_io.proofs.WayLemmas.{same_or_other, ways_kept, file_has_no_way, directory_alike}
 use Rattle.sd_io.proofs.OutcomeLemmas.{parent_of_child}
-use Rattle.sd_course.specs.Course.{course}
+use Rattle.sd_course.specs.Course.{course, DiskFailed}
 use Rattle.sd_change.specs.Change.{Change}
 use Rattle.file_exchange.specs.Reserved.{Free, NoneFree, reserved_name, reserved_names}
 use Rattle.file_exchange.specs.Exchange.{IsFilePath}
@@ -26,7 +26,7 @@ use Rattle.change_phases.specs.Between.{journal_name, place_of, stage_of}
 use Rattle.change_phases.proofs.WorkLemmas.{reserved_not_journal}
 use Rattle.journal.specs.declared.fault.JournalFault.{JournalFault}
 use Rattle.journal.specs.declared.fault.JournalFault.TheVariants as fault
-use Rattle.journal.specs.Faults.{of_disk}
+use Rattle.journal.specs.Faults.{of_disk, WantsMemory}
 use Rattle.journal.specs.Beside.{KeepsAllButFree, AddsBeside}
 use Rattle.journal.specs.Finding.{FindsEntry, LookFails, kind_at}
 use Rattle.journal.specs.Recovering.{RootFails}
@@ -340,6 +340,21 @@ root_first tells root s t fault.BadJournal told there fails = fails
 root_first tells root s t (fault.StageMissing path) told there fails = fails
 root_first tells root s t (fault.StageDiffers path planned found) told there fails = fails
 root_first tells root s t fault.NoMemory told there fails = tt
+
+root_reached : (s : DiskState) (root : List ℕ) → IsSome (reached s.tree root true) → LeadsNowhere s root true → ⊥
+root_reached s root there nowhere = absurd (subst (λ (o : Option NameList). IsSome o) nowhere there)
+
+pub root_for_memory : (tells : Bool) (root : List ℕ) (s t : DiskState) (refused : JournalFault) → IsTrue tells → IsSome (reached s.tree root true) → (DiskFailed (course tells s t) → ⊥)
+    → RootFails (course tells s t) root refused → WantsMemory refused
+root_for_memory tells root s t fault.RootMissing told there no_fault fails = absurd (root_reached s root there (fails.0 told))
+root_for_memory tells root s t (fault.File refused) told there no_fault fails = absurd (no_fault fails)
+root_for_memory tells root s t fault.Pending told there no_fault fails = fails
+root_for_memory tells root s t (fault.TempName folder) told there no_fault fails = fails
+root_for_memory tells root s t (fault.Unfinished job) told there no_fault fails = absurd fails
+root_for_memory tells root s t fault.BadJournal told there no_fault fails = fails
+root_for_memory tells root s t (fault.StageMissing path) told there no_fault fails = fails
+root_for_memory tells root s t (fault.StageDiffers path planned found) told there no_fault fails = fails
+root_for_memory tells root s t fault.NoMemory told there no_fault fails = tt
 
 -- ---- whether an entry was found
 

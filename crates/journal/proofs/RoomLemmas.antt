@@ -20,10 +20,11 @@ use Rattle.file_rewrite.specs.OneFile.{FreeAtMost}
 use Rattle.file_rewrite.specs.declared.fault.JobFault.{JobFault}
 use Rattle.file_rewrite.specs.declared.fault.JobFault.TheVariants as job
 use Rattle.change_phases.specs.Between.{Work, journal_name}
+use Rattle.journal.specs.Faults.{WantsMemory}
 use Rattle.journal.specs.declared.fault.JournalFault.{JournalFault}
 use Rattle.journal.specs.declared.fault.JournalFault.TheVariants as fault
 use Rattle.journal.specs.Planning.{AreChangesOf, LeadToFiles}
-use Rattle.journal.specs.Changing.{IsChangeBelow, IsUnfinished, ChangeFails, HasFree, HasRoomFor, WantsMemory}
+use Rattle.journal.specs.Changing.{IsChangeBelow, IsUnfinished, ChangeFails, HasFree, HasRoomFor}
 use Rattle.journal.proofs.SameFilesLemmas.{none_stands}
 use Rattle.journal.proofs.StagingLemmas.{cons_cases}
 

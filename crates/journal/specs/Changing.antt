@@ -64,16 +64,11 @@ pub record LeavesNothing (lines : List Line) (temporary : List ℕ) (journal : N
 
 -- why no file is made beside the path: `TempName` tells the path of its folder, where no reserved name is free; or the disk counted a fault
 abbrev pub WritingFails : Course DiskState → List ℕ → JournalFault → Type 0
-WritingFails d path fault.RootMissing = ⊥
 WritingFails d path (fault.File refused) = DiskFailed d
-WritingFails d path fault.Pending = ⊥
 WritingFails d path (fault.TempName text) =
     AsTold d.tells ((text ≡ path_text (parent_of (parts_of path))) × NoneFree d.old.tree (parent_of (parts_of path))) (HasRisenBy reserved_names d.old.faults d.new.faults)
-WritingFails d path (fault.Unfinished job) = ⊥
-WritingFails d path fault.BadJournal = ⊥
-WritingFails d path (fault.StageMissing stage) = ⊥
-WritingFails d path (fault.StageDiffers stage planned found) = ⊥
 WritingFails d path fault.NoMemory = ⊤
+WritingFails d path _ = ⊥
 
 -- All stands that a journal tells of: each line's file and its stage. The journal itself stands under a reserved name, beside the place of its own, which is free.
 pub record IsWritten (lines : List Line) (temporary path root : List ℕ) (tree : Tree) : Type 0 where
@@ -134,17 +129,13 @@ LeavesAllButFree d = IsTrue d.tells → KeepsAllButFree d.old.tree d.new.tree
 
 -- Why a change isn't made where no journal stands, and what is left: all but reserved names that were free, unless it is unfinished.
 abbrev pub MakingFails : Change → List ℕ → List (List ℕ) → Course DiskState → JournalFault → Type 0
-MakingFails change root paths d fault.RootMissing = ⊥
 MakingFails change root paths d (fault.File refused) = LeavesAllButFree d × MissesFile d paths
-MakingFails change root paths d fault.Pending = ⊥
 MakingFails change root paths d (fault.TempName text) =
     LeavesAllButFree d
     × AsTold d.tells (LeadToFiles d.old.tree paths → IsTooCrowded change d.old.tree root paths text) (HasRisenBy reserved_names d.old.faults d.new.faults)
 MakingFails change root paths d (fault.Unfinished job) = IsUnfinished change paths d job
-MakingFails change root paths d fault.BadJournal = ⊥
-MakingFails change root paths d (fault.StageMissing stage) = ⊥
-MakingFails change root paths d (fault.StageDiffers stage planned found) = ⊥
 MakingFails change root paths d fault.NoMemory = LeavesAllButFree d
+MakingFails change root paths d _ = ⊥
 
 -- something stands at `.sd-journal` in the directory that the root leads to
 pub record IsPending (tree : Tree) (root : List ℕ) : Type 0 where
@@ -160,15 +151,10 @@ ChangeFails change root paths d refused = MakingFails change root paths d refuse
 
 -- these come before a pending journal is told
 abbrev pub ComesFirst : JournalFault → Type 0
-ComesFirst fault.RootMissing = ⊥
 ComesFirst (fault.File refused) = ⊤
 ComesFirst fault.Pending = ⊤
-ComesFirst (fault.TempName folder) = ⊥
-ComesFirst (fault.Unfinished job) = ⊥
-ComesFirst fault.BadJournal = ⊥
-ComesFirst (fault.StageMissing stage) = ⊥
-ComesFirst (fault.StageDiffers stage planned found) = ⊥
 ComesFirst fault.NoMemory = ⊤
+ComesFirst _ = ⊥
 
 -- ---- when nothing but want of memory refuses it
 
@@ -181,15 +167,3 @@ HasFree tree folder n =
 pub record HasRoomFor (change : Change) (tree : Tree) (root : List ℕ) (paths : List (List ℕ)) : Type 0 where
   pub each : (folder : NameList) (n : ℕ) → 0 < n → HaveChangesIn change tree folder paths n → HasFree tree folder (n + 1)
   pub in_root : (folder : NameList) (n : ℕ) → directory_of tree root ≡ Some folder → HaveChangesIn change tree folder paths n → HasFree tree folder (n + 2)
-
--- want of memory is the one reason left
-abbrev pub WantsMemory : JournalFault → Type 0
-WantsMemory fault.RootMissing = ⊥
-WantsMemory (fault.File refused) = ⊥
-WantsMemory fault.Pending = ⊥
-WantsMemory (fault.TempName folder) = ⊥
-WantsMemory (fault.Unfinished refused) = refused ≡ job.NoMemory
-WantsMemory fault.BadJournal = ⊥
-WantsMemory (fault.StageMissing stage) = ⊥
-WantsMemory (fault.StageDiffers stage planned found) = ⊥
-WantsMemory fault.NoMemory = ⊤

@@ -28,27 +28,17 @@ pub record MayRecover (work : Work) (root : List ℕ) (state : DiskState) : Type
 
 -- the journal or a stage isn't what was written
 abbrev pub IsMisread : JournalFault → Type 0
-IsMisread fault.RootMissing = ⊥
-IsMisread (fault.File refused) = ⊥
-IsMisread fault.Pending = ⊥
-IsMisread (fault.TempName folder) = ⊥
-IsMisread (fault.Unfinished job) = ⊥
 IsMisread fault.BadJournal = ⊤
 IsMisread (fault.StageMissing path) = ⊤
 IsMisread (fault.StageDiffers path planned found) = ⊤
-IsMisread fault.NoMemory = ⊥
+IsMisread _ = ⊥
 
 -- why a root isn't looked at: it leads nowhere, or the disk counted a fault
 abbrev pub RootFails : Course DiskState → List ℕ → JournalFault → Type 0
 RootFails d root fault.RootMissing = AsTold d.tells (LeadsNowhere d.old root true) (DiskFailed d)
 RootFails d root (fault.File refused) = DiskFailed d
-RootFails d root fault.Pending = ⊥
-RootFails d root (fault.TempName folder) = ⊥
-RootFails d root (fault.Unfinished job) = ⊥
-RootFails d root fault.BadJournal = ⊥
-RootFails d root (fault.StageMissing path) = ⊥
-RootFails d root (fault.StageDiffers path planned found) = ⊥
 RootFails d root fault.NoMemory = ⊤
+RootFails d root _ = ⊥
 
 -- ---- what is answered, and refused
 
@@ -71,42 +61,19 @@ pub record CarryingFails (d : Course DiskState) (root : List ℕ) (job : JobFaul
 -- Why a change isn't recovered: the root leads nowhere, what stands in the journal's place is none, or a stage isn't what its line tells; or a step that
 -- writes was refused, where the journal and all its stages stood. Else the disk counted a fault, or there is no memory left.
 abbrev pub RecoverFails : Course DiskState → List ℕ → JournalFault → Type 0
-RecoverFails d root fault.RootMissing = AsTold d.tells (LeadsNowhere d.old root true) (DiskFailed d)
-RecoverFails d root (fault.File refused) = DiskFailed d
-RecoverFails d root fault.Pending = ⊥
-RecoverFails d root (fault.TempName folder) = ⊥
 RecoverFails d root (fault.Unfinished job) = CarryingFails d root job
 RecoverFails d root fault.BadJournal = AsTold d.tells (OtherStands d.old.tree root) (d.old.listed < d.new.listed)
 RecoverFails d root (fault.StageMissing path) = StagesFail d root (fault.StageMissing path)
 RecoverFails d root (fault.StageDiffers path planned found) = StagesFail d root (fault.StageDiffers path planned found)
-RecoverFails d root fault.NoMemory = ⊤
+RecoverFails d root refused = RootFails d root refused
 
 -- the change isn't begun to be carried out: nothing was written
 abbrev pub IsBeforeWriting : JournalFault → Type 0
-IsBeforeWriting fault.RootMissing = ⊤
-IsBeforeWriting (fault.File refused) = ⊤
-IsBeforeWriting fault.Pending = ⊤
-IsBeforeWriting (fault.TempName folder) = ⊤
 IsBeforeWriting (fault.Unfinished job) = ⊥
-IsBeforeWriting fault.BadJournal = ⊤
-IsBeforeWriting (fault.StageMissing path) = ⊤
-IsBeforeWriting (fault.StageDiffers path planned found) = ⊤
-IsBeforeWriting fault.NoMemory = ⊤
+IsBeforeWriting _ = ⊤
 
 -- ---- when it comes to its end
 
 -- a reserved name is free in the folder of each file that changes
 abbrev pub HaveFreeNames : Work → Tree → Type 0
 HaveFreeNames work tree = (f : Exchange) → Contains work.files f → (q : NameList) × Free tree (parent_of f.0) q
-
--- there is no memory left, before anything is written or later
-abbrev pub IsWantOfMemory : JournalFault → Type 0
-IsWantOfMemory fault.RootMissing = ⊥
-IsWantOfMemory (fault.File refused) = ⊥
-IsWantOfMemory fault.Pending = ⊥
-IsWantOfMemory (fault.TempName folder) = ⊥
-IsWantOfMemory (fault.Unfinished failed) = failed ≡ job.NoMemory
-IsWantOfMemory fault.BadJournal = ⊥
-IsWantOfMemory (fault.StageMissing path) = ⊥
-IsWantOfMemory (fault.StageDiffers path planned found) = ⊥
-IsWantOfMemory fault.NoMemory = ⊤

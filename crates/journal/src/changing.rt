@@ -2,7 +2,7 @@
 
 ghost use Rattle.std.specs.Prelude.{◌≡◌, ◌<◌, ◌≤◌, ◌++◌, ◌∷◌, [], ℕ, IsTrue, IsSome, IfOk, IfErr, OnOk, IsErrAnd, Contains, List, length, Some, None};
 ghost use Rattle.sd_io.specs.Tree.{NameList, node_at};
-ghost use Rattle.sd_io.specs.Paths.{parts_of, parent_of};
+ghost use Rattle.sd_io.specs.Paths.{parts_of, parent_of, reached};
 ghost use Rattle.sd_io.specs.Disk.{SameTree, SameLists};
 ghost use Rattle.sd_io.specs.Lists.{directory_of};
 ghost use Rattle.sd_course.specs.Course.{course, DiskFailed};
@@ -10,13 +10,14 @@ ghost use Rattle.file_exchange.specs.Exchange.{IsFilePath, IsPathIn};
 ghost use Rattle.journal_text.specs.declared.line.Line as line;
 ghost use Rattle.change_phases.specs.Between.{Work, journal_name, journal_of};
 ghost use Rattle.change_phases.specs.Phases.{naming, cleared, IsIn};
+ghost use Rattle.journal.specs.Faults.{WantsMemory};
 ghost use Rattle.journal.specs.Keeping.{AreRootPaths, IsSettledIn, KeepsPhase, KeepsBetween};
 ghost use Rattle.journal.specs.Finding.{LeavesLists};
 ghost use Rattle.journal.specs.Finishing.{StagesAreGone};
 ghost use Rattle.journal.specs.Clearing.{LeavesNoMore};
 ghost use Rattle.journal.specs.Beside.{KeepsAllButFree, AddsBeside};
 ghost use Rattle.journal.specs.Naming.{MayBeNamed};
-ghost use Rattle.journal.specs.Changing.{IsChangeBelow, MayChange, IsChanged, ExchangesFiles, LeavesNothing, WritingFails, IsWritten, EndFails, MakingFails, ChangeFails, IsPending, ComesFirst, HasRoomFor, WantsMemory};
+ghost use Rattle.journal.specs.Changing.{IsChangeBelow, MayChange, IsChanged, ExchangesFiles, LeavesNothing, WritingFails, IsWritten, EndFails, MakingFails, ChangeFails, IsPending, ComesFirst, HasRoomFor};
 
 use crate::JournalFault;
 use crate::beside::make_beside;
@@ -48,7 +49,8 @@ use std::alloc::Global;
 /// On a disk that tells its tree, where each crash leaves it as it stands and the paths lead to the files that change, each in a place of its own:
 /// every image that a crash at any moment leaves is between old and new, and so it is after each refusal; after `Ok` each file has its mode and its
 /// new bytes, every other place is as it was, and each crash leaves each file new, and no journal. With a free reserved name for each file that
-/// changes, one more in each folder and in the root yet one more, nothing but a counted fault and want of memory refuses it.
+/// changes, one more in each folder and in the root yet one more, nothing but a counted fault and want of memory refuses it; nor anything else where the
+/// root leads to a node that is no directory.
 pub fn change_files<D: Disk, R: Replaces>(
     alloc: Global,
     disk: &mut D,
@@ -69,6 +71,8 @@ pub fn change_files<D: Disk, R: Replaces>(
         → HasRoomFor (R.change replacer.now) (D.state disk.old).tree root.now paths.now
         → (DiskFailed (course D.tells (D.state disk.old) (D.state disk.new)) → ⊥) → IfErr result WantsMemory }
     ensures no_directory { IsTrue D.tells → directory_of (D.state disk.old).tree root.now ≡ None → OnOk result (SameTree (D.state disk.old) (D.state disk.new)) }
+    ensures elsewhere { IsTrue D.tells → IsSome (reached (D.state disk.old).tree root.now true) → directory_of (D.state disk.old).tree root.now ≡ None
+        → (DiskFailed (course D.tells (D.state disk.old) (D.state disk.new)) → ⊥) → IfErr result WantsMemory }
     ensures lists { LeavesLists (D.state disk.old) (D.state disk.new) }
     ensures never_falls { (D.state disk.old).faults ≤ (D.state disk.new).faults }
 {

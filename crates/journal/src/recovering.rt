@@ -9,11 +9,12 @@ ghost use Rattle.sd_io.specs.Lists.{directory_of};
 ghost use Rattle.sd_course.specs.Course.{course};
 ghost use Rattle.journal_text.specs.declared.line.Line.{Line};
 ghost use Rattle.change_phases.specs.Between.{Work, AllOld, AllNew, journal_name};
+ghost use Rattle.journal.specs.Faults.{WantsMemory};
 ghost use Rattle.journal.specs.Keeping.{KeepsBetween};
 ghost use Rattle.journal.specs.Clearing.{LeavesNoMore};
 ghost use Rattle.journal.specs.Finding.{LeavesLists};
 ghost use Rattle.journal.specs.Reading.{JournalStands};
-ghost use Rattle.journal.specs.Recovering.{MayRecover, IsMisread, IsRecovered, IsCarriedOut, RecoverFails, IsBeforeWriting, HaveFreeNames, IsWantOfMemory, RootFails};
+ghost use Rattle.journal.specs.Recovering.{MayRecover, IsMisread, IsRecovered, IsCarriedOut, RecoverFails, IsBeforeWriting, HaveFreeNames, RootFails};
 
 use crate::JournalFault;
 use crate::finishing::finish;
@@ -48,7 +49,7 @@ pub fn recover<D: Disk>(alloc: Global, disk: &mut D, root: &str) -> Result<u128,
     ensures gone { IsTrue D.tells → (folder : NameList) → reached (D.state disk.old).tree root.now true ≡ Some folder
         → OnOk result (node_at (D.state disk.new).tree (folder ++ journal_name ∷ []) ≡ None) }
     ensures complete { IsTrue D.tells → (work : Work) → MayRecover work root.now (D.state disk.old) → HaveFreeNames work (D.state disk.old).tree
-        → (HasRisen (D.state disk.old).faults (D.state disk.new).faults → ⊥) → IfErr result IsWantOfMemory }
+        → (HasRisen (D.state disk.old).faults (D.state disk.new).faults → ⊥) → IfErr result WantsMemory }
     ensures lists { LeavesLists (D.state disk.old) (D.state disk.new) }
     ensures never_falls { (D.state disk.old).faults ≤ (D.state disk.new).faults }
 {

@@ -34,4 +34,6 @@ pub record PlansTree (change : Change) (selection : Selection) (cap : ℕ) (same
   pub same : SameTree d.old d.new
   pub lists : KeepsLists 10 d.old d.new
   pub never_falls : d.old.faults ≤ d.new.faults
+  -- the count of listed entries never falls
+  pub later : d.old.listed ≤ d.new.listed
   pub complete : IsClear selection cap d → IfErr result (λ failed. failed ≡ error.NoMemory)

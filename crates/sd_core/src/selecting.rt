@@ -45,6 +45,7 @@ pub(crate) fn select<D: Disk>(
     ensures tree { SameTree (D.state disk.old) (D.state disk.new) }
     ensures lists { KeepsLists 10 (D.state disk.old) (D.state disk.new) }
     ensures never_falls { (D.state disk.old).faults ≤ (D.state disk.new).faults }
+    ensures later { (D.state disk.old).listed ≤ (D.state disk.new).listed }
     ensures complete { IsClear (by_globs root.now globs.now) cap (course D.tells (D.state disk.old) (D.state disk.new))
         → IfErr result (λ failed. failed ≡ Error.NoMemory) }
 {

@@ -6,10 +6,11 @@ use Rattle.sd_io.specs.Paths.{reached}
 use Rattle.sd_io.specs.Disk.{DiskState}
 use Rattle.sd_course.specs.Course.{Course}
 use Rattle.change_phases.specs.Between.{Work, AllOld, AllNew, journal_name}
+use Rattle.journal.specs.Faults.{WantsMemory}
 use Rattle.journal.specs.Keeping.{KeepsBetween}
 use Rattle.journal.specs.Finding.{LeavesLists}
 use Rattle.journal.specs.Clearing.{LeavesNoMore}
-use Rattle.journal.specs.Recovering.{MayRecover, IsMisread, IsRecovered, RecoverFails, IsBeforeWriting, HaveFreeNames, IsWantOfMemory}
+use Rattle.journal.specs.Recovering.{MayRecover, IsMisread, IsRecovered, RecoverFails, IsBeforeWriting, HaveFreeNames}
 use Rattle.journal.specs.declared.fault.JournalFault.{JournalFault}
 use Rattle.sd_journal.specs.Errors.{of_change}
 use Rattle.sd_journal.specs.declared.error.JournalError.{JournalError}
@@ -30,7 +31,7 @@ pub record RecoversChange (root : List ℕ) (answer : Result ℕ JournalFault) (
   pub unwritten : IsTrue d.tells → IfErr answer (λ fault. IsBeforeWriting fault → LeavesNoMore d.old d.new)
   pub gone : IsTrue d.tells → (folder : NameList) → reached d.old.tree root true ≡ Some folder → OnOk answer (node_at d.new.tree (folder ++ journal_name ∷ []) ≡ None)
   pub complete : IsTrue d.tells → (work : Work) → MayRecover work root d.old → HaveFreeNames work d.old.tree → (HasRisen d.old.faults d.new.faults → ⊥)
-      → IfErr answer IsWantOfMemory
+      → IfErr answer WantsMemory
   pub lists : LeavesLists d.old d.new
   pub never_falls : d.old.faults ≤ d.new.faults
 

@@ -1,5 +1,5 @@
 -- Why a journalled sweep isn't made, and what stands then.
-use Rattle.std.specs.Prelude.{◌≡◌, ℕ, IsTrue, List, ⊤}
+use Rattle.std.specs.Prelude.{◌≡◌, ◌<◌, ℕ, IsTrue, List, ⊤}
 use Rattle.sd_io.specs.Tree.{Tree}
 use Rattle.sd_io.specs.Disk.{DiskState, SameTree}
 use Rattle.sd_change.specs.Change.{Change}
@@ -50,27 +50,21 @@ IsUnfinishedSweep change root globs d job.NoMemory = ⊤
 -- written.
 abbrev pub JournalledFails : Change → List ℕ → List (List ℕ) → Course DiskState → JournalError → Type 0
 JournalledFails change root globs d (error.Sweep refused) = IsRefusedSweep root globs d refused
-JournalledFails change root globs d error.Pending = IsTrue d.tells → IsPending d.old.tree root × LeavesNoMore d.old d.new
+JournalledFails change root globs d error.Pending = (IsTrue d.tells → LeavesNoMore d.old d.new) × AsTold d.tells (IsPending d.old.tree root) (d.old.listed < d.new.listed)
 JournalledFails change root globs d (error.TempName text) =
     LeavesAllButFree d
     × AsTold d.tells (OfChangedPaths change root globs d.old.tree (λ paths. IsTooCrowded change d.old.tree root paths text))
     (HasRisenBy reserved_names d.old.faults d.new.faults)
 JournalledFails change root globs d (error.Unfinished job) = IsUnfinishedSweep change root globs d job
-JournalledFails change root globs d error.BadJournal = ⊥
-JournalledFails change root globs d (error.StageMissing path) = ⊥
-JournalledFails change root globs d (error.StageDiffers path planned found) = ⊥
 JournalledFails change root globs d error.NoMemory = LeavesAllButFree d
+JournalledFails change root globs d _ = ⊥
 
 -- these come before a pending journal is told
 abbrev pub ComesBefore : JournalError → Type 0
 ComesBefore (error.Sweep refused) = ⊤
 ComesBefore error.Pending = ⊤
-ComesBefore (error.TempName folder) = ⊥
-ComesBefore (error.Unfinished job) = ⊥
-ComesBefore error.BadJournal = ⊥
-ComesBefore (error.StageMissing path) = ⊥
-ComesBefore (error.StageDiffers path planned found) = ⊥
 ComesBefore error.NoMemory = ⊤
+ComesBefore _ = ⊥
 
 -- ---- when nothing but want of memory refuses it
 
@@ -81,11 +75,6 @@ HasRoomForChosen change root globs tree =
 
 -- want of memory is the one reason left
 abbrev pub IsForWantOfMemory : JournalError → Type 0
-IsForWantOfMemory (error.Sweep refused) = ⊥
-IsForWantOfMemory error.Pending = ⊥
-IsForWantOfMemory (error.TempName folder) = ⊥
 IsForWantOfMemory (error.Unfinished refused) = refused ≡ job.NoMemory
-IsForWantOfMemory error.BadJournal = ⊥
-IsForWantOfMemory (error.StageMissing path) = ⊥
-IsForWantOfMemory (error.StageDiffers path planned found) = ⊥
 IsForWantOfMemory error.NoMemory = ⊤
+IsForWantOfMemory _ = ⊥

@@ -65,6 +65,7 @@ pub record SweepsJournalled (change : Change) (root : List ℕ) (globs : List (L
   pub unwritten : IsTrue d.tells → IsPending d.old.tree root → LeavesNoMore d.old d.new
   pub complete : IsClear (by_globs root globs) sweep_cap d → (folder : NameList) → directory_of d.old.tree root ≡ Some folder → IsFresh root d.old
       → HasRoomForChosen change root globs d.old.tree → IfErr result IsForWantOfMemory
+  pub elsewhere : IsClear (by_globs root globs) sweep_cap d → directory_of d.old.tree root ≡ None → IfErr result IsForWantOfMemory
   pub bad_glob : (place : ℕ) → IsFirstInvalid globs place → same_disk × IsErrOrMemory (error.Sweep (sweep.BadGlob place)) result
   pub lists : KeepsLists 10 d.old d.new
   pub never_falls : d.old.faults ≤ d.new.faults

@@ -1,12 +1,14 @@
 //! A command on a tree that is done whole, or not at all.
 
-ghost use Rattle.std.specs.Prelude.{◌≡◌, ◌≤◌, IsTrue, IfOk, IfErr, IsErrAnd, OnOk, None};
+ghost use Rattle.std.specs.Prelude.{◌≡◌, ◌≤◌, IsTrue, IsSome, IfOk, IfErr, IsErrAnd, OnOk, None};
 ghost use Rattle.sd_io.specs.Disk.{SameTree};
 ghost use Rattle.sd_io.specs.Lists.{directory_of};
+ghost use Rattle.sd_io.specs.Paths.{reached};
 ghost use Rattle.sd_course.specs.Course.{course, DiskFailed};
 ghost use Rattle.change_phases.specs.Between.{Work};
+ghost use Rattle.journal.specs.Faults.{WantsMemory};
 ghost use Rattle.journal.specs.Clearing.{LeavesNoMore};
-ghost use Rattle.journal.specs.Changing.{IsChangeBelow, IsChanged, ExchangesFiles, ChangeFails, IsPending, ComesFirst, HasRoomFor, WantsMemory};
+ghost use Rattle.journal.specs.Changing.{IsChangeBelow, IsChanged, ExchangesFiles, ChangeFails, IsPending, ComesFirst, HasRoomFor};
 ghost use Rattle.journal.specs.Finding.{LeavesLists};
 ghost use Rattle.journal.specs.Keeping.{KeepsBetween};
 ghost use Rattle.sd_journal.specs.Recover.{Recovers};
@@ -65,6 +67,8 @@ fn change_planned<D: Disk, R: Replaces>(
     ensures unwritten { IsTrue D.tells → IsPending (D.state disk.old).tree root.now → LeavesNoMore (D.state disk.old) (D.state disk.new) }
     ensures complete { IsTrue D.tells → (work : Work) → IsChangeBelow (R.change replacer.now) work root.now (form.changed_paths planned.now) (D.state disk.old)
         → HasRoomFor (R.change replacer.now) (D.state disk.old).tree root.now (form.changed_paths planned.now)
+        → (DiskFailed (course D.tells (D.state disk.old) (D.state disk.new)) → ⊥) → IfErr result (IsFaultOf WantsMemory) }
+    ensures elsewhere { IsTrue D.tells → IsSome (reached (D.state disk.old).tree root.now true) → directory_of (D.state disk.old).tree root.now ≡ None
         → (DiskFailed (course D.tells (D.state disk.old) (D.state disk.new)) → ⊥) → IfErr result (IsFaultOf WantsMemory) }
     ensures lists { LeavesLists (D.state disk.old) (D.state disk.new) }
     ensures never_falls { (D.state disk.old).faults ≤ (D.state disk.new).faults }

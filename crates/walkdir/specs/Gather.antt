@@ -203,3 +203,5 @@ module _ {S G : Type 0} (tells : Bool) (sorts : S → Bool) (compares_by : S →
     pub closed : StaysWithin (open_limit before.options) old (levels_of before) new []
     pub tree : SameTree old new
     pub faults : old.faults ≤ new.faults
+    -- the count of listed entries never falls
+    pub later : old.listed ≤ new.listed

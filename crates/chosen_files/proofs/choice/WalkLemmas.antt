@@ -312,9 +312,9 @@ lists_on more old mid new same kept =
 
 pub chooses_fails : (root : List ℕ) (globs : List (List ℕ)) (rules : List Rule) (cap : ℕ) (tells : Bool) (old new : DiskState) (result : Result Choice ChoiceFault) (failed : ChoiceFault)
     → IsErrAnd result (λ x. x ≡ failed) → KeepFails root rules cap (course tells old new) failed → SameTree old new → KeepsLists 10 old new → old.faults ≤ new.faults
-    → Chooses root globs rules cap (course tells old new) result
-chooses_fails root globs rules cap tells old new (Ok choice) failed is fails tree lists faults = absurd is
-chooses_fails root globs rules cap tells old new (Err other) failed is fails tree lists faults = record {
+    → old.listed ≤ new.listed → Chooses root globs rules cap (course tells old new) result
+chooses_fails root globs rules cap tells old new (Ok choice) failed is fails tree lists faults later = absurd is
+chooses_fails root globs rules cap tells old new (Err other) failed is fails tree lists faults later = record {
   kept = λ told. tt;
   below_root = tt;
   few = λ told. tt;
@@ -324,6 +324,7 @@ chooses_fails root globs rules cap tells old new (Err other) failed is fails tre
   tree = tree;
   lists = lists;
   faults = faults;
+  later = later;
 }
 
 -- without rules it fails as a choice of all files does

@@ -67,7 +67,7 @@ told_is (Err fault) (Ok lines) is = absurd is
 told_is (Err fault) (Err e) is = ap Err is
 
 module _ (change : Change) (selection : Selection) (law : IsSelection selection) (s0 s1 s2 : DiskState) (same : SameTree s0 s1) (paths : List (List ℕ)) (cap : ℕ) (tells : Bool)
-    (low : s0.faults ≤ s1.faults) (is_tree : IsTrue tells → IsTree s0.tree) (selected : IsTrue tells → ListsSelected selection s0.tree paths)
+    (low : s0.faults ≤ s1.faults) (more : s0.listed ≤ s1.listed) (is_tree : IsTrue tells → IsTree s0.tree) (selected : IsTrue tells → ListsSelected selection s0.tree paths)
     (few : IsTrue tells → selection.HasFewer cap s0.tree) (same_disk : Type 0) (valid : (place : ℕ) → IsFirstInvalid selection.globs place → ⊥) where
   are_files : IsTrue tells → All (LeadsToFile s1.tree) paths
   are_files known =
@@ -109,6 +109,7 @@ module _ (change : Change) (selection : Selection) (law : IsSelection selection)
     same = kept;
     lists = lists;
     never_falls = omega (arith, low, plans.never_falls);
+    later = (let same = plans.lists.listed in omega (arith, more, same));
     complete = λ clear. tt;
   }
   planned (Err fault) kept lists plans = record {
@@ -119,6 +120,7 @@ module _ (change : Change) (selection : Selection) (law : IsSelection selection)
     same = kept;
     lists = lists;
     never_falls = omega (arith, low, plans.never_falls);
+    later = (let same = plans.lists.listed in omega (arith, more, same));
     complete = λ clear. ap of_disk (plans.complete (record { files = are_files; no_fault = λ rose. clear.no_fault (risen rose) }));
   }
 
@@ -133,5 +135,6 @@ no_text change selection cap same_disk lines d plans = record {
   same = plans.same;
   lists = plans.lists;
   never_falls = plans.never_falls;
+  later = plans.later;
   complete = λ clear. refl;
 }

@@ -16,10 +16,11 @@ use Rattle.many_files.proofs.MemberLemmas.{In, in_from_contains}
 use Rattle.many_files.specs.declared.report.Report.{Report}
 use Rattle.sd_plan.specs.declared.line.PlanLine.{PlanLine}
 use Rattle.planned_files.specs.Planned.{IsLineOf, PlansFiles, path_of}
+use Rattle.journal.specs.Faults.{WantsMemory}
 use Rattle.journal.specs.Beside.{KeepsAllButFree}
 use Rattle.journal.specs.Clearing.{LeavesNoMore}
 use Rattle.journal.specs.Planning.{LeadToFiles}
-use Rattle.journal.specs.Changing.{ChangeFails, ComesFirst, IsUnfinished, IsPending, IsTooCrowded, IsFilledUp, LeavesAllButFree, WantsMemory}
+use Rattle.journal.specs.Changing.{ChangeFails, ComesFirst, IsUnfinished, IsPending, IsTooCrowded, IsFilledUp, LeavesAllButFree}
 use Rattle.journal.specs.declared.fault.JournalFault.{JournalFault}
 use Rattle.journal.specs.declared.fault.JournalFault.TheVariants as fault
 use Rattle.journal.proofs.CauseLemmas.{more_since}
@@ -85,7 +86,7 @@ some_not_none o some none =
 -- ---- the change of a plan isn't made
 
 module _ (change : Change) (root : List ℕ) (globs : List (List ℕ)) (tells : Bool) (s t u : DiskState) (lines : List PlanLine)
-    (plan : IsTrue tells → IsPlanOf change (by_globs root globs) s.tree lines) (same : SameTree s t) (low : s.faults ≤ t.faults) where
+    (plan : IsTrue tells → IsPlanOf change (by_globs root globs) s.tree lines) (same : SameTree s t) (low : s.faults ≤ t.faults) (more : s.listed ≤ t.listed) where
   files : IsTrue tells → LeadToFiles t.tree (changed_paths lines)
   files told = subst (λ (x : Tree). LeadToFiles x (changed_paths lines)) (sym same.tree) (plan_leads change root globs s.tree lines (plan told))
 
@@ -120,7 +121,10 @@ module _ (change : Change) (root : List ℕ) (globs : List (List ℕ)) (tells : 
       | inr (told, (path, has, none)) ↦ absurd (some_not_none (file_of t.tree path) (files told path has) none)
     ],
   )
-  fails_on fault.Pending (kept, cause) = λ told. (subst (λ (x : Tree). IsPending x root) same.tree (cause.0 told), no_more_on (kept told))
+  fails_on fault.Pending (kept, cause) = (
+    (λ told. no_more_on (kept told)),
+    ((λ told. subst (λ (x : Tree). IsPending x root) same.tree (cause.0 told)), (λ untold. let rose = cause.1 untold in omega (arith, more, rose))),
+  )
   fails_on (fault.TempName text) (free, cause) = (
     free_on free,
     (
@@ -198,6 +202,7 @@ not_planned change root globs tells s t same_disk refused plans =
       pending = λ known stands. first;
       unwritten = λ known stands. no_more_same s t plans.same;
       complete = λ clear folder leads fresh room. subst (λ (e : Error). IsForWantOfMemory (of_sweep e)) (sym (plans.complete clear)) tt;
+      elsewhere = λ clear none. subst (λ (e : Error). IsForWantOfMemory (of_sweep e)) (sym (plans.complete clear)) tt;
       bad_glob = λ place at.
           let (still, is) = plans.bad_glob place at in (still, elim is [ inl e ↦ inl (ap as_error e) | inr e ↦ inr (ap as_error e) ]);
       lists = plans.lists;

@@ -1,6 +1,7 @@
 -- A sweep by a plan, from its beginning to its end.
 use Rattle.std.proofs.Common.{◌≡◌, ◌∙◌, ℕ, ◌≤◌, Bool, List, sym, ap, subst, inl, inr, arith}
-use Rattle.std.specs.Prelude.{◌⊎◌, Some, None, IsTrue, Result, Ok, Err, IsErrAnd, IfOk, IfErr, OnOk}
+use Rattle.std.specs.Prelude.{◌⊎◌, Some, None, IsSome, IsTrue, Result, Ok, Err, IsErrAnd, IfOk, IfErr, OnOk}
+use Rattle.sd_io.specs.Paths.{reached}
 use Rattle.sd_io.specs.Tree.{NameList, Tree, IsTree}
 use Rattle.sd_io.specs.Lists.{directory_of}
 use Rattle.sd_io.specs.Outcomes.{Outcome, Leaves, content_at}
@@ -12,11 +13,12 @@ use Rattle.many_files.specs.declared.report.Report.{Report}
 use Rattle.sd_plan.specs.declared.line.PlanLine.{PlanLine}
 use Rattle.change_phases.specs.Between.{Work}
 use Rattle.change_phases.proofs.PhaseLemmas.{between_then}
+use Rattle.journal.specs.Faults.{WantsMemory}
 use Rattle.journal.specs.Keeping.{KeepsBetween}
 use Rattle.journal.specs.Finding.{LeavesLists}
 use Rattle.journal.specs.Planning.{AreChangesOf}
 use Rattle.journal.specs.Clearing.{LeavesNoMore}
-use Rattle.journal.specs.Changing.{IsChangeBelow, IsChanged, ExchangesFiles, ChangeFails, IsPending, ComesFirst, HasRoomFor, WantsMemory}
+use Rattle.journal.specs.Changing.{IsChangeBelow, IsChanged, ExchangesFiles, ChangeFails, IsPending, ComesFirst, HasRoomFor}
 use Rattle.journal.proofs.ChangingLemmas.{looked_keeps, preparing_between}
 use Rattle.sd_core.specs.Plan.{PlansTree}
 use Rattle.sd_core.specs.Selection.{IsChosenBelow, by_globs}
@@ -122,9 +124,10 @@ module _ (change : Change) (one : IsOne change) (root : List ℕ) (globs : List 
       → (IsTrue tells → IsPending t.tree root → LeavesNoMore t u)
       → (IsTrue tells → (work : Work) → IsChangeBelow change work root (changed_paths lines) t → HasRoomFor change t.tree root (changed_paths lines) → (DiskFailed (course tells t u) → ⊥)
       → IfErr r (IsFaultOf WantsMemory))
+      → (IsTrue tells → IsSome (reached t.tree root true) → directory_of t.tree root ≡ None → (DiskFailed (course tells t u) → ⊥) → IfErr r (IsFaultOf WantsMemory))
       → LeavesLists t u → t.faults ≤ u.faults
       → SweepsJournalled change root globs same_later r (course tells s u)
-  swept r keeps changes exchanges no_root counts fails pending unwritten complete lists low = record {
+  swept r keeps changes exchanges no_root counts fails pending unwritten complete elsewhere lists low = record {
     kept = λ known folder leads fresh. kept_whole known folder leads fresh (keeps known);
     changed = λ known folder leads fresh.
         both_so r (changes known (the_work known folder leads fresh) (is_still known folder leads fresh)) (exchanges known (the_work known folder leads fresh) (is_still known folder leads fresh))
@@ -149,14 +152,19 @@ module _ (change : Change) (one : IsOne change) (root : List ℕ) (globs : List 
         });
     few = λ known. few_so r (plans.few known);
     fails = fault_so (ChangeFails change root (changed_paths lines) (course tells t u)) (JournalledFails change root globs (course tells s u)) r fails
-        (fails_on change root globs tells s t u lines plans.planned plans.same plans.never_falls);
+        (fails_on change root globs tells s t u lines plans.planned plans.same plans.never_falls plans.later);
     pending = λ known stands. fault_and ComesFirst ComesBefore r (pending known (subst (λ (tree : Tree). IsPending tree root) (sym plans.same.tree) stands)) before_so;
     unwritten = λ known stands.
-        no_more_on change root globs tells s t u lines plans.planned plans.same plans.never_falls (unwritten known (subst (λ (tree : Tree). IsPending tree root) (sym plans.same.tree) stands));
+        no_more_on change root globs tells s t u lines plans.planned plans.same plans.never_falls plans.later (unwritten known (subst (λ (tree : Tree). IsPending tree root) (sym plans.same.tree) stands));
     complete = λ clear folder leads fresh room.
         fault_so WantsMemory IsForWantOfMemory r
         (complete clear.told (the_work clear.told folder leads fresh) (is_still clear.told folder leads fresh)
         (subst (λ (tree : Tree). HasRoomFor change tree root (changed_paths lines)) (sym plans.same.tree) (room lines (plans.planned clear.told)))
+        (λ failed. clear.no_fault (risen_on s.faults t.faults u.faults plans.never_falls failed))) memory_so;
+    elsewhere = λ clear none.
+        fault_so WantsMemory IsForWantOfMemory r
+        (elsewhere clear.told (subst (λ (tree : Tree). IsSome (reached tree root true)) (sym plans.same.tree) clear.leads)
+        (ap (λ (tree : Tree). directory_of tree root) plans.same.tree ∙ none)
         (λ failed. clear.no_fault (risen_on s.faults t.faults u.faults plans.never_falls failed))) memory_so;
     bad_glob = λ place at. absurd (not_refused lines place (plans.bad_glob place at).1);
     lists = lists_then s t u plans.lists lists;

@@ -31,4 +31,5 @@ returns g c =
       tree = none.tree;
       lists = none.lists;
       faults = none.faults;
+      later = none.later;
     }

@@ -12,7 +12,7 @@ returns-in_err-top g c =
     let t = g.D.Disk.state c.resolve_root.new.disk in
     let did = c.in_err-top.ensures in
     chooses_fails c.args.root.now c.args.globs.now c.args.rules.now c.args.cap g.D.Disk.tells s t c.from_residual.result c.in_err-top.field-0.0 c.from_residual.ensures.1
-    (did.refused c.args.rules.now c.args.cap) did.tree (lists_same 10 s t did.lists) did.faults
+    (did.refused c.args.rules.now c.args.cap) did.tree (lists_same 10 s t did.lists) did.faults (let same = did.lists.listed in omega (arith, same))
 
 pub returns-in_err-paths : goal.returns-in_err-paths
 returns-in_err-paths g c =
@@ -29,6 +29,7 @@ returns-in_err-paths g c =
     (keep_later c.args.root.now c.args.rules.now c.args.cap g.D.Disk.tells s t u c.in_err-paths.field-0.0 tree before top.lists.listed
     (did.refused (λ told. resolves_on s t c.args.root.now _ c.as_str.result.now tree.tree c.as_str.ensures.same (top.top told))))
     (record { tree = more.tree ∙ tree.tree; clock = more.clock ∙ tree.clock; outcomes = more.outcomes ∙ tree.outcomes }) (lists_on 10 s t u top.lists did.lists) (omega (arith, before, after))
+    (let same = top.lists.listed in let rose = did.later in omega (arith, same, rose))
 
 pub returns : goal.returns
 returns g c =
@@ -59,4 +60,5 @@ returns g c =
       tree = record { tree = more.tree ∙ tree.tree; clock = more.clock ∙ tree.clock; outcomes = more.outcomes ∙ tree.outcomes };
       lists = lists_on 10 s t u top.lists did.lists;
       faults = omega (arith, before, after);
+      later = (let same = top.lists.listed in let rose = did.later in omega (arith, same, rose));
     }

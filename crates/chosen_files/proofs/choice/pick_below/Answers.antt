@@ -149,3 +149,21 @@ returns-clause-below_root g c =
     let first : Picking = record { root = c.args.root; top = c.args.top; globs = c.args.globs; paths = c.new-2.result } in
     let some = c.in_ok-gather.ensures.gathers.some in
     picked_below g.D.Disk.tells (g.D.Disk.state c.into_iter-begun.result.disk.now).tree c.args.root.now some.0 first c.gather.new.gatherer some.1 refl c.new-2.ensures.items
+
+pub returns-in_err-gather-clause-later : goal.returns-in_err-gather-clause-later
+returns-in_err-gather-clause-later g c =
+    let end : c.gather.new.self.disk.now ≡ c.disk-1.given.0 = search rules in
+    let s = g.D.Disk.state c.args.disk.now in
+    let begun : DiskState = g.D.Disk.state c.into_iter-begun.result.disk.now in
+    let same : begun ≡ s = ap g.D.Disk.state c.into_iter-begun.ensures.disk in
+    subst (λ (x : DiskState). s.listed ≤ x.listed) (ap g.D.Disk.state end)
+    (subst (λ (x : DiskState). x.listed ≤ (g.D.Disk.state c.gather.new.self.disk.now).listed) same c.gather.ensures.gathers.later)
+
+pub returns-clause-later : goal.returns-clause-later
+returns-clause-later g c =
+    let end : c.gather.new.self.disk.now ≡ c.disk-2-1.given.0 = search rules in
+    let s = g.D.Disk.state c.args.disk.now in
+    let begun : DiskState = g.D.Disk.state c.into_iter-begun.result.disk.now in
+    let same : begun ≡ s = ap g.D.Disk.state c.into_iter-begun.ensures.disk in
+    subst (λ (x : DiskState). s.listed ≤ x.listed) (ap g.D.Disk.state end)
+    (subst (λ (x : DiskState). x.listed ≤ (g.D.Disk.state c.gather.new.self.disk.now).listed) same c.gather.ensures.gathers.later)

@@ -3,6 +3,7 @@ use Rattle.std.specs.Prelude.{None, Err, is_some}
 use Rattle.sd_io.specs.Tree.{Tree}
 use Rattle.sd_io.specs.Lists.{IsNoDirectory}
 use Rattle.change_phases.specs.Between.{journal_name}
+use Rattle.journal.specs.Faults.{WantsMemory}
 use Rattle.journal.specs.Finding.{FindsEntry}
 use Rattle.journal.specs.Changing.{IsPending, ComesFirst}
 use Rattle.journal.specs.declared.fault.JournalFault.TheVariants as fault
@@ -12,7 +13,7 @@ use Rattle.journal.proofs.FileLemmas.{ok_then}
 use Rattle.journal.proofs.CauseLemmas.{told_on}
 use Rattle.journal.proofs.FindingLemmas.{look_refused}
 use Rattle.journal.proofs.ClearingLemmas.{no_more_same}
-use Rattle.journal.proofs.MakingLemmas.{root_fails, root_first, root_none_now, told_on_err, look_fails, no_directory_now, disk_first, looked_at, pending_if, listed_if, none_if, none_found, not_pending, making_change}
+use Rattle.journal.proofs.MakingLemmas.{root_fails, root_first, root_for_memory, root_none_now, told_on_err, look_fails, no_directory_now, disk_first, looked_at, pending_if, listed_if, none_if, none_found, not_pending, making_change}
 use Rattle.journal.proofs.RoomLemmas.{complete}
 use Rattle.journal.proofs.changing.change_files.Goals as goal
 
@@ -280,3 +281,24 @@ returns-clause-unwritten g c =
     let same = (c.in_ok-sync_dir.ensures.synced told).tree ∙ c.is_directory.ensures.tree.tree in
     let found = none_if s2.tree c.args.root.now c.in_ok-find_entry.field-0 c.is_some.result c.is_some.ensures c.if-is_some.false (c.in_ok-find_entry.ensures.found told) in
     absurd (not_pending s2.tree c.args.root.now found (subst (λ (t : Tree). IsPending t c.args.root.now) (sym same) pending))
+
+-- ---- where the root leads to a node that is no directory
+
+pub returns-in_err-is_directory-clause-elsewhere : goal.returns-in_err-is_directory-clause-elsewhere
+returns-in_err-is_directory-clause-elsewhere g c =
+    λ told leads none no_fault.
+    told_on WantsMemory c.from_residual.result _ c.from_residual.ensures.1
+    (root_for_memory g.D.Disk.tells c.args.root.now (g.D.Disk.state c.args.disk.now) (g.D.Disk.state c.is_directory.new.disk) c.in_err-is_directory.field-0.0 told leads no_fault
+    c.in_err-is_directory.ensures.fails)
+
+pub returns-in_err-sync_dir-clause-elsewhere : goal.returns-in_err-sync_dir-clause-elsewhere
+returns-in_err-sync_dir-clause-elsewhere g c = λ told leads none no_fault. absurd (root_none c.args.root.now (g.D.Disk.state c.args.disk.now) c.in_ok-is_directory.field-0 (c.in_ok-is_directory.ensures.kind told) c.if-not-branch.false none)
+
+pub returns-in_err-find_entry-clause-elsewhere : goal.returns-in_err-find_entry-clause-elsewhere
+returns-in_err-find_entry-clause-elsewhere g c = λ told leads none no_fault. absurd (root_none c.args.root.now (g.D.Disk.state c.args.disk.now) c.in_ok-is_directory.field-0 (c.in_ok-is_directory.ensures.kind told) c.if-not-branch.false none)
+
+pub returns-then-is_some-clause-elsewhere : goal.returns-then-is_some-clause-elsewhere
+returns-then-is_some-clause-elsewhere g c = λ told leads none no_fault. absurd (root_none c.args.root.now (g.D.Disk.state c.args.disk.now) c.in_ok-is_directory.field-0 (c.in_ok-is_directory.ensures.kind told) c.if-not-branch.false none)
+
+pub returns-clause-elsewhere : goal.returns-clause-elsewhere
+returns-clause-elsewhere g c = λ told leads none no_fault. absurd (root_none c.args.root.now (g.D.Disk.state c.args.disk.now) c.in_ok-is_directory.field-0 (c.in_ok-is_directory.ensures.kind told) c.if-not-branch.false none)

@@ -5,12 +5,13 @@ use Rattle.sd_io.specs.Paths.{reached}
 use Rattle.file_exchange.proofs.CauseLemmas.{risen_since}
 use Rattle.sd_io.specs.Lists.{IsNoDirectory, directory_of}
 use Rattle.sd_course.specs.Course.{course}
+use Rattle.journal.specs.Faults.{WantsMemory}
 use Rattle.journal.specs.declared.fault.JournalFault.TheVariants as fault
 use Rattle.journal.specs.Clearing.{LeavesNoMore}
 use Rattle.journal_text.specs.declared.line.Line.{Line}
 use Rattle.journal.specs.Finishing.{StagesAreGone}
 use Rattle.journal.specs.Reading.{NoneStands, JournalStands}
-use Rattle.journal.specs.Recovering.{IsMisread, RecoverFails, IsBeforeWriting, HaveFreeNames, IsWantOfMemory}
+use Rattle.journal.specs.Recovering.{IsMisread, RecoverFails, IsBeforeWriting, HaveFreeNames}
 use Rattle.journal.proofs.FindingLemmas.{look_refused}
 use Rattle.journal.proofs.ClearingLemmas.{no_more_same}
 use Rattle.journal.proofs.ReadingLemmas.{refused_as, is_directory_there, leads_somewhere, look_fails, all_same}
@@ -425,7 +426,7 @@ returns-in_err-map_err-clause-complete g c =
     let there = journal_there s2.tree s3.tree root c.as_str-path.result.now lines now.tree (g.met.D.Disk.is_tree c.sync_dir.new.self told) all (c.as_str-path.ensures.same ∙ path_is) in
     let placing = placing_on work root s s1 s2 m same holds y lines all.journal s3 now in
     refused_as _ c.from_residual-in_err-map_err.result _ c.from_residual-in_err-map_err.ensures.1
-    (told_as fault.Unfinished IsWantOfMemory c.finish.result c.map_err.result c.in_err-map_err.field-0.0 c.map_err.ensures.cases c.in_err-map_err.was
+    (told_as fault.Unfinished WantsMemory c.finish.result c.map_err.result c.in_err-map_err.field-0.0 c.map_err.ensures.cases c.in_err-map_err.was
     (λ job is. only_memory work lines s3 (g.met.D.Disk.is_tree c.read_in_root.new.disk told) (g.met.D.Disk.holds_present c.read_in_root.new.disk told) placing s4 g.D.Disk.tells told
     (subst (HaveFreeNames work) (sym trees) free) (λ rose. steady (risen_since s.faults s3.faults s4.faults (omega (arith, low, low_then, low_last)) rose))
     job (rw is at (c.finish.ensures.fails (λ _. (all.journal.folder, there))))))

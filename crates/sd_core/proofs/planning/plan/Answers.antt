@@ -19,6 +19,6 @@ returns g c =
     subst (λ answer. PlansTree change selection sweep_cap (c.plan_files.new.disk ≡ c.args.disk.now) answer (course g.D.Disk.tells s0 s2))
     (sym (told_is c.plan_files.result c.map_err.result c.map_err.ensures.cases))
     (planned change selection (globs_select c.args.root.now c.args.globs.now) s0 s1 s2 e.tree c.in_ok-paths.paths.items sweep_cap g.D.Disk.tells
-    e.never_falls (λ told. g.met.D.Disk.is_tree c.args.disk.now told) e.selected e.few
+    e.never_falls e.later (λ told. g.met.D.Disk.is_tree c.args.disk.now told) e.selected e.few
     (c.plan_files.new.disk ≡ c.args.disk.now) (λ place at. none_first c.args.globs.now place e.valid at)
     c.plan_files.result (search rules) (search rules) c.plan_files.ensures)

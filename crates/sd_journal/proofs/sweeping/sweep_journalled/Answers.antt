@@ -16,7 +16,7 @@ returns-in-Ok g c =
     let u = g.D.Disk.state c.change_planned.new.disk in
     let e = c.change_planned.ensures in
     swept change one c.args.root.now c.args.globs.now g.D.Disk.tells s t u (c.plan.new.disk ≡ c.args.disk.now) (c.change_planned.new.disk ≡ c.args.disk.now) c.in-Ok.planned
-    (λ told. g.met.D.Disk.is_tree c.args.disk.now told) c.in-Ok.ensures c.change_planned.result e.kept e.changed e.tree e.no_directory e.counted e.fails e.pending e.unwritten e.complete e.lists e.never_falls
+    (λ told. g.met.D.Disk.is_tree c.args.disk.now told) c.in-Ok.ensures c.change_planned.result e.kept e.changed e.tree e.no_directory e.counted e.fails e.pending e.unwritten e.complete e.elsewhere e.lists e.never_falls
 
 pub returns-in-Err : goal.returns-in-Err
 returns-in-Err g c =

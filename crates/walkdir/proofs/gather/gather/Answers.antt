@@ -32,4 +32,5 @@ returns-clause-gathers g c =
       closed = within_end s t u before between from.keeps.within closed.within;
       tree = record { tree = closed.tree.tree ∙ from.keeps.tree.tree; clock = closed.tree.clock ∙ from.keeps.tree.clock; outcomes = closed.tree.outcomes ∙ from.keeps.tree.outcomes };
       faults = (let le = from.keeps.faults in let same = closed.faults in omega (arith, le, same));
+      later = (let le = from.keeps.later in let same = closed.listed in omega (arith, le, same));
     }
