@@ -2,8 +2,6 @@
 
 ghost use Rattle.std.specs.Prelude.{◌≡◌, ◌≢◌};
 ghost use Rattle.sd_course.specs.Course.{course};
-ghost use Rattle.sd_words.specs.Refusal.{refusal_text};
-ghost use Rattle.sd_core.specs.Printing.{TellsText};
 ghost use Rattle.sd_journal.specs.Printing.{TellsWhy};
 ghost use Rattle.sd_journal.specs.Run as form;
 ghost use Rattle.sd_journal.specs.Run.{CarriesOut, RunsJournal};
@@ -17,6 +15,27 @@ use sd_base::Words;
 use sd_io::{Disk, Failed, Sink};
 use sd_words::{Options, OptionsFault};
 use std::alloc::Global;
+
+/// What is shown where the words demand help.
+const HELP: &str = "Finds and replaces text in the files of a tree: in all that change, or in none.
+
+Usage: sd_journal --root <DIR> [OPTIONS] <FIND> <REPLACE_WITH> [GLOB]...
+       sd_journal --recover <DIR>
+
+Arguments:
+  <FIND>          What to find
+  <REPLACE_WITH>  What takes its place
+  [GLOB]...       Which files below DIR are changed
+
+Options:
+      --root <DIR>                Change the files below DIR that fit a glob
+      --recover <DIR>             Go on with a run below DIR that was cut off
+  -F, --fixed-strings             Take FIND and REPLACE_WITH as they stand
+  -s, --string-mode               The same as --fixed-strings
+  -l, --line-mode                 Search each line by itself
+  -n, --max-replacements <LIMIT>  Replace at most LIMIT matches, 0 for all
+  -f, --flags <FLAGS>             Flags of the search
+  -h, --help                      Print help";
 
 /// Runs the program on the words after its name: `--recover` and a root alone, or those of a command on a tree of `sd`. `Usage` comes exactly where
 /// they are neither. Whatever goes wrong is printed to `err`, after `error: `, and a fault there is passed over.
@@ -38,7 +57,7 @@ pub fn run_journal<D: Disk, O: Sink, E: Sink>(
         return end_with(err, why);
     }
     match Options::read(alloc, words) {
-        Err(fault) => refuse(err, &fault),
+        Err(fault) => refuse(err, words, &fault),
         Ok(options) => {
             let why = carry_out(alloc, &options, disk, out);
             drop(options);
@@ -63,13 +82,22 @@ fn carry_out<D: Disk, O: Sink>(
     }
 }
 
-/// Prints why the words ask for nothing. A fault there is passed over.
-fn refuse<E: Sink>(err: &mut E, fault: &OptionsFault) -> JournalEnded
+/// Whether the words demand help, and no more.
+fn demand_help(words: &Words) -> bool {
+    words.len() == 1 && (words.get(0) == "-h" || words.get(0) == "--help")
+}
+
+/// Prints why the words ask for nothing, or help, where they demand it. A fault there is passed over.
+fn refuse<E: Sink>(err: &mut E, words: &Words, fault: &OptionsFault) -> JournalEnded
     ensures why { result.why ≡ form.of_words fault.now }
     ensures status { result.status ≡ form.status_of result.why }
-    ensures told { TellsText (refusal_text fault.now) (course E.tells (E.state err.old) (E.state err.new)) }
+    ensures told { TellsWhy result.why (course E.tells (E.state err.old) (E.state err.new)) }
 {
-    let _printed = print_text(err, fault.text());
+    let text = match fault {
+        OptionsFault::Usage(_) if demand_help(words) => HELP,
+        fault => fault.text(),
+    };
+    let _printed = print_text(err, text);
     let why = match fault {
         OptionsFault::Usage(_) => JournalWhy::Usage,
         OptionsFault::NoMemory => JournalWhy::Journal(JournalError::NoMemory),

@@ -14,21 +14,15 @@ use Rattle.sd_journal.specs.Run.{of_words}
 use Rattle.sd_journal.specs.declared.ended.JournalWhy.{JournalWhy}
 use Rattle.sd_journal.specs.declared.ended.JournalWhy.TheVariants as why
 
--- a text by other words for it
-pub text_told : (err : Course SinkState) (text other : List ℕ) (result : Result (Unit {0}) Failed) → text ≡ other → PrintsText text result err → TellsText other err
-text_told err text other result is printed = (result, subst (λ (t : List ℕ). PrintsText t result err) is printed)
-
 module _ (err : Course SinkState) where
   -- the text of an end is printed
   pub tells : (ended given : JournalWhy) (text : List ℕ) (result : Result (Unit {0}) Failed) → ended ≡ given → IsErrorText given text → PrintsText text result err → TellsWhy ended err
   tells ended given text result is fixed printed = (text, subst (λ (w : JournalWhy). IsErrorText w text) (sym is) fixed, (result, printed))
 
-  refusal_told : (fault : OptionsFault) → TellsText (refusal_text fault) err → TellsWhy (of_words fault) err
-  refusal_told (words_fault.Usage text) told = (refusal_text (words_fault.Usage text), tt, told)
-  refusal_told words_fault.NoMemory told = (codes "out of memory", tt, told)
-
-  pub words_told : (fault : OptionsFault) → (ended : JournalWhy) → ended ≡ of_words fault → TellsText (refusal_text fault) err → TellsWhy ended err
-  words_told fault ended is told = subst (λ (w : JournalWhy). TellsWhy w err) (sym is) (refusal_told fault told)
+  -- a refusal of words has no fixed text
+  pub words_told : (fault : OptionsFault) → (ended : JournalWhy) (text : List ℕ) (result : Result (Unit {0}) Failed) → ended ≡ of_words fault → PrintsText text result err → TellsWhy ended err
+  words_told (words_fault.Usage shown) ended text result is printed = tells ended (of_words (words_fault.Usage shown)) text result is tt printed
+  words_told words_fault.NoMemory ended text result is printed = tells ended (of_words words_fault.NoMemory) text result is tt printed
 
   -- the end is what a command came to
   pub end_told : (came ended : JournalWhy) → ended ≡ came → (came ≢ why.Done → TellsWhy came err) → ended ≢ why.Done → TellsWhy ended err

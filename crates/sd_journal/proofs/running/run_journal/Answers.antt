@@ -1,5 +1,5 @@
 use Rattle.sd_journal.proofs.running.RunLemmas.{carried, not_asked}
-use Rattle.sd_journal.proofs.running.TellLemmas.{words_told, end_told}
+use Rattle.sd_journal.proofs.running.TellLemmas.{end_told}
 use Rattle.sd_journal.proofs.running.run_journal.Goals as goal
 
 pub returns-in-Ok-clause-runs : goal.returns-in-Ok-clause-runs
@@ -8,7 +8,7 @@ returns-in-Ok-clause-runs g c =
     c.carry_out-why.ensures
 
 pub returns-in-Err-clause-err_told : goal.returns-in-Err-clause-err_told
-returns-in-Err-clause-err_told g c = λ other. words_told _ c.in-Err.fault _ c.refuse.ensures.why c.refuse.ensures.told
+returns-in-Err-clause-err_told g c = λ other. c.refuse.ensures.told
 
 pub returns-in-Ok-clause-err_told : goal.returns-in-Ok-clause-err_told
 returns-in-Ok-clause-err_told g c = end_told _ c.carry_out-why.result _ c.end_with-in-Ok.ensures.why c.end_with-in-Ok.ensures.told

@@ -38,3 +38,9 @@ returns-in-Err-clause-pending g c = λ told stands. (c.in-Err.fault, c.of_change
 pub returns-in-Err-clause-complete : goal.returns-in-Err-clause-complete
 returns-in-Err-clause-complete g c =
     λ told work below room sound. (c.in-Err.fault, c.of_change.ensures, (rw (c.deref.ensures.value, c.in_ok-paths.ensures, c.lines.ensures.lines) at c.in-Err.ensures.complete) told work below room sound)
+
+pub returns-in_err-paths-clause-elsewhere : goal.returns-in_err-paths-clause-elsewhere
+returns-in_err-paths-clause-elsewhere g c = λ told leads none sound. told_on _ c.from_residual.result _ c.from_residual.ensures.1 (fault.NoMemory, refl, tt)
+
+pub returns-in-Err-clause-elsewhere : goal.returns-in-Err-clause-elsewhere
+returns-in-Err-clause-elsewhere g c = λ told leads none sound. (c.in-Err.fault, c.of_change.ensures, c.in-Err.ensures.elsewhere told leads none sound)
