@@ -129,8 +129,12 @@ pub fn create_temporary<D: Disk>(
     Ok(None)
 }
 
-/// Writes the temporary file, puts it on the medium and then in the file's place.
-fn fill_and_rename<D: Disk>(
+/// Writes bytes to a temporary file, puts it on the medium, and renames it onto the path of a file in its folder: the middle of
+/// an exchange, after [`create_temporary`] and before [`settle`].
+///
+/// Refuses `Disk` before the renaming, where the file at the path is as it was, and `Move` where that is refused, where it is
+/// old or new: with a counted fault each, `Disk` for want of memory too. The temporary file may be left.
+pub fn fill_and_rename<D: Disk>(
     disk: &mut D,
     temporary: &str,
     path: &str,

@@ -6,7 +6,7 @@ mod fault;
 mod laws;
 mod reserved;
 
-pub use exchanging::{create_temporary, exchange, put, settle};
+pub use exchanging::{create_temporary, exchange, fill_and_rename, put, settle};
 pub use fault::ExchangeFault;
 pub use laws::{
     an_exchange_leaves_old_or_new, an_exchanged_file_is_on_the_medium, exchanges_compose,
