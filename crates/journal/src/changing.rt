@@ -37,8 +37,7 @@ use sd_io::Disk;
 use std::alloc::Global;
 
 /// Gives each file that the paths lead to its new bytes, so that whatever a crash at any moment leaves, `recover` of the same root makes all of
-/// them old, or all of them new. A file whose bytes don't change is left alone; where none changes, or the root leads to a node that is no
-/// directory, nothing is written.
+/// them old, or all of them new. Where the root leads to a node that is no directory, nothing is written.
 ///
 /// Refuses `RootMissing` where the root leads to no node, and `Pending` where something stands in the journal's place; nothing was written then. A
 /// counted fault and want of memory may come first.
