@@ -15,3 +15,4 @@ pub mod Sides
 pub mod Sound
 pub mod Spots
 pub mod Tree
+pub mod Shared

@@ -4,7 +4,8 @@ ghost use Rattle.std.specs.Prelude.{◌≡◌, ◌↔◌, ◌⊎◌, ◌<◌, �
 ghost use Rattle.hir_tree.specs.Ranges.{AreByteRanges, Holds, IsWithin};
 ghost use Rattle.hir_tree.specs.Runs.{in_set};
 
-use crate::ranges::{holds_number, unite};
+use crate::ranges::holds_number;
+use crate::shared::SharedRanges;
 use sd_base::NoMemory;
 use std::alloc::Global;
 use std::marker::Model;
@@ -12,7 +13,7 @@ use std::marker::Model;
 /// A set of bytes: sorted ranges that neither meet nor touch. A range is given by its first and its last byte.
 #[derive(Drop)]
 pub struct ByteRanges {
-    ranges: Vec<(u32, u32)>,
+    ranges: SharedRanges,
 }
 
 impl Model for ByteRanges {
@@ -21,9 +22,9 @@ impl Model for ByteRanges {
 
     ghost Value = { List (ℕ × ℕ) };
 
-    ghost view = { λ b. b.ranges.items };
+    ghost view = { λ b. b.ranges };
 
-    ghost invariant = { λ b. AreByteRanges b.ranges.items };
+    ghost invariant = { λ b. AreByteRanges b.ranges };
 }
 
 impl ByteRanges {
@@ -32,7 +33,7 @@ impl ByteRanges {
         ensures { result ≡ [] }
     {
         ByteRanges {
-            ranges: Vec::new(alloc),
+            ranges: SharedRanges::new(alloc),
         }
     }
 
@@ -40,16 +41,15 @@ impl ByteRanges {
     pub fn of_byte(alloc: Global, byte: u8) -> Result<ByteRanges, NoMemory>
         ensures { IfOk result (λ set. set ≡ (byte, byte) ∷ []) }
     {
-        let mut ranges = Vec::new(alloc);
-        ranges.push((u32::from(byte), u32::from(byte)))?;
+        let ranges = SharedRanges::of_one(alloc, (u32::from(byte), u32::from(byte)))?;
         Ok(ByteRanges { ranges })
     }
 
-    /// A copy of the set. Refuses for want of memory alone.
+    /// A copy of the set, which shares its ranges with copies of it. Refuses for want of memory alone.
     pub fn try_clone(&self, alloc: Global) -> Result<ByteRanges, NoMemory>
         ensures { IfOk result (λ copy. copy ≡ self.now) }
     {
-        let ranges = Vec::from_slice(alloc, self.ranges.as_slice())?;
+        let ranges = self.ranges.try_clone(alloc)?;
         Ok(ByteRanges { ranges })
     }
 
@@ -60,7 +60,7 @@ impl ByteRanges {
         ensures united { OnOk result ((b : ℕ) → Holds self.new b ↔ (Holds self.old b ⊎ IsWithin (start, end) b)) }
         ensures refused { OnErr result (self.new ≡ self.old) }
     {
-        unite(&mut self.ranges, u32::from(start), u32::from(end))
+        self.ranges.unite(u32::from(start), u32::from(end))
     }
 
     /// How many ranges there are.
@@ -68,7 +68,7 @@ impl ByteRanges {
         ensures len { result ≡ length self.now }
         ensures apart { AreByteRanges self.now }
     {
-        self.ranges.len()
+        self.ranges.as_slice().len()
     }
 
     /// The first and the last byte of the range at a place, counted from 0.
@@ -76,7 +76,7 @@ impl ByteRanges {
         requires { i < length self.now }
         ensures { slice_get self.now i ≡ Some result }
     {
-        let (start, end) = self.ranges[i];
+        let (start, end) = self.ranges.get(i);
         (start as u8, end as u8)
     }
 

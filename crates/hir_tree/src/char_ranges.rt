@@ -5,7 +5,8 @@ ghost use Rattle.std.specs.Char.{IsScalar};
 ghost use Rattle.hir_tree.specs.Ranges.{AreCharRanges, Holds, IsWithin, nth_char};
 ghost use Rattle.hir_tree.specs.Runs.{in_set};
 
-use crate::ranges::{holds_number, unite};
+use crate::ranges::holds_number;
+use crate::shared::SharedRanges;
 use sd_base::NoMemory;
 use std::alloc::Global;
 use std::marker::Model;
@@ -50,7 +51,7 @@ fn char_at(number: u32) -> char
 #[derive(Drop)]
 pub struct CharRanges {
     // Of the numbers of the characters in their order.
-    ranges: Vec<(u32, u32)>,
+    ranges: SharedRanges,
 }
 
 impl Model for CharRanges {
@@ -59,9 +60,9 @@ impl Model for CharRanges {
 
     ghost Value = { List (ℕ × ℕ) };
 
-    ghost view = { λ c. map chars_between c.ranges.items };
+    ghost view = { λ c. map chars_between c.ranges };
 
-    ghost invariant = { λ c. AreApart next_byte c.ranges.items × All (λ range. range.1 < 0x10F800) c.ranges.items };
+    ghost invariant = { λ c. AreApart next_byte c.ranges × All (λ range. range.1 < 0x10F800) c.ranges };
 }
 
 impl CharRanges {
@@ -70,15 +71,15 @@ impl CharRanges {
         ensures { result ≡ [] }
     {
         CharRanges {
-            ranges: Vec::new(alloc),
+            ranges: SharedRanges::new(alloc),
         }
     }
 
-    /// A copy of the set. Refuses for want of memory alone.
+    /// A copy of the set, which shares its ranges with copies of it. Refuses for want of memory alone.
     pub fn try_clone(&self, alloc: Global) -> Result<CharRanges, NoMemory>
         ensures { IfOk result (λ copy. copy ≡ self.now) }
     {
-        let ranges = Vec::from_slice(alloc, self.ranges.as_slice())?;
+        let ranges = self.ranges.try_clone(alloc)?;
         Ok(CharRanges { ranges })
     }
 
@@ -89,7 +90,7 @@ impl CharRanges {
         ensures united { OnOk result ((c : ℕ) → IsScalar c → Holds self.new c ↔ (Holds self.old c ⊎ IsWithin (start, end) c)) }
         ensures refused { OnErr result (self.new ≡ self.old) }
     {
-        unite(&mut self.ranges, number_of(start), number_of(end))
+        self.ranges.unite(number_of(start), number_of(end))
     }
 
     /// How many ranges there are.
@@ -97,7 +98,7 @@ impl CharRanges {
         ensures len { result ≡ length self.now }
         ensures apart { AreCharRanges self.now }
     {
-        self.ranges.len()
+        self.ranges.as_slice().len()
     }
 
     /// The first and the last character of the range at a place, counted from 0.
@@ -105,7 +106,7 @@ impl CharRanges {
         requires { i < length self.now }
         ensures { slice_get self.now i ≡ Some result }
     {
-        let (start, end) = self.ranges[i];
+        let (start, end) = self.ranges.get(i);
         (char_at(start), char_at(end))
     }
 

@@ -23,6 +23,7 @@ mod range_laws;
 mod ranges;
 mod runs_examples;
 mod runs_laws;
+mod shared;
 mod side;
 mod tree_laws;
 

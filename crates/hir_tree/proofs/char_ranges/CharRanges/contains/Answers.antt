@@ -7,5 +7,5 @@ pub returns : goal.returns
 returns c =
     c.holds_number.ensures
     ∙ ap (λ ranges. in_set ranges c.number_of.result) c.as_slice.ensures.value
-    ∙ sym (in_set-chars c.self.inside.ranges.items c.number_of.result)
+    ∙ sym (in_set-chars c.self.inside.ranges c.number_of.result)
     ∙ ap₂ in_set c.self.view_is c.number_of.ensures.number

@@ -4,4 +4,4 @@ use Rattle.hir_tree.proofs.char_ranges.CharRangesLemmas.{chars_are_ranges}
 use Rattle.hir_tree.proofs.char_ranges.CharRanges.len.Goals as goal
 
 pub returns-clause-apart : goal.returns-clause-apart
-returns-clause-apart c = subst AreCharRanges c.self.view_is (chars_are_ranges c.self.inside.ranges.items c.self.invariant.0 c.self.invariant.1)
+returns-clause-apart c = subst AreCharRanges c.self.view_is (chars_are_ranges c.self.inside.ranges c.self.invariant.0 c.self.invariant.1)
