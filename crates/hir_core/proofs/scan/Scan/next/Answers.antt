@@ -32,21 +32,21 @@ loop-so_far-preserved c =
     let next : ℕ = c.joined-next.result in
     let read : ℕ = c.index.result.now in
     let byte : slice_index text place < 256 = omega (arith, c.type_inv.text place) in
-    let narrow : (slice_index text place < 128) ⊎ (bit_and tried filter.wide ≡ 0) =
+    let narrow : (slice_index text place < 128) ⊎ (bit_and live filter.wide ≡ 0) =
     elim c.else-byte-ge128.branch [
       | else-byte-ge128-via-then-byte-ge128+else-live-self-ne0 w ↦ inr w.if-live-self-ne0.false
       | else-byte-ge128-via-else-byte-ge128 w ↦ inl w.if-byte-ge128.false
     ] in
     let follows =
-    CoversAfter-rows filter (bit_and tried read) next
-    (subst (λ (rows : List ℕ). (i : ℕ) → i < 64 → HasBit (bit_and tried read) i → IsPart (slice_index rows (row_place (bit_and tried read) i)) next)
+    CoversAfter-rows filter (bit_and live read) next
+    (subst (λ (rows : List ℕ). (i : ℕ) → i < 64 → HasBit (bit_and live read) i → IsPart (slice_index rows (row_place (bit_and live read) i)) next)
     c.as_slice.ensures.value c.joined-next.ensures) in
     let steps =
-    Steps-read text filter place state tried next read c.loop-so_far-test.true (omega arith) byte c.live-live.ensures.kept c.live-live.ensures.begun narrow
+    Steps-read text filter place state live next read c.loop-so_far-test.true (omega arith) byte c.live-live.ensures.kept c.live-live.ensures.begun narrow
     c.index.ensures follows in
     c.run_shifts-so_far-in-loop-so_far.ensures.looked c.args.at
     (c.skipped-in-loop-so_far.ensures.looked c.args.at
-    (Looked-next text filter c.args.at from place state tried next c.loop-so_far.so_far.ahead (c.if-may_be_empty.ensures refl) (c.if-may_end.ensures refl)
+    (Looked-next text filter c.args.at from place state live next c.loop-so_far.so_far.ahead (c.if-may_be_empty.ensures refl) (c.if-may_end.ensures refl)
     c.loop-so_far.invariant steps))
 
 pub returns-clause-none : goal.returns-clause-none

@@ -20,14 +20,14 @@ loop-so_far-preserved c =
     let takes : ℕ = slice_index filter.takes.items byte in
     let small_byte : byte < 256 = omega (arith, c.type_inv.text place) in
     let shift : IsShift byte takes filter.moves filter.start filter.wide k = filter.shift byte k (omega arith) c.index-shift.ensures in
-    let steps : Steps text filter place state tried next = record {
+    let steps : Steps text filter place state live next = record {
       more = c.loop-so_far-test.true;
       byte = small_byte;
       kept = λ i has. HasBit-or_left state filter.start i has;
       begun = inl (λ i has. HasBit-or_right state filter.start i has);
       narrow = narrow_shift byte takes filter.moves filter.start filter.wide k shift state c.if-so_far-self-ne0.false;
       follows =
-          CoversAfter-shift filter (bit_and tried takes) next
+          CoversAfter-shift filter (bit_and live takes) next
           (even_shift byte takes filter.moves filter.start filter.wide k shift state c.if-so_far-self-ne0.false)
           (IsPart-after byte takes filter.moves filter.start filter.wide k shift state c.if-so_far-self-ne0.false next c.after.ensures.on c.after.ensures.stay
           c.after.ensures.begun);
@@ -36,7 +36,7 @@ loop-so_far-preserved c =
     record {
       looked = λ at h.
           c.settled-so_far-in-loop-so_far.ensures.looked text filter at
-          (Looked-shift text filter at from place state tried next c.loop-so_far.so_far.ahead c.if-self-ge-SURE.false small (c.loop-so_far.invariant.looked at h) steps);
+          (Looked-shift text filter at from place state live next c.loop-so_far.so_far.ahead c.if-self-ge-SURE.false small (c.loop-so_far.invariant.looked at h) steps);
       after = omega (arith, c.loop-so_far.invariant.after, c.settled-so_far-in-loop-so_far.ensures.place);
       within = omega (arith, c.settled-so_far-in-loop-so_far.ensures.place);
     }
