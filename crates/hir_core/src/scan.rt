@@ -1,9 +1,10 @@
 //! A filter that finds quickly where a match of a program may be: shift-and over the spots that take bytes, behind a rare-byte
 //! prefilter.
 
-ghost use Rattle.std.specs.Prelude.{◌≡◌, ◌<◌, ◌≤◌, ◌+◌, ◌⊎◌, ℕ, false, true, List, length, vec_len, slice_index, bit_and, IfOk, IfSome, IfNone};
+ghost use Rattle.std.specs.Prelude.{◌≡◌, ◌<◌, ◌≤◌, ◌+◌, ◌⊎◌, ℕ, false, true, List, length, vec_len, slice_index, bit_and, Some, IfOk, IfSome, IfNone};
 ghost use Rattle.hir_core.specs.Masks.{AreShifts, HasBit-prop};
 ghost use Rattle.std.proofs.Props.{props};
+ghost use Rattle.hir_tree.specs.declared.look.Look.TheVariants as look;
 
 mod asked;
 mod bits;
@@ -15,6 +16,7 @@ mod takes;
 
 use crate::spot::Spot;
 use crate::{Look, holds};
+use asked::line_start;
 use bits::{Moves, SURE, joined, moves_in};
 use prefilter::Prefilter;
 use required::Required;
@@ -103,7 +105,7 @@ pub struct Candidate {
 
 impl Scan {
     ghost use Rattle.hir_core.specs.declared.spot.Spot.{Spot};
-    ghost use Rattle.hir_core.specs.Masks.{IsDead, IsPart, NoRun};
+    ghost use Rattle.hir_core.specs.Masks.{AreDead, IsDead, IsPart, NoRun};
     ghost use Rattle.hir_core.specs.Scan.{IsFilterOf, Looked, NoEnd, NoneBegins};
 
     /// The filter of a program; None where more than 62 spots take bytes. Refuses for want of memory alone.
@@ -192,6 +194,21 @@ impl Scan {
         self.may_take(self.start, byte)
     }
 
+    /// Whether one of these spots may go on at a place, or a match may end there.
+    fn is_open(&self, mask: u64, text: &[u8], place: usize) -> bool
+        requires { place ≤ length text.now }
+        ensures { result ≡ false → (spots : List Spot) → IsFilterOf spots self.now
+            → AreDead text.now spots self.now.of.items self.now.last_look place mask }
+    {
+        if self.may_end(mask, text, place) {
+            return true;
+        }
+        if place >= text.len() {
+            return false;
+        }
+        self.may_take(mask, text[place])
+    }
+
     /// Whether a thread that is at a spot and a place may come to a match.
     pub fn may_go_on(&self, spot: usize, text: &[u8], place: usize) -> bool
         requires { place ≤ length text.now }
@@ -200,14 +217,36 @@ impl Scan {
         if spot >= self.firsts.len() {
             return true;
         }
-        let mask = self.firsts[spot];
-        if self.may_end(mask, text, place) {
-            return true;
+        self.is_open(self.firsts[spot], text, place)
+    }
+
+    /// Whether a run may begin at a place, by what stands there.
+    fn may_start(&self, text: &[u8], place: usize) -> bool
+        requires { place ≤ length text.now }
+        ensures { result ≡ false → NoneBegins text.now self.now place (place + 1) }
+    {
+        self.is_open(self.start, text, place)
+    }
+
+    /// The next start of a line, from a place on, where a run may begin.
+    fn next_line(&self, text: &[u8], at: usize) -> Option<Candidate>
+        requires at { at ≤ length text.now }
+        requires look { self.now.first_look ≡ Some look.StartLF }
+        ensures none { IfNone result (NoneBegins text.now self.now at (length text.now + 1)) }
+        ensures some { IfSome result (λ c. NoneBegins text.now self.now at c.from) }
+        ensures order { IfSome result (λ c. (at ≤ c.from) × (c.from ≤ c.until) × (c.until ≤ length text.now)) }
+    {
+        let mut place = line_start(text, at);
+        while place <= text.len() && !self.may_start(text, place) {
+            place = line_start(text, place + 1);
         }
-        if place >= text.len() {
-            return false;
+        if place > text.len() {
+            return None;
         }
-        self.may_take(mask, text[place])
+        Some(Candidate {
+            from: place,
+            until: place,
+        })
     }
 
     /// Passes over places from one on up to the next one where a match may pass a required spot, and goes back from there as long as spots
@@ -310,11 +349,11 @@ impl Scan {
         so_far
     }
 
-    /// The next places of a text, from one on, that may have a match. None where no place from there on has one.
-    pub fn next(&self, text: &[u8], at: usize) -> Option<Candidate>
+    /// The next places of a text, from one on, that may have a match, by shifts.
+    fn next_by_shifts(&self, text: &[u8], at: usize) -> Option<Candidate>
         requires { at ≤ length text.now }
-        ensures none { IfNone result ((spots : List Spot) → IsFilterOf spots self.now → NoRun text.now spots at (length text.now + 1)) }
-        ensures some { IfSome result (λ c. (spots : List Spot) → IsFilterOf spots self.now → NoRun text.now spots at c.from) }
+        ensures none { IfNone result (NoneBegins text.now self.now at (length text.now + 1)) }
+        ensures some { IfSome result (λ c. NoneBegins text.now self.now at c.from) }
         ensures order { IfSome result (λ c. (at ≤ c.from) × (c.from ≤ c.until) × (c.until ≤ length text.now)) }
     {
         let begin = FilterState {
@@ -359,5 +398,18 @@ impl Scan {
             });
         }
         None
+    }
+
+    /// The next places of a text, from one on, that may have a match. None where no place from there on has one.
+    pub fn next(&self, text: &[u8], at: usize) -> Option<Candidate>
+        requires { at ≤ length text.now }
+        ensures none { IfNone result ((spots : List Spot) → IsFilterOf spots self.now → NoRun text.now spots at (length text.now + 1)) }
+        ensures some { IfSome result (λ c. (spots : List Spot) → IsFilterOf spots self.now → NoRun text.now spots at c.from) }
+        ensures order { IfSome result (λ c. (at ≤ c.from) × (c.from ≤ c.until) × (c.until ≤ length text.now)) }
+    {
+        match self.first_look {
+            Some(Look::StartLF) if self.prefilter.is_none() => self.next_line(text, at),
+            _ => self.next_by_shifts(text, at),
+        }
     }
 }

@@ -81,8 +81,8 @@ impl Prefilter {
     }
 }
 
-/// The prefilter by required spots, if there are any, where they take few bytes of a text, or a run begins by a look: else to stop
-/// and start again takes longer than to look at each byte.
+/// The prefilter by required spots, if there are any, where they take few bytes of a text, or a run begins by a look that is asked
+/// byte by byte: else to stop and start again takes longer than to look at each byte, or at each start of a line.
 pub fn worth_while(
     required: Option<Required>,
     takes: &[u64],
@@ -93,14 +93,15 @@ pub fn worth_while(
     ensures { IfSome result (λ prefilter. (required ≡ Some prefilter.required) × TellsStops takes.now wide prefilter.required prefilter.stops) }
 {
     let required = required?;
-    if first_look.is_none() && required.share(takes) >= FREQUENT {
+    let is_quick = matches!(first_look, None | Some(Look::StartLF));
+    if is_quick && required.share(takes) >= FREQUENT {
         return None;
     }
     Some(Prefilter::new(required, takes, wide))
 }
 
 /// The next place from one on where the byte stands, or the end of the text.
-fn next_of_one(byte: u8, text: &[u8], at: usize) -> usize
+pub fn next_of_one(byte: u8, text: &[u8], at: usize) -> usize
     requires { at ≤ length text.now }
     ensures passed { (q : ℕ) → at ≤ q → q < result → stops_at (stops.One byte) (slice_index text.now q) ≡ false }
     ensures after { at ≤ result }
