@@ -227,15 +227,18 @@ module _ (text : List ℕ) (s : Scan) where
       elim (cases_lt q mid) [ inl left ↦ before spots filter q low left | inr right ↦ after spots filter q right high ]
 
   -- no run of a program begins where none does
+  pub NoRun-begins : (from until : ℕ) → NoneBegins text s from until → (spots : List Spot) → IsFilterOf spots s → NoRun text spots from until
+  NoRun-begins from until none spots filter = NoRun-dead text spots from until (none spots filter)
+
   pub IfNone-runs : (at : ℕ) (found : Option Candidate) → IfNone found (NoneBegins text s at (length text + 1))
       → IfNone found ((spots : List Spot) → IsFilterOf spots s → NoRun text spots at (length text + 1))
-  IfNone-runs at None none = λ spots filter. NoRun-dead text spots at (length text + 1) (none spots filter)
+  IfNone-runs at None none = NoRun-begins at (length text + 1) none
   IfNone-runs at (Some c) none = none
 
   pub IfSome-runs : (at : ℕ) (found : Option Candidate) → IfSome found (λ c. NoneBegins text s at c.from)
       → IfSome found (λ c. (spots : List Spot) → IsFilterOf spots s → NoRun text spots at c.from)
   IfSome-runs at None none = none
-  IfSome-runs at (Some c) none = λ spots filter. NoRun-dead text spots at c.from (none spots filter)
+  IfSome-runs at (Some c) none = NoRun-begins at c.from none
 
   -- no run begins where lines don't start, if each asks for that
   pub NoneBegins-unasked : s.first_look ≡ Some look.StartLF → (from until : ℕ)
@@ -243,6 +246,11 @@ module _ (text : List ℕ) (s : Scan) where
   NoneBegins-unasked asked from until fails spots filter q low high =
       let first : IsAskedFirst spots (Some look.StartLF) = subst (IsAskedFirst spots) asked filter.first in
       first text q (fails q low high)
+
+-- more places at which no run begins
+pub NoRun-more : (text : List ℕ) (spots : List Spot) (from mid until : ℕ) → NoRun text spots from mid → NoRun text spots mid until → NoRun text spots from until
+NoRun-more text spots from mid until before after groups q low high =
+    elim (cases_lt q mid) [ inl left ↦ before groups q low left | inr right ↦ after groups q right high ]
 
 -- how far the filter has looked, and where the prefilter is worth while again
 abbrev pub so_far : ℕ → ℕ → ℕ → ℕ → FilterState

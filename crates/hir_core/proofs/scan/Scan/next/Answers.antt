@@ -12,3 +12,9 @@ returns-in_default-clause-none c = IfNone-runs c.args.text.now c.args.self.now c
 
 pub returns-in_default-clause-some : goal.returns-in_default-clause-some
 returns-in_default-clause-some c = IfSome-runs c.args.text.now c.args.self.now c.args.at c.next_by_shifts.result c.next_by_shifts.ensures.some
+
+pub returns-then-self-eq0-clause-none : goal.returns-then-self-eq0-clause-none
+returns-then-self-eq0-clause-none c = IfNone-runs c.args.text.now c.args.self.now c.args.at c.next_stop.result c.next_stop.ensures.none
+
+pub returns-then-self-eq0-clause-some : goal.returns-then-self-eq0-clause-some
+returns-then-self-eq0-clause-some c = IfSome-runs c.args.text.now c.args.self.now c.args.at c.next_stop.result c.next_stop.ensures.some
