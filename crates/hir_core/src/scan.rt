@@ -1,9 +1,10 @@
 //! A filter that finds quickly where a match of a program may be: shift-and over the spots that take bytes, behind a rare-byte
 //! prefilter.
 
-ghost use Rattle.std.specs.Prelude.{◌≡◌, ◌<◌, ◌≤◌, ◌+◌, ◌⊎◌, ℕ, false, true, List, length, vec_len, slice_index, bit_and, IfOk, IfSome, IfNone};
+ghost use Rattle.std.specs.Prelude.{◌≡◌, ◌<◌, ◌≤◌, ◌+◌, ◌⊎◌, ℕ, false, true, List, length, vec_len, slice_index, bit_and, Some, IfOk, IfSome, IfNone};
 ghost use Rattle.hir_core.specs.Masks.{AreShifts, HasBit-prop};
 ghost use Rattle.std.proofs.Props.{props};
+ghost use Rattle.hir_tree.specs.declared.look.Look.TheVariants as look;
 
 mod asked;
 mod bits;
@@ -15,9 +16,10 @@ mod takes;
 
 use crate::spot::Spot;
 use crate::{Look, holds};
+use asked::line_start;
 use bits::{Moves, SURE, joined, moves_in};
 use prefilter::Prefilter;
-use required::Required;
+use required::{Required, ends_at_once};
 use sd_base::NoMemory;
 use shifts::Shift;
 use std::alloc::Global;
@@ -49,6 +51,9 @@ pub struct Scan {
     /// How places are passed over up to the next one where a match may pass a required spot, if it does by bytes that are rare in texts, or
     /// begins by a look.
     prefilter: Option<Prefilter>,
+    /// How many bytes of a run are looked at before the place where it begins is given as a candidate: a guess, which changes the
+    /// time alone.
+    look_ahead: usize,
     ghost all_bytes: { vec_len takes ≡ 256 },
     ghost all_rows: { vec_len after ≡ 2048 },
     ghost all_shifts: { vec_len shifts ≡ 256 },
@@ -103,7 +108,7 @@ pub struct Candidate {
 
 impl Scan {
     ghost use Rattle.hir_core.specs.declared.spot.Spot.{Spot};
-    ghost use Rattle.hir_core.specs.Masks.{IsDead, IsPart, NoRun};
+    ghost use Rattle.hir_core.specs.Masks.{AreDead, IsDead, IsPart, NoRun};
     ghost use Rattle.hir_core.specs.Scan.{IsFilterOf, Looked, NoEnd, NoneBegins};
 
     /// The filter of a program; None where more than 62 spots take bytes. Refuses for want of memory alone.
@@ -124,7 +129,15 @@ impl Scan {
         let wide = takes::wide(spots, of.as_slice());
         let shifts = shifts::shifts(alloc, takes.as_slice(), moves, start, wide)?;
         let required = Required::rarest(takes.as_slice(), after.as_slice(), start, of.len());
-        let prefilter = prefilter::worth_while(required, takes.as_slice(), wide, first_look);
+        let is_sure = first_look.is_none() && ends_at_once(after.as_slice(), start);
+        let prefilter = prefilter::worth_while(
+            required,
+            takes.as_slice(),
+            wide,
+            first_look,
+            is_sure,
+        );
+        let look_ahead = prefilter::look_ahead(&prefilter, is_sure);
         Ok(Some(Scan {
             of,
             takes,
@@ -137,6 +150,7 @@ impl Scan {
             last_look,
             shifts,
             prefilter,
+            look_ahead,
         }))
     }
 
@@ -192,6 +206,21 @@ impl Scan {
         self.may_take(self.start, byte)
     }
 
+    /// Whether one of these spots may go on at a place, or a match may end there.
+    fn is_open(&self, mask: u64, text: &[u8], place: usize) -> bool
+        requires { place ≤ length text.now }
+        ensures { result ≡ false → (spots : List Spot) → IsFilterOf spots self.now
+            → AreDead text.now spots self.now.of.items self.now.last_look place mask }
+    {
+        if self.may_end(mask, text, place) {
+            return true;
+        }
+        if place >= text.len() {
+            return false;
+        }
+        self.may_take(mask, text[place])
+    }
+
     /// Whether a thread that is at a spot and a place may come to a match.
     pub fn may_go_on(&self, spot: usize, text: &[u8], place: usize) -> bool
         requires { place ≤ length text.now }
@@ -200,14 +229,36 @@ impl Scan {
         if spot >= self.firsts.len() {
             return true;
         }
-        let mask = self.firsts[spot];
-        if self.may_end(mask, text, place) {
-            return true;
+        self.is_open(self.firsts[spot], text, place)
+    }
+
+    /// Whether a run may begin at a place, by what stands there.
+    pub fn may_start(&self, text: &[u8], place: usize) -> bool
+        requires { place ≤ length text.now }
+        ensures { result ≡ false → NoneBegins text.now self.now place (place + 1) }
+    {
+        self.is_open(self.start, text, place)
+    }
+
+    /// The next start of a line, from a place on, where a run may begin.
+    fn next_line(&self, text: &[u8], at: usize) -> Option<Candidate>
+        requires at { at ≤ length text.now }
+        requires look { self.now.first_look ≡ Some look.StartLF }
+        ensures none { IfNone result (NoneBegins text.now self.now at (length text.now + 1)) }
+        ensures some { IfSome result (λ c. NoneBegins text.now self.now at c.from) }
+        ensures order { IfSome result (λ c. (at ≤ c.from) × (c.from ≤ c.until) × (c.until ≤ length text.now)) }
+    {
+        let mut place = line_start(text, at);
+        while place <= text.len() && !self.may_start(text, place) {
+            place = line_start(text, place + 1);
         }
-        if place >= text.len() {
-            return false;
+        if place > text.len() {
+            return None;
         }
-        self.may_take(mask, text[place])
+        Some(Candidate {
+            from: place,
+            until: place,
+        })
     }
 
     /// Passes over places from one on up to the next one where a match may pass a required spot, and goes back from there as long as spots
@@ -283,7 +334,7 @@ impl Scan {
     }
 
     /// Goes on by shifts, up to a byte that an odd spot takes, or that may begin a character beyond ASCII, or to where the
-    /// prefilter is worth while.
+    /// prefilter is worth while, or where enough of a run was looked at.
     fn run_shifts(&self, text: &[u8], begin: FilterState) -> FilterState
         requires { begin.place ≤ length text.now }
         ensures looked { (at : ℕ) → Looked text.now self.now at begin → Looked text.now self.now at result }
@@ -294,7 +345,8 @@ impl Scan {
         if self.first_look.is_some() || self.start >= SURE {
             return so_far;
         }
-        while so_far.place < text.len() && !self.may_skip(so_far) {
+        let end = text.len().min(so_far.from.saturating_add(self.look_ahead));
+        while so_far.place < end && !self.may_skip(so_far) {
             let shift = self.shifts[text[so_far.place] as usize];
             if (so_far.state | self.start) & shift.odd != 0 {
                 return so_far;
@@ -310,11 +362,11 @@ impl Scan {
         so_far
     }
 
-    /// The next places of a text, from one on, that may have a match. None where no place from there on has one.
-    pub fn next(&self, text: &[u8], at: usize) -> Option<Candidate>
+    /// The next places of a text, from one on, that may have a match, by shifts.
+    fn next_by_shifts(&self, text: &[u8], at: usize) -> Option<Candidate>
         requires { at ≤ length text.now }
-        ensures none { IfNone result ((spots : List Spot) → IsFilterOf spots self.now → NoRun text.now spots at (length text.now + 1)) }
-        ensures some { IfSome result (λ c. (spots : List Spot) → IsFilterOf spots self.now → NoRun text.now spots at c.from) }
+        ensures none { IfNone result (NoneBegins text.now self.now at (length text.now + 1)) }
+        ensures some { IfSome result (λ c. NoneBegins text.now self.now at c.from) }
         ensures order { IfSome result (λ c. (at ≤ c.from) × (c.from ≤ c.until) × (c.until ≤ length text.now)) }
     {
         let begin = FilterState {
@@ -331,6 +383,9 @@ impl Scan {
                 state,
                 ahead,
             } = so_far;
+            if state != 0 && place - from >= self.look_ahead {
+                return Some(Candidate { from, until: place });
+            }
             let live = self.live(state, text, place);
             let byte = text[place];
             if byte >= 128 && live & self.wide != 0 {
@@ -359,5 +414,38 @@ impl Scan {
             });
         }
         None
+    }
+
+    /// The next place from one on where a byte stands by which a run may begin.
+    fn next_stop(&self, text: &[u8], at: usize) -> Option<Candidate>
+        requires { at ≤ length text.now }
+        ensures none { IfNone result (NoneBegins text.now self.now at (length text.now + 1)) }
+        ensures some { IfSome result (λ c. NoneBegins text.now self.now at c.from) }
+        ensures order { IfSome result (λ c. (at ≤ c.from) × (c.from ≤ c.until) × (c.until ≤ length text.now)) }
+    {
+        let place = self.skip_ahead(text, at).from;
+        if place == text.len() && !self.may_start(text, place) {
+            return None;
+        }
+        Some(Candidate {
+            from: place,
+            until: place,
+        })
+    }
+
+    /// The next places of a text, from one on, that may have a match. None where no place from there on has one.
+    pub fn next(&self, text: &[u8], at: usize) -> Option<Candidate>
+        requires { at ≤ length text.now }
+        ensures none { IfNone result ((spots : List Spot) → IsFilterOf spots self.now → NoRun text.now spots at (length text.now + 1)) }
+        ensures some { IfSome result (λ c. (spots : List Spot) → IsFilterOf spots self.now → NoRun text.now spots at c.from) }
+        ensures order { IfSome result (λ c. (at ≤ c.from) × (c.from ≤ c.until) × (c.until ≤ length text.now)) }
+    {
+        if self.look_ahead == 0 {
+            return self.next_stop(text, at);
+        }
+        match self.first_look {
+            Some(Look::StartLF) if self.prefilter.is_none() => self.next_line(text, at),
+            _ => self.next_by_shifts(text, at),
+        }
     }
 }

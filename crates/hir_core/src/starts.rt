@@ -27,6 +27,18 @@ impl Starts {
         }
     }
 
+    /// Passes over places at which the filter looked, as long as no run begins by what stands there.
+    fn pass_looked(&mut self, filter: &Scan, text: &[u8])
+        ensures none { (spots : List Spot) → IsFilterOf spots filter.now → NoRun text.now spots self.old.place self.new.place }
+        ensures after { self.old.place ≤ self.new.place }
+        ensures within { self.old.place ≤ length text.now + 1 → self.new.place ≤ length text.now + 1 }
+    {
+        let end = self.looked.min(text.len());
+        while self.place < end && !filter.may_start(text, self.place) {
+            self.place += 1;
+        }
+    }
+
     /// Passes over places that have no match, as a filter tells.
     pub fn pass_over(&mut self, filter: &Scan, text: &[u8])
         requires { self.old.place ≤ length text.now + 1 }
@@ -34,6 +46,7 @@ impl Starts {
         ensures after { self.old.place ≤ self.new.place }
         ensures within { self.new.place ≤ length text.now + 1 }
     {
+        self.pass_looked(filter, text);
         if self.place < self.looked || self.place > text.len() {
             return;
         }

@@ -1,15 +1,18 @@
 -- What a filter has looked at of a text.
 use Rattle.std.proofs.Common.{◌≡◌, ℕ, zero, suc, ◌+◌, ◌-◌, ◌*◌, ◌/◌, ◌%◌, ◌^◌, ◌<◌, ◌≤◌, Bool, true, false, ◌⊎◌, inl, inr, List, [], Option, Some, length, slice_index, slice_index_or, bit_and, refl, sym, subst, arith}
-use Rattle.std.specs.Prelude.{IfSome}
+use Rattle.std.specs.Prelude.{None, IfNone, IfSome}
 use Rattle.std.proofs.lemmas.Bool.{cases_lt}
 use Rattle.std.proofs.lemmas.Nat.{pow_below}
 use Rattle.std.proofs.lemmas.Nat.Bits.{bit_at-pow_same}
 use Rattle.std.proofs.lemmas.Option.{slice_get_read, get_or_from_slice_get}
+use Rattle.hir_tree.specs.Looks.{holds}
 use Rattle.hir_tree.specs.declared.look.Look.{Look}
+use Rattle.hir_tree.specs.declared.look.Look.TheVariants as look
 use Rattle.hir_core.specs.Program.{Way, gives, rank, spot_at}
 use Rattle.hir_core.specs.Masks.{HasBit, IsPart, match_bit, sure_bit, row_place, next_of, is_wide, Covers, IsMoved, IsDead, AreDead, NoRun}
-use Rattle.hir_core.specs.Scan.{IsRequired, IsFilterOf, IsPassedOver, Looked, NoEnd, NoneBegins, TellsStops, stops_at}
+use Rattle.hir_core.specs.Scan.{IsAskedFirst, IsRequired, IsFilterOf, IsPassedOver, Looked, NoEnd, NoneBegins, TellsStops, stops_at}
 use Rattle.hir_core.specs.declared.spot.Spot.{Spot}
+use Rattle.hir_core.specs.declared.scan.Candidate.{Candidate}
 use Rattle.hir_core.specs.declared.scan.Scan.{Scan}
 use Rattle.hir_core.specs.declared.scan.FilterState.{FilterState}
 use Rattle.hir_core.specs.declared.scan.required.Required.{Required}
@@ -79,7 +82,7 @@ NoEnd-small text at look mask small = (HasBit-above mask sure_bit small, λ has.
 
 module _ (text : List ℕ) (spots : List Spot) (s : Scan) (filter : IsFilterOf spots s) where
   -- at the end of the text each spot that takes bytes is dead
-  AreDead-end : (mask at : ℕ) → length text ≤ at → NoEnd text at s.last_look mask → AreDead text spots s.of.items s.last_look at mask
+  pub AreDead-end : (mask at : ℕ) → length text ≤ at → NoEnd text at s.last_look mask → AreDead text spots s.of.items s.last_look at mask
   AreDead-end mask at past none = record {
     unmatched = none.0;
     asked = none.1;
@@ -119,7 +122,7 @@ module _ (text : List ℕ) (spots : List Spot) (s : Scan) (filter : IsFilterOf s
       byte = slice_index text place
 
   -- they are dead where none takes the byte
-  AreDead-by : (place mask : ℕ) → slice_index text place < 256 → NoEnd text place s.last_look mask
+  pub AreDead-by : (place mask : ℕ) → slice_index text place < 256 → NoEnd text place s.last_look mask
       → (slice_index text place < 128) ⊎ (bit_and mask s.wide ≡ 0) → bit_and mask (slice_index s.takes.items (slice_index text place)) ≡ 0
       → AreDead text spots s.of.items s.last_look place mask
   AreDead-by place mask small none narrow nothing = record {
@@ -218,25 +221,36 @@ module _ (text : List ℕ) (s : Scan) where
           low (omega arith)
     ]
 
-  -- no way goes on from a spot where none of its mask takes the byte
-  pub IsDead-by : (q place mask : ℕ) → q < length s.firsts.items → mask ≡ slice_index s.firsts.items q → slice_index text place < 256
-      → NoEnd text place s.last_look mask → (slice_index text place < 128) ⊎ (bit_and mask s.wide ≡ 0)
-      → bit_and mask (slice_index s.takes.items (slice_index text place)) ≡ 0 → (spots : List Spot) → IsFilterOf spots s → IsDead text spots place q
-  IsDead-by q place mask few same small none narrow nothing spots filter =
-      filter.firsts q few text place
-      (subst (AreDead text spots s.of.items s.last_look place) same (AreDead-by text spots s filter place mask small none narrow nothing))
-
-  -- nor at the end of the text
-  pub IsDead-end : (q place mask : ℕ) → q < length s.firsts.items → mask ≡ slice_index s.firsts.items q → length text ≤ place
-      → NoEnd text place s.last_look mask → (spots : List Spot) → IsFilterOf spots s → IsDead text spots place q
-  IsDead-end q place mask few same past none spots filter =
-      filter.firsts q few text place
-      (subst (AreDead text spots s.of.items s.last_look place) same (AreDead-end text spots s filter mask place past none))
-
   -- more places
   pub NoneBegins-more : (from mid until : ℕ) → NoneBegins text s from mid → NoneBegins text s mid until → NoneBegins text s from until
   NoneBegins-more from mid until before after spots filter q low high =
       elim (cases_lt q mid) [ inl left ↦ before spots filter q low left | inr right ↦ after spots filter q right high ]
+
+  -- no run of a program begins where none does
+  pub NoRun-begins : (from until : ℕ) → NoneBegins text s from until → (spots : List Spot) → IsFilterOf spots s → NoRun text spots from until
+  NoRun-begins from until none spots filter = NoRun-dead text spots from until (none spots filter)
+
+  pub IfNone-runs : (at : ℕ) (found : Option Candidate) → IfNone found (NoneBegins text s at (length text + 1))
+      → IfNone found ((spots : List Spot) → IsFilterOf spots s → NoRun text spots at (length text + 1))
+  IfNone-runs at None none = NoRun-begins at (length text + 1) none
+  IfNone-runs at (Some c) none = none
+
+  pub IfSome-runs : (at : ℕ) (found : Option Candidate) → IfSome found (λ c. NoneBegins text s at c.from)
+      → IfSome found (λ c. (spots : List Spot) → IsFilterOf spots s → NoRun text spots at c.from)
+  IfSome-runs at None none = none
+  IfSome-runs at (Some c) none = NoRun-begins at c.from none
+
+  -- no run begins where lines don't start, if each asks for that
+  pub NoneBegins-unasked : s.first_look ≡ Some look.StartLF → (from until : ℕ)
+      → ((q : ℕ) → from ≤ q → q < until → holds look.StartLF text q ≡ false) → NoneBegins text s from until
+  NoneBegins-unasked asked from until fails spots filter q low high =
+      let first : IsAskedFirst spots (Some look.StartLF) = subst (IsAskedFirst spots) asked filter.first in
+      first text q (fails q low high)
+
+-- more places at which no run begins
+pub NoRun-more : (text : List ℕ) (spots : List Spot) (from mid until : ℕ) → NoRun text spots from mid → NoRun text spots mid until → NoRun text spots from until
+NoRun-more text spots from mid until before after groups q low high =
+    elim (cases_lt q mid) [ inl left ↦ before groups q low left | inr right ↦ after groups q right high ]
 
 -- how far the filter has looked, and where the prefilter is worth while again
 abbrev pub so_far : ℕ → ℕ → ℕ → ℕ → FilterState
@@ -315,22 +329,17 @@ module _ (text : List ℕ) (s : Scan) (at : ℕ) where
     held = λ spots filter dead q low high. absurd (omega arith);
   }
 
-  -- no run begins before `from`
-  pub Looked-quiet : (k : FilterState) → Looked text s at k → (spots : List Spot) → IsFilterOf spots s → NoRun text spots at k.from
-  Looked-quiet k h spots filter = NoRun-dead text spots at k.from (h.quiet spots filter)
-
   -- at the end of the text, where no match without a byte is, no run begins at all
   pub Looked-end : (from place state ahead : ℕ) → NoEnd text place s.last_look s.start ⊎ NoneBegins text s place (place + 1) → length text ≤ place
-      → Looked text s at (so_far from place state ahead) → (spots : List Spot) → IsFilterOf spots s → NoRun text spots at (length text + 1)
-  Looked-end from place state ahead empty over h spots filter =
-      NoRun-dead text spots at (length text + 1)
-      (λ q low high. elim (cases_lt q from) [
+      → Looked text s at (so_far from place state ahead) → NoneBegins text s at (length text + 1)
+  Looked-end from place state ahead empty over h spots filter q low high =
+      elim (cases_lt q from) [
         | inl before ↦ h.quiet spots filter q low before
         | inr later ↦ elim (cases_lt q place) [
           | inl within ↦ h.held spots filter (AreDead-end text spots s filter state place over h.unmatched) q later within
           | inr last ↦ subst (λ (p : ℕ). IsDead text spots p 0) (let here : place ≡ q = omega (arith, h.within) in here) begins
         ]
-      ])
+      ]
     where
       begins : IsDead text spots place 0
       begins = elim empty [

@@ -1,10 +1,13 @@
-//! Which looks are asked first and last.
+//! Which looks are asked first and last, and where lines start.
 
-ghost use Rattle.std.specs.Prelude.{IfOk, ◌≤◌, length};
+ghost use Rattle.std.specs.Prelude.{◌≡◌, ◌+◌, ◌<◌, ◌≤◌, ℕ, false, length, IfOk};
+ghost use Rattle.hir_tree.specs.Looks.{holds};
+ghost use Rattle.hir_tree.specs.declared.look.Look.TheVariants as look;
 ghost use Rattle.hir_core.specs.Masks.{AreAllTakers};
 ghost use Rattle.hir_core.specs.Scan.{IsAskedFirst};
 
 use crate::Look;
+use crate::scan::prefilter::next_of_one;
 use crate::scan::reach::mask_beside;
 use crate::spot::Spot;
 use sd_base::NoMemory;
@@ -38,4 +41,18 @@ pub fn first_look(alloc: Global, spots: &[Spot], of: &[usize]) -> Result<Option<
 pub fn last_look(spots: &[Spot]) -> Option<Look> {
     let look = spots.iter().rev().find_map(look_of);
     look.filter(|look| matches!(look, Look::End | Look::EndLF | Look::EndCRLF))
+}
+
+/// The next place from one on where a line starts, or the one after the end of the text.
+#[tactic(auto, unfolding(hir_tree::specs::Looks::holds))]
+pub fn line_start(text: &[u8], at: usize) -> usize
+    requires { at ≤ length text.now + 1 }
+    ensures passed { (q : ℕ) → at ≤ q → q < result → holds look.StartLF text.now q ≡ false }
+    ensures after { at ≤ result }
+    ensures within { result ≤ length text.now + 1 }
+{
+    if at == 0 {
+        return 0;
+    }
+    next_of_one(b'\n', text, at - 1) + 1
 }

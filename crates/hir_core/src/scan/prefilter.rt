@@ -11,6 +11,9 @@ use memchr::memchr;
 /// How many of a thousand bytes are too many to stop at.
 const FREQUENT: u64 = 60;
 
+/// How many bytes of a run are looked at where the prefilter stops at the first.
+const FEW: usize = 8;
+
 /// Bytes at which the prefilter stops.
 #[derive(Clone, Copy)]
 pub enum Stops {
@@ -81,26 +84,40 @@ impl Prefilter {
     }
 }
 
-/// The prefilter by required spots, if there are any, where they take few bytes of a text, or a run begins by a look: else to stop
-/// and start again takes longer than to look at each byte.
+/// The prefilter by required spots, if there are any, where each stop is a match, or they take few bytes of a text, or a run begins by
+/// a look that is asked byte by byte: else to stop and start again takes longer than to look at each byte, or at each start of a line.
 pub fn worth_while(
     required: Option<Required>,
     takes: &[u64],
     wide: u64,
     first_look: Option<Look>,
+    is_sure: bool,
 ) -> Option<Prefilter>
     requires { length takes.now ≡ 256 }
     ensures { IfSome result (λ prefilter. (required ≡ Some prefilter.required) × TellsStops takes.now wide prefilter.required prefilter.stops) }
 {
     let required = required?;
-    if first_look.is_none() && required.share(takes) >= FREQUENT {
+    let is_quick = matches!(first_look, None | Some(Look::StartLF));
+    if is_quick && !is_sure && required.share(takes) >= FREQUENT {
         return None;
     }
     Some(Prefilter::new(required, takes, wide))
 }
 
+/// How many bytes of a run are looked at before the place where it begins is given as a candidate: none where that is a match, few
+/// where the prefilter stops at the first byte of a run, and else all.
+pub fn look_ahead(prefilter: &Option<Prefilter>, is_sure: bool) -> usize {
+    if is_sure {
+        return 0;
+    }
+    match prefilter {
+        Some(prefilter) if prefilter.required.is_start() => FEW,
+        _ => usize::MAX,
+    }
+}
+
 /// The next place from one on where the byte stands, or the end of the text.
-fn next_of_one(byte: u8, text: &[u8], at: usize) -> usize
+pub fn next_of_one(byte: u8, text: &[u8], at: usize) -> usize
     requires { at ≤ length text.now }
     ensures passed { (q : ℕ) → at ≤ q → q < result → stops_at (stops.One byte) (slice_index text.now q) ≡ false }
     ensures after { at ≤ result }

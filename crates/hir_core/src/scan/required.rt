@@ -48,6 +48,11 @@ impl Required {
         None
     }
 
+    /// Whether they are the spots of the start.
+    pub fn is_start(self) -> bool {
+        self.spots == self.before
+    }
+
     /// How many of a thousand bytes of a text its spots take: a guess, which changes the time alone.
     pub fn share(self, takes: &[u64]) -> u64
         requires { length takes.now ≡ 256 }
@@ -88,4 +93,19 @@ impl Required {
         }
         Some(rarest)
     }
+}
+
+/// Whether a match may end where a run begins, or after each spot of the start, whatever stands there.
+pub fn ends_at_once(after: &[u64], start: u64) -> bool
+    requires { length after.now ≡ 2048 }
+{
+    if start >= SURE {
+        return start & SURE != 0;
+    }
+    for bit in 0..62usize {
+        if start >> bit & 1 == 1 && joined(after, 1 << bit) & SURE == 0 {
+            return false;
+        }
+    }
+    true
 }

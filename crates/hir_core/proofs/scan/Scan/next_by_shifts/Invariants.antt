@@ -1,6 +1,6 @@
 use Rattle.std.proofs.Common.{◌-◌, length}
 use Rattle.hir_core.specs.Scan.{Looked}
-use Rattle.hir_core.proofs.scan.Scan.next.Given as goal
+use Rattle.hir_core.proofs.scan.Scan.next_by_shifts.Given as goal
 
 -- no run begins before `from`, nor from there on, unless a spot of the state gives something at the place
 abbrev pub invariant-loop-so_far : goal.invariant-loop-so_far
