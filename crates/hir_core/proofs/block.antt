@@ -4,3 +4,4 @@ mod MarkLemmas
 mod BlockTurnLemmas
 mod FollowLemmas
 pub mod ThreadsLemmas
+pub mod TryLemmas

@@ -10,6 +10,7 @@ pub mod Scan
 pub mod Stamps
 pub mod StackSearch
 pub mod Trails
+pub mod Tries
 pub use Rattle.hir_tree.specs.Core
 pub use Rattle.hir_tree.specs.Cores
 pub use Rattle.hir_tree.specs.Examples

@@ -7,9 +7,10 @@ ghost use Rattle.hir_core.specs.Pass.{answer, leads, leads_on, match_of, some_ru
 ghost use Rattle.hir_core.specs.Program.{ClosesFall};
 ghost use Rattle.hir_core.specs.Scan.{IsFilterOf};
 ghost use Rattle.hir_core.specs.Trails.{stops_of, stops_on, way_of};
+ghost use Rattle.hir_core.specs.Tries.{CountsTries};
 ghost use Rattle.hir_core.specs.declared.spot.Spot.{Spot};
 
-use crate::closure::{Turn, lead};
+use crate::closure::{Turn, count, lead};
 use crate::scan::Scan;
 use crate::set_size::{byte_size, char_size};
 use crate::spot::Spot;
@@ -17,7 +18,7 @@ use crate::starts::Starts;
 use crate::thread_list::ThreadList;
 use crate::trail::Trail;
 use crate::visited::Visited;
-use sd_base::NoMemory;
+use sd_base::{Ledger, NoMemory, Steps};
 use std::alloc::Global;
 
 /// The places of a block: from the first one to before the end.
@@ -111,7 +112,7 @@ impl Block {
     /// Follows the thread, which is in the block, from this spot to those that it leads to, and says whether it is a match, or where
     /// it goes on. Of two ways at the place where it began it leaves out the first, if that can't come to a match: many are tried there,
     /// and few go on. Refuses for want of memory alone.
-    fn turn(
+    fn turn<L: Ledger>(
         &mut self,
         spots: &[Spot],
         filter: &Scan,
@@ -119,6 +120,7 @@ impl Block {
         places: Places,
         began: usize,
         spot: usize,
+        steps: &mut Steps<L>,
     ) -> Result<Turn, NoMemory>
         requires filters { IsFilterOf spots.now filter.now }
         requires room { length spots.now * (places.end - places.begin) ≤ length self.old.marks }
@@ -129,6 +131,7 @@ impl Block {
         ensures turned { IfOk result (λ turn. TurnedAt text.now spots.now places.begin turn (spot, way_of self.old.trail) self.new.trail
             self.old.marks self.new.marks (stops_of self.old.trail)) }
         ensures later { self.new.later ≡ self.old.later }
+        ensures ticks { CountsTries L.noted spots.now places.begin places.end self.old.marks self.new.marks steps.old steps.new }
     {
         let Some(here) = spots.get(spot) else {
             return Ok(Turn::On(None));
@@ -145,6 +148,7 @@ impl Block {
             return Ok(Turn::On(None));
         }
         self.marks.add(mark);
+        count(here, steps);
         if let Spot::Split { first, second } = here {
             let at = self.trail.at;
             if at == began && !filter.may_go_on(*first, text, at) {
@@ -156,13 +160,14 @@ impl Block {
 
     /// Follows the thread from a spot, within the block, and says whether it comes to a match: the trail then holds it. What goes on
     /// past the block is kept. Refuses for want of memory alone.
-    fn follow(
+    fn follow<L: Ledger>(
         &mut self,
         spots: &[Spot],
         filter: &Scan,
         text: &[u8],
         places: Places,
         spot: usize,
+        steps: &mut Steps<L>,
     ) -> Result<bool, NoMemory>
         requires falls { ClosesFall spots.now }
         requires filters { IsFilterOf spots.now filter.now }
@@ -176,6 +181,7 @@ impl Block {
             (match_of found self.new.trail) self.new.marks self.old.later self.new.later) }
         ensures later { IfOk result (λ _. AllFrom text.now places.end self.new.later) }
         ensures marks { IfOk result (λ _. KeepsMarks self.old.marks self.new.marks) }
+        ensures ticks { CountsTries L.noted spots.now places.begin places.end self.old.marks self.new.marks steps.old steps.new }
     {
         self.trail.clear();
         let began = self.trail.at;
@@ -186,7 +192,7 @@ impl Block {
                 on = None;
                 continue;
             }
-            match self.turn(spots, filter, text, places, began, here)? {
+            match self.turn(spots, filter, text, places, began, here, steps)? {
                 Turn::Match => return Ok(true),
                 Turn::On(next) => on = next,
             }
@@ -196,13 +202,14 @@ impl Block {
 
     /// Follows threads within the block, up to the first match, and says whether there is one: the trail then holds it. Refuses for
     /// want of memory alone.
-    pub fn follow_all(
+    pub fn follow_all<L: Ledger>(
         &mut self,
         spots: &[Spot],
         filter: &Scan,
         text: &[u8],
         places: Places,
         threads: &ThreadList,
+        steps: &mut Steps<L>,
     ) -> Result<bool, NoMemory>
         requires falls { ClosesFall spots.now }
         requires filters { IsFilterOf spots.now filter.now }
@@ -215,10 +222,11 @@ impl Block {
             (match_of found self.new.trail) self.new.marks self.old.later self.new.later) }
         ensures later { IfOk result (λ _. AllFrom text.now places.end self.new.later) }
         ensures marks { IfOk result (λ _. KeepsMarks self.old.marks self.new.marks) }
+        ensures ticks { CountsTries L.noted spots.now places.begin places.end self.old.marks self.new.marks steps.old steps.new }
     {
         for i in 0..threads.len() {
             let spot = threads.load(i, &mut self.trail)?;
-            if self.follow(spots, filter, text, places, spot)? {
+            if self.follow(spots, filter, text, places, spot, steps)? {
                 return Ok(true);
             }
         }
@@ -241,7 +249,7 @@ impl Block {
 
     /// Follows threads that begin in the block, where a match may begin, up to the first match, and says whether there is one: the
     /// trail then holds it. Refuses for want of memory alone.
-    pub fn follow_starts(
+    pub fn follow_starts<L: Ledger>(
         &mut self,
         spots: &[Spot],
         filter: &Scan,
@@ -249,6 +257,7 @@ impl Block {
         places: Places,
         starts: &mut Starts,
         groups: u32,
+        steps: &mut Steps<L>,
     ) -> Result<bool, NoMemory>
         requires falls { ClosesFall spots.now }
         requires filters { IsFilterOf spots.now filter.now }
@@ -266,11 +275,12 @@ impl Block {
         ensures within { IfOk result (λ _. starts.new.place ≤ length text.now + 1) }
         ensures past { IfOk result (λ found. found ≡ false → places.end ≤ starts.new.place) }
         ensures marks { IfOk result (λ _. KeepsMarks self.old.marks self.new.marks) }
+        ensures ticks { CountsTries L.noted spots.now places.begin places.end self.old.marks self.new.marks steps.old steps.new }
     {
         while starts.place < places.end {
             self.trail.begin(starts.place, groups)?;
             starts.place += 1;
-            if self.follow(spots, filter, text, places, 0)? {
+            if self.follow(spots, filter, text, places, 0, steps)? {
                 return Ok(true);
             }
             self.pass_over(filter, text, starts);

@@ -3,9 +3,10 @@
 ghost use Rattle.std.specs.Prelude.{◌≡◌, ◌+◌, ◌-◌, ◌*◌, ◌≤◌, ◌<◌, [], None, false, is_some, length, IfOk};
 ghost use Rattle.std.specs.Option.{option_or};
 ghost use Rattle.hir_core.specs.Blocks.{AreSpent};
-ghost use Rattle.hir_core.specs.Pass.{answer, best_in, first_from, match_of, some_run, stops_give, AllFrom};
+ghost use Rattle.hir_core.specs.Pass.{answer, best_in, counted, first_from, match_of, some_run, stops_give, AllFrom};
 ghost use Rattle.hir_core.specs.Program.{ClosesFall};
 ghost use Rattle.hir_core.specs.Scan.{IsFilterOf};
+ghost use Rattle.sd_base.specs.Steps.{TicksAtMost};
 
 use crate::block::{Block, Places};
 use crate::pass::Best;
@@ -13,7 +14,7 @@ use crate::scan::Scan;
 use crate::spot::Spot;
 use crate::starts::Starts;
 use crate::thread_list::ThreadList;
-use sd_base::NoMemory;
+use sd_base::{Ledger, NoMemory, Steps};
 use std::alloc::Global;
 use std::mem;
 
@@ -46,7 +47,7 @@ impl Blocks {
 
     /// Follows the threads that come into a block, and then those that begin in it, as long as nothing was found. Says whether there
     /// is a match: the trail then holds it. Refuses for want of memory alone.
-    fn follow_block(
+    fn follow_block<L: Ledger>(
         &mut self,
         spots: &[Spot],
         filter: &Scan,
@@ -54,6 +55,7 @@ impl Blocks {
         places: Places,
         starts: &mut Starts,
         groups: u32,
+        steps: &mut Steps<L>,
     ) -> Result<bool, NoMemory>
         requires falls { ClosesFall spots.now }
         requires filters { IsFilterOf spots.now filter.now }
@@ -71,20 +73,21 @@ impl Blocks {
         ensures within { IfOk result (λ _. starts.new.place ≤ length text.now + 1) }
         ensures past { IfOk result (λ found. found ≡ false → is_some (best_in self.old.best) ≡ false → places.end ≤ starts.new.place) }
         ensures best { self.new.best ≡ self.old.best }
+        ensures ticks { TicksAtMost L.noted ((places.end - places.begin) * counted spots.now) steps.old steps.new }
     {
         self.block.enter(spots.len() * PLACES)?;
         let found = self
             .block
-            .follow_all(spots, filter, text, places, &self.threads)?;
+            .follow_all(spots, filter, text, places, &self.threads, steps)?;
         if found || self.best.is_some() {
             return Ok(found);
         }
         self.block
-            .follow_starts(spots, filter, text, places, starts, groups)
+            .follow_starts(spots, filter, text, places, starts, groups, steps)
     }
 
     /// Goes over a block. Refuses for want of memory alone.
-    fn round(
+    fn round<L: Ledger>(
         &mut self,
         spots: &[Spot],
         filter: &Scan,
@@ -92,6 +95,7 @@ impl Blocks {
         places: Places,
         starts: &mut Starts,
         groups: u32,
+        steps: &mut Steps<L>,
     ) -> Result<(), NoMemory>
         requires falls { ClosesFall spots.now }
         requires filters { IsFilterOf spots.now filter.now }
@@ -107,8 +111,9 @@ impl Blocks {
         ensures from { IfOk result (λ _. AllFrom text.now places.end self.new.threads) }
         ensures within { IfOk result (λ _. starts.new.place ≤ length text.now + 1) }
         ensures past { IfOk result (λ _. is_some (best_in self.new.best) ≡ false → places.end ≤ starts.new.place) }
+        ensures ticks { TicksAtMost L.noted ((places.end - places.begin) * counted spots.now) steps.old steps.new }
     {
-        let found = self.follow_block(spots, filter, text, places, starts, groups)?;
+        let found = self.follow_block(spots, filter, text, places, starts, groups, steps)?;
         self.best.update(found, &self.block.trail)?;
         mem::swap(&mut self.threads, &mut self.block.later);
         Ok(())
@@ -116,7 +121,7 @@ impl Blocks {
 
     /// Looks for the first run of the least place, from one on, at which a program gives a run, and says whether there is one:
     /// it is then the best match. A block has so many places, at least one and at most [`PLACES`]. Refuses for want of memory alone.
-    pub fn search(
+    pub fn search<L: Ledger>(
         &mut self,
         spots: &[Spot],
         filter: &Scan,
@@ -124,6 +129,7 @@ impl Blocks {
         at: usize,
         groups: u32,
         count: usize,
+        steps: &mut Steps<L>,
     ) -> Result<bool, NoMemory>
         requires falls { ClosesFall spots.now }
         requires filters { IsFilterOf spots.now filter.now }
@@ -131,6 +137,7 @@ impl Blocks {
         requires at { at ≤ length text.now }
         ensures found { IfOk result (λ found. found ≡ is_some (best_in self.new.best)) }
         ensures first { IfOk result (λ _. best_in self.new.best ≡ first_from text.now spots.now groups (length text.now + 1 - at) at) }
+        ensures ticks { TicksAtMost L.noted ((length text.now + 1 - at) * counted spots.now) steps.old steps.new }
     {
         self.threads.clear();
         self.best.clear();
@@ -141,7 +148,7 @@ impl Blocks {
         while begin <= text.len() {
             let end = (begin + count).min(text.len() + 1);
             let places = Places { begin, end };
-            self.round(spots, filter, text, places, &mut starts, groups)?;
+            self.round(spots, filter, text, places, &mut starts, groups, steps)?;
             begin = end;
             if self.threads.is_empty() {
                 if self.best.is_some() {

@@ -80,7 +80,7 @@ fn is_counted(spot: &Spot) -> bool
 }
 
 /// Counts a visit of a spot.
-fn count<L: Ledger>(spot: &Spot, steps: &mut Steps<L>)
+pub fn count<L: Ledger>(spot: &Spot, steps: &mut Steps<L>)
     ensures { IsTicked L.noted (visit_ticks spot.now false) steps.old steps.new }
 {
     if is_counted(spot) {

@@ -102,49 +102,12 @@ impl Searcher {
         ensures kept { length slots.new ≡ length slots.old }
         ensures refused { IfErr result (λ _. slots.new ≡ replicate (length slots.old) None) }
     {
-        if let Some(finder) = &self.text {
-            return Ok(finder.search(text, at, slots));
-        }
-        self.search_by_blocks(text, at, slots, PLACES)
-    }
-
-    /// [`search_at`](Searcher::search_at) over blocks of so many places, at least one and at most 256, each of which is searched depth
-    /// first. A pattern without a filter, or of more than 256 spots, is searched place by place.
-    pub fn search_by_blocks(
-        &self,
-        text: &[u8],
-        at: usize,
-        slots: &mut Slots,
-        places: usize,
-    ) -> Result<bool, NoMemory>
-        requires within { at ≤ length text.now }
-        requires slots { length slots.old ≡ groups_of self.now + 1 }
-        ensures found { IfOk result (λ found.
-            IsFound (preferred (core_of self.now) (groups_of self.now) text.now) at (length text.now) found slots.new) }
-        ensures kept { length slots.new ≡ length slots.old }
-        ensures refused { IfErr result (λ _. slots.new ≡ replicate (length slots.old) None) }
-    {
-        match &self.filter {
-            Some(filter) if self.spots.len() <= SPOTS => {
-                slots.search_by_blocks(&self.spots, filter, text, at, self.groups, places)
-            }
-            filter => {
-                let mut steps = Steps::new(Silent);
-                slots.search(
-                    &self.spots,
-                    filter.as_ref(),
-                    text,
-                    at,
-                    self.groups,
-                    &mut steps,
-                )
-            }
-        }
+        self.search_at_steps(text, at, slots, &mut Steps::new(Silent))
     }
 
     /// [`search_at`](Searcher::search_at) with counted steps: one for each visit of a spot that takes a byte or a character,
-    /// looks, or goes on both ways. At a place of the text each of them is
-    /// visited once at most; ends of groups aren't counted.
+    /// looks, or goes on both ways. At a place of the text each of them is visited once at most; ends of groups aren't counted.
+    /// Where the pattern is one text, or the filter passes over a place, nothing is visited.
     pub fn search_at_steps<L: Ledger>(
         &self,
         text: &[u8],
@@ -160,7 +123,61 @@ impl Searcher {
         ensures refused { IfErr result (λ _. slots.new ≡ replicate (length slots.old) None) }
         ensures ticks { TicksAtMost L.noted ((length text.now + 1 - at) * spots_of self.now) steps.old steps.new }
     {
-        slots.search(&self.spots, None, text, at, self.groups, steps)
+        if let Some(finder) = &self.text {
+            return Ok(finder.search(text, at, slots));
+        }
+        self.search_places(text, at, slots, PLACES, steps)
+    }
+
+    /// For tests: [`search_at`](Searcher::search_at) over blocks of so many places, at least one and at most 256, where the pattern is
+    /// searched block by block. A pattern that is one text is searched so too.
+    pub fn search_by_blocks(
+        &self,
+        text: &[u8],
+        at: usize,
+        slots: &mut Slots,
+        places: usize,
+    ) -> Result<bool, NoMemory>
+        requires within { at ≤ length text.now }
+        requires slots { length slots.old ≡ groups_of self.now + 1 }
+        ensures found { IfOk result (λ found.
+            IsFound (preferred (core_of self.now) (groups_of self.now) text.now) at (length text.now) found slots.new) }
+        ensures kept { length slots.new ≡ length slots.old }
+        ensures refused { IfErr result (λ _. slots.new ≡ replicate (length slots.old) None) }
+    {
+        self.search_places(text, at, slots, places, &mut Steps::new(Silent))
+    }
+
+    /// The search over blocks of so many places, each of which is searched depth first. A pattern without a filter, or of more than
+    /// 256 spots, is searched place by place.
+    fn search_places<L: Ledger>(
+        &self,
+        text: &[u8],
+        at: usize,
+        slots: &mut Slots,
+        places: usize,
+        steps: &mut Steps<L>,
+    ) -> Result<bool, NoMemory>
+        requires within { at ≤ length text.now }
+        requires slots { length slots.old ≡ groups_of self.now + 1 }
+        ensures found { IfOk result (λ found.
+            IsFound (preferred (core_of self.now) (groups_of self.now) text.now) at (length text.now) found slots.new) }
+        ensures kept { length slots.new ≡ length slots.old }
+        ensures refused { IfErr result (λ _. slots.new ≡ replicate (length slots.old) None) }
+        ensures ticks { TicksAtMost L.noted ((length text.now + 1 - at) * spots_of self.now) steps.old steps.new }
+    {
+        match &self.filter {
+            Some(filter) if self.spots.len() <= SPOTS => slots.search_by_blocks(
+                &self.spots,
+                filter,
+                text,
+                at,
+                self.groups,
+                places,
+                steps,
+            ),
+            filter => slots.search(&self.spots, filter.as_ref(), text, at, self.groups, steps),
+        }
     }
 
     /// [`search_at`](Searcher::search_at) in the plainest way: a stack of alternatives, tried one after the other, as the

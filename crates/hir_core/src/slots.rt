@@ -124,7 +124,7 @@ impl Slots {
     }
 
     /// The same for a program that has a filter, over blocks of so many places.
-    pub(crate) fn search_by_blocks(
+    pub(crate) fn search_by_blocks<L: Ledger>(
         &mut self,
         spots: &[Spot],
         filter: &Scan,
@@ -132,6 +132,7 @@ impl Slots {
         at: usize,
         groups: u32,
         places: usize,
+        steps: &mut Steps<L>,
     ) -> Result<bool, NoMemory>
         requires falls { ClosesFall spots.now }
         requires filters { IsFilterOf spots.now filter.now }
@@ -141,9 +142,13 @@ impl Slots {
         ensures found { IfOk result (λ found. IsFound (groups_found text.now spots.now groups) at (length text.now) found self.new) }
         ensures kept { length self.new ≡ length self.old }
         ensures refused { IfErr result (λ _. self.new ≡ replicate (length self.old) None) }
+        ensures ticks { TicksAtMost L.noted ((length text.now + 1 - at) * counted spots.now) steps.old steps.new }
     {
         unset(&mut self.spans);
-        if !self.blocks.search(spots, filter, text, at, groups, places)? {
+        if !self
+            .blocks
+            .search(spots, filter, text, at, groups, places, steps)?
+        {
             return Ok(false);
         }
         set(&mut self.spans, self.blocks.groups());

@@ -4,20 +4,31 @@ use Rattle.hir_core.specs.Program.{Way}
 use Rattle.hir_core.specs.Trails.{way_of}
 use Rattle.hir_core.proofs.block.MarkLemmas.{KeepsMarks-then}
 use Rattle.hir_core.proofs.block.ThreadsLemmas.{answer-begun}
+use Rattle.hir_core.proofs.block.TryLemmas.{CountsTries-add}
 use Rattle.hir_core.proofs.block.Block.follow_starts.Goals as goal
 
+pub returns-in_err-follow-clause-ticks : goal.returns-in_err-follow-clause-ticks
+returns-in_err-follow-clause-ticks g c =
+    CountsTries-add g.L.Ledger.noted c.args.spots.now c.args.places.begin c.args.places.end c.args.self.now.marks c.loop-starts.self.marks c.follow.new.self.marks c.args.steps.now
+    c.loop-starts.steps c.follow.new.steps c.loop-starts.invariant.ticks c.follow.ensures.ticks
+
+pub returns-then-branch-clause-ticks : goal.returns-then-branch-clause-ticks
+returns-then-branch-clause-ticks g c =
+    CountsTries-add g.L.Ledger.noted c.args.spots.now c.args.places.begin c.args.places.end c.args.self.now.marks c.loop-starts.self.marks c.follow.new.self.marks c.args.steps.now
+    c.loop-starts.steps c.follow.new.steps c.loop-starts.invariant.ticks c.follow.ensures.ticks
+
 pub returns-then-branch-clause-answer : goal.returns-then-branch-clause-answer
-returns-then-branch-clause-answer c =
+returns-then-branch-clause-answer g c =
     answer-begun c.args.text.now c.args.spots.now c.args.places.begin c.args.groups c.loop-starts.starts.place (match_of true c.follow.new.self.trail) c.follow.new.self.marks c.loop-starts.self.later
     c.follow.new.self.later (0, way_of c.begin.new.self) (omega arith) (ap (λ (w : Way). (0, w)) c.in_ok-begin.ensures)
     (rw c.if-branch.true at c.in_ok-follow.ensures.followed)
     ∙ c.loop-starts.invariant.answer
 
 pub returns-then-branch-clause-marks : goal.returns-then-branch-clause-marks
-returns-then-branch-clause-marks c = KeepsMarks-then c.loop-starts.invariant.marks c.in_ok-follow.ensures.marks
+returns-then-branch-clause-marks g c = KeepsMarks-then c.loop-starts.invariant.marks c.in_ok-follow.ensures.marks
 
 pub loop-starts-preserved : goal.loop-starts-preserved
-loop-starts-preserved c =
+loop-starts-preserved g c =
     let followed = rw c.if-branch.false at c.in_ok-follow.ensures.followed in
     record {
       answer =
@@ -30,4 +41,7 @@ loop-starts-preserved c =
       begin = omega (arith, c.loop-starts.invariant.begin, c.pass_over.ensures.after);
       within = c.pass_over.ensures.within;
       marks = KeepsMarks-then c.loop-starts.invariant.marks c.in_ok-follow.ensures.marks;
+      ticks =
+          CountsTries-add g.L.Ledger.noted c.args.spots.now c.args.places.begin c.args.places.end c.args.self.now.marks c.loop-starts.self.marks c.follow.new.self.marks c.args.steps.now
+          c.loop-starts.steps c.follow.new.steps c.loop-starts.invariant.ticks c.follow.ensures.ticks;
     }
