@@ -32,7 +32,7 @@ pub fn program(alloc: Global, hir: &Hir) -> Result<Vec<Spot>, NoMemory>
     if count >= SPOTS_BELOW {
         return Err(NoMemory);
     }
-    let mut spots = Vec::new(alloc);
+    let mut spots = Vec::with_capacity(alloc, count + 3)?;
     push_ends(0, count + 2, &mut spots)?;
     compile(alloc, hir, 1, &mut spots)?;
     spots.push(Spot::Match)?;
