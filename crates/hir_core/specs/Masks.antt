@@ -29,6 +29,10 @@ IsPart mask more = (i : ℕ) → HasBit mask i → HasBit more i
 abbrev pub Grows : List ℕ → List ℕ → Type 0
 Grows old new = (b : ℕ) → IsPart (slice_index old b) (slice_index new b)
 
+-- this bit alone was set, in numbers at which something holds
+abbrev pub GrowsOnly : ℕ → (ℕ → Type 0) → List ℕ → List ℕ → Type 0
+GrowsOnly bit Here old new = (b i : ℕ) → HasBit (slice_index new b) i → HasBit (slice_index old b) i ⊎ ((i ≡ bit) × Here b)
+
 -- the bit that tells that a match may end where a certain look holds, if there is one
 abbrev pub match_bit : ℕ
 match_bit = 63
@@ -140,6 +144,19 @@ AreAllTakers spots of =
 abbrev pub SaysWhatTakes : List Spot → List ℕ → List ℕ → Type 0
 SaysWhatTakes spots of takes =
     (i b : ℕ) → i < length of → b < 256 → takes_byte (spot_at spots (slice_index of i)) b ≡ true → HasBit (slice_index takes b) i
+
+-- and at no others
+abbrev pub SaysNoMore : List Spot → List ℕ → List ℕ → Type 0
+SaysNoMore spots of takes =
+    (i b : ℕ) → i < length of → HasBit (slice_index takes b) i → takes_byte (spot_at spots (slice_index of i)) b ≡ true
+
+-- where the spot takes bytes, the mask has its bit alone
+abbrev pub HasOwnBit : List Spot → List ℕ → ℕ → ℕ → Type 0
+HasOwnBit spots of q mask = is_taker (spot_at spots q) ≡ true → (i : ℕ) × (i < length of) × (slice_index of i ≡ q) × (mask ≡ 2 ^ i)
+
+-- so it is with each of these masks
+abbrev pub HaveOwnBits : List Spot → List ℕ → List ℕ → Type 0
+HaveOwnBits spots of masks = (q : ℕ) → q < length masks → HasOwnBit spots of q (slice_index masks q)
 
 -- Row r has a mask for each choice of the eight bits from 8 r on: it covers what comes after the spot of each bit that is chosen.
 abbrev pub SaysWhatFollows : List Spot → List ℕ → Option Look → List ℕ → Type 0

@@ -2,7 +2,7 @@
 use Rattle.std.specs.Prelude.{◌≡◌, ℕ, ◌^◌, ◌<◌, ◌≤◌, ◌⊎◌, Bool, false, List, length, ◌==◌, slice_index, slice_index_or, bit_and, true, Option, IfSome}
 use Rattle.hir_tree.specs.Looks.{holds}
 use Rattle.hir_tree.specs.declared.look.Look.{Look}
-use Rattle.hir_core.specs.Masks.{Covers, CoverTheirSpots, AreTakers, SaysWhatTakes, SaysWhatFollows, SaysWhichAreWide, AreMoved, AreDead, IsDead, IsPart, IsShut, HasBit, match_bit, next_of, sure_bit}
+use Rattle.hir_core.specs.Masks.{Covers, CoverTheirSpots, HaveOwnBits, AreTakers, SaysNoMore, SaysWhatTakes, SaysWhatFollows, SaysWhichAreWide, AreMoved, AreDead, IsDead, IsPart, IsShut, HasBit, match_bit, next_of, sure_bit}
 use Rattle.hir_core.specs.Program.{spot_at}
 use Rattle.hir_core.specs.declared.spot.Spot.{Spot}
 use Rattle.hir_core.specs.declared.scan.Scan.{Scan}
@@ -50,11 +50,13 @@ pub record IsFilterOf (spots : List Spot) (s : Scan) : Type 0 where
   pub few : length s.of.items ≤ sure_bit
   pub takers : AreTakers spots s.of.items
   pub takes : SaysWhatTakes spots s.of.items s.takes.items
+  pub takes_no_more : SaysNoMore spots s.of.items s.takes.items
   pub follows : SaysWhatFollows spots s.of.items s.last_look s.after.items
   pub moves : AreMoved s.after.items (length s.of.items) s.moves
   pub wide : SaysWhichAreWide spots s.of.items s.wide
   pub start : Covers spots s.of.items s.last_look s.start 0
   pub firsts : CoverTheirSpots spots s.of.items s.last_look s.firsts.items
+  pub own : HaveOwnBits spots s.of.items s.firsts.items
   pub first : IsAskedFirst spots s.first_look
   pub prefilter : IfSome s.prefilter (λ k. IsRequired spots s.of.items s.last_look s.start k.required × TellsStops s.takes.items s.wide k.required k.stops)
 

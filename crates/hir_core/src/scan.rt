@@ -108,7 +108,8 @@ pub struct Candidate {
 
 impl Scan {
     ghost use Rattle.hir_core.specs.declared.spot.Spot.{Spot};
-    ghost use Rattle.hir_core.specs.Masks.{AreDead, IsDead, IsPart, NoRun};
+    ghost use Rattle.hir_core.specs.Masks.{AreDead, IsDead, IsPart, NoRun, is_taker, takes_byte};
+    ghost use Rattle.hir_core.specs.Program.{spot_at};
     ghost use Rattle.hir_core.specs.Scan.{IsFilterOf, Looked, NoEnd, NoneBegins};
 
     /// The filter of a program; None where more than 62 spots take bytes. Refuses for want of memory alone.
@@ -230,6 +231,18 @@ impl Scan {
             return true;
         }
         self.is_open(self.firsts[spot], text, place)
+    }
+
+    /// Whether a spot that takes a byte or a character takes this one; None where it is beyond ASCII, or the program has more spots
+    /// than are searched block by block.
+    pub fn takes_ascii(&self, spot: usize, byte: u8) -> Option<bool>
+        ensures { IfSome result (λ takes. (byte < 128) × ((spots : List Spot) → IsFilterOf spots self.now
+            → is_taker (spot_at spots spot) ≡ true → takes ≡ takes_byte (spot_at spots spot) byte)) }
+    {
+        if byte >= 128 || spot >= self.firsts.len() {
+            return None;
+        }
+        Some(self.takes[byte as usize] & self.firsts[spot] != 0)
     }
 
     /// Whether a run may begin at a place, by what stands there.

@@ -1,15 +1,16 @@
 -- What a filter has looked at of a text.
-use Rattle.std.proofs.Common.{◌≡◌, ℕ, zero, suc, ◌+◌, ◌-◌, ◌*◌, ◌/◌, ◌%◌, ◌^◌, ◌<◌, ◌≤◌, Bool, true, false, ◌⊎◌, inl, inr, List, [], Option, Some, length, slice_index, slice_index_or, bit_and, refl, sym, subst, arith}
+use Rattle.std.proofs.Common.{◌≡◌, ℕ, zero, suc, ◌+◌, ◌-◌, ◌*◌, ◌/◌, ◌%◌, ◌^◌, ◌<◌, ◌≤◌, Bool, true, false, ◌⊎◌, inl, inr, List, [], Option, Some, length, slice_index, slice_index_or, bit_and, refl, sym, ap, subst, ◌∙◌, true≢false, arith}
 use Rattle.std.specs.Prelude.{None, IfNone, IfSome}
 use Rattle.std.proofs.lemmas.Bool.{cases_lt}
+use Rattle.std.specs.Int.{bit_at}
 use Rattle.std.proofs.lemmas.Nat.{pow_below}
-use Rattle.std.proofs.lemmas.Nat.Bits.{bit_at-pow_same}
+use Rattle.std.proofs.lemmas.Nat.Bits.{and_pow, bit_at-lt}
 use Rattle.std.proofs.lemmas.Option.{slice_get_read, get_or_from_slice_get}
 use Rattle.hir_tree.specs.Looks.{holds}
 use Rattle.hir_tree.specs.declared.look.Look.{Look}
 use Rattle.hir_tree.specs.declared.look.Look.TheVariants as look
 use Rattle.hir_core.specs.Program.{Way, gives, rank, spot_at}
-use Rattle.hir_core.specs.Masks.{HasBit, IsPart, match_bit, sure_bit, row_place, next_of, is_wide, Covers, IsMoved, IsDead, AreDead, NoRun}
+use Rattle.hir_core.specs.Masks.{HasBit, IsPart, match_bit, sure_bit, row_place, next_of, is_taker, is_wide, takes_byte, Covers, IsMoved, IsDead, AreDead, NoRun}
 use Rattle.hir_core.specs.Scan.{IsAskedFirst, IsRequired, IsFilterOf, IsPassedOver, Looked, NoEnd, NoneBegins, TellsStops, stops_at}
 use Rattle.hir_core.specs.declared.spot.Spot.{Spot}
 use Rattle.hir_core.specs.declared.scan.Candidate.{Candidate}
@@ -17,7 +18,7 @@ use Rattle.hir_core.specs.declared.scan.Scan.{Scan}
 use Rattle.hir_core.specs.declared.scan.FilterState.{FilterState}
 use Rattle.hir_core.specs.declared.scan.required.Required.{Required}
 use Rattle.hir_core.specs.declared.scan.prefilter.Prefilter.{Prefilter}
-use Rattle.hir_core.proofs.scan.bits.MaskLemmas.{HasBit-none, HasBit-above, HasBit-and, HasBit-apart, HasBit-eight}
+use Rattle.hir_core.proofs.scan.bits.MaskLemmas.{HasBit-pow, HasBit-none, HasBit-above, HasBit-and, HasBit-apart, HasBit-eight}
 use Rattle.hir_core.proofs.scan.reach.DeadLemmas.{AreDead-none, AreDead-part, Covers-part, IsDead-taker, spot_size-within, one_byte, NoRun-dead}
 
 -- the mask covers what comes after each spot that is live
@@ -25,11 +26,6 @@ abbrev pub CoversAfter : Scan → ℕ → ℕ → Type 0
 CoversAfter s live mask =
     (spots : List Spot) → IsFilterOf spots s → (i : ℕ) → i < length s.of.items → HasBit live i
     → Covers spots s.of.items s.last_look mask (next_of (spot_at spots (slice_index s.of.items i)))
-
--- a power of two has its bit
-HasBit-pow : (k : ℕ) → HasBit (2 ^ k) k
-unfolding HasBit
-HasBit-pow k = bit_at-pow_same k
 
 -- so does what the rows have
 pub CoversAfter-rows : (s : Scan) (live mask : ℕ)
@@ -182,6 +178,45 @@ module _ (text : List ℕ) (spots : List Spot) (s : Scan) (filter : IsFilterOf s
         (AreDead-part text spots s.of.items s.last_look q s.start c.before required.begun
         (AreDead-prefilter (end - q) q small (λ p from until. passed p (omega arith) (omega arith))
         (subst (λ (p : ℕ). AreDead text spots s.of.items s.last_look p c.before) (let there : end ≡ q + (end - q) = omega arith in there) later)))
+
+-- a power of two has nothing in common with a number that lacks its bit
+bit_and-none : (n i : ℕ) → (HasBit n i → ⊥) → bit_and n (2 ^ i) ≡ 0
+unfolding HasBit
+bit_and-none n i unset =
+    let low : bit_at n i < 2 = bit_at-lt n i in
+    let none : bit_at n i ≡ 0 = omega (arith, low, unset) in
+    let nothing : 0 * 2 ^ i ≡ 0 = omega arith in
+    and_pow n i ∙ ap (λ (b : ℕ). b * 2 ^ i) none ∙ nothing
+
+-- a spot takes a byte where its bit is set there
+pub takes_byte-is : (spots : List Spot) (s : Scan) → IsFilterOf spots s → (q b takes mask : ℕ) (is : Bool) → q < length s.firsts.items → b < 256
+    → takes ≡ slice_index s.takes.items b → mask ≡ slice_index s.firsts.items q → is_taker (spot_at spots q) ≡ true
+    → (is ≡ true → bit_and takes mask ≡ 0 → ⊥) → (is ≡ false → bit_and takes mask ≡ 0) → is ≡ takes_byte (spot_at spots q) b
+takes_byte-is spots s filter q b takes mask is few small reads same takes_bytes some none = cases (takes_byte (spot_at spots q) b) is refl refl
+  where
+    own : (i : ℕ) × (i < length s.of.items) × (slice_index s.of.items i ≡ q) × (slice_index s.firsts.items q ≡ 2 ^ i)
+    own = filter.own q few takes_bytes
+
+    i : ℕ
+    i = own.0
+
+    bit : mask ≡ 2 ^ i
+    bit = same ∙ own.3
+
+    Takes : ℕ → Type 0
+    Takes p = takes_byte (spot_at spots p) b ≡ true
+
+    cases : (t x : Bool) → takes_byte (spot_at spots q) b ≡ t → is ≡ x → x ≡ t
+    cases true true e f = refl
+    cases false false e f = refl
+    cases true false e f =
+        let has : HasBit takes i = subst (λ (m : ℕ). HasBit m i) (sym reads) (filter.takes i b own.1 small (subst Takes (sym own.2) e)) in
+        let both : HasBit (bit_and takes mask) i = HasBit-and takes mask i has (subst (λ (m : ℕ). HasBit m i) (sym bit) (HasBit-pow i)) in
+        absurd (HasBit-none i (subst (λ (m : ℕ). HasBit m i) (none f) both))
+    cases false true e f =
+        let unset : HasBit takes i → ⊥ =
+        λ has. true≢false (sym (subst Takes own.2 (filter.takes_no_more i b own.1 (subst (λ (m : ℕ). HasBit m i) reads has))) ∙ e) in
+        absurd (some f (subst (λ (m : ℕ). bit_and takes m ≡ 0) (sym bit) (bit_and-none takes i unset)))
 
 -- a dead spot gives nothing
 pub gives-dead : (text : List ℕ) (spots : List Spot) (at q : ℕ) (w : Way) → w.run.at ≡ at → IsDead text spots at q → gives text spots q w ≡ []

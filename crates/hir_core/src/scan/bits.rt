@@ -1,6 +1,6 @@
 //! Sets of spots as bits of a number.
 
-ghost use Rattle.std.specs.Prelude.{◌≡◌, ◌+◌, ◌*◌, ◌^◌, ◌<◌, ◌≤◌, ℕ, length, slice_index, IfOk, vec_len};
+ghost use Rattle.std.specs.Prelude.{◌≡◌, ◌+◌, ◌*◌, ◌^◌, ◌<◌, ◌≤◌, ◌⊎◌, ℕ, length, slice_index, replicate, IfOk, vec_len};
 ghost use Rattle.hir_core.specs.Masks.{HasBit, IsPart, Grows, IsMoved, AreMoved, row_place};
 
 use sd_base::NoMemory;
@@ -15,13 +15,15 @@ pub fn with_bit(mask: u64, bit: usize) -> u64
     requires { bit < 64 }
     ensures kept { IsPart mask result }
     ensures set { HasBit result bit }
+    ensures only { (i : ℕ) → HasBit result i → HasBit mask i ⊎ (i ≡ bit) }
 {
     mask | 1 << bit
 }
 
-/// As many masks. Refuses for want of memory alone.
+/// As many masks without a bit. Refuses for want of memory alone.
 pub fn masks(alloc: Global, count: usize) -> Result<Vec<u64>, NoMemory>
-    ensures { IfOk result (λ masks. vec_len masks ≡ count) }
+    ensures room { IfOk result (λ masks. vec_len masks ≡ count) }
+    ensures none { IfOk result (λ masks. masks.items ≡ replicate count 0) }
 {
     let mut masks = Vec::new(alloc);
     masks.resize(count, 0)?;

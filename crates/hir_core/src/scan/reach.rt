@@ -1,8 +1,8 @@
 //! Which spots may be tried without a byte.
 
-ghost use Rattle.std.specs.Prelude.{◌≡◌, ◌+◌, ◌*◌, ◌/◌, ◌%◌, ◌<◌, ◌≤◌, ◌++◌, ℕ, true, length, slice_index, slice_set, vec_len, IfOk};
+ghost use Rattle.std.specs.Prelude.{◌≡◌, ◌+◌, ◌*◌, ◌/◌, ◌%◌, ◌<◌, ◌≤◌, ◌++◌, ℕ, true, length, slice_index, slice_set, vec_len, IfOk, IfSome, IfNone};
 ghost use Rattle.hir_core.specs.Program.{spot_at};
-ghost use Rattle.hir_core.specs.Masks.{HasBit, IsPart, Asks, AllAsk, IsClosed, Covers, CoversBeside, AreAllTakers, SaysWhatFollows, CoverTheirSpots, is_reached, new_ways, ways_on, next_of};
+ghost use Rattle.hir_core.specs.Masks.{HasBit, IsPart, Asks, AllAsk, IsClosed, Covers, CoversBeside, AreAllTakers, SaysWhatFollows, CoverTheirSpots, HasOwnBit, HaveOwnBits, is_reached, new_ways, ways_on, next_of};
 ghost use Rattle.hir_core.specs.declared.spot.Spot.TheVariants as spot;
 
 use crate::Look;
@@ -194,6 +194,39 @@ pub fn after(
     Ok(after)
 }
 
+/// The bit of a spot, if it has one.
+fn bit_of(of: &[usize], place: usize) -> Option<usize>
+    ensures some { IfSome result (λ bit. (bit < length of.now) × (slice_index of.now bit ≡ place)) }
+    ensures none { IfNone result ((i : ℕ) → i < length of.now → slice_index of.now i ≡ place → ⊥) }
+{
+    for (bit, other) in of.iter().enumerate() {
+        if *other == place {
+            return Some(bit);
+        }
+    }
+    None
+}
+
+/// The bits of the spots that may be tried at a spot, as [`mask_from`] says: of one that has a bit, its own alone. Refuses for want of
+/// memory alone.
+fn own_mask(
+    alloc: Global,
+    spots: &[Spot],
+    of: &[usize],
+    place: usize,
+    look: Option<Look>,
+) -> Result<u64, NoMemory>
+    requires few { length of.now ≤ 62 }
+    requires all { AreAllTakers spots.now of.now }
+    ensures covers { IfOk result (λ mask. Covers spots.now of.now look mask place) }
+    ensures own { IfOk result (λ mask. HasOwnBit spots.now of.now place mask) }
+{
+    match bit_of(of, place) {
+        Some(bit) => Ok(1 << bit),
+        None => mask_from(alloc, spots, of, place, look),
+    }
+}
+
 /// For each spot, the bits of the spots that may be tried at it, as [`mask_from`] says; none where a program has too many spots to be
 /// searched block by block. Refuses for want of memory alone.
 pub fn firsts(
@@ -204,12 +237,13 @@ pub fn firsts(
 ) -> Result<Vec<u64>, NoMemory>
     requires few { length of.now ≤ 62 }
     requires all { AreAllTakers spots.now of.now }
-    ensures { IfOk result (λ firsts. CoverTheirSpots spots.now of.now look firsts.items) }
+    ensures covers { IfOk result (λ firsts. CoverTheirSpots spots.now of.now look firsts.items) }
+    ensures own { IfOk result (λ firsts. HaveOwnBits spots.now of.now firsts.items) }
 {
     let count = if spots.len() > SPOTS { 0 } else { spots.len() };
     let mut firsts = Vec::new(alloc);
     for place in 0..count {
-        let mask = mask_from(alloc, spots, of, place, look)?;
+        let mask = own_mask(alloc, spots, of, place, look)?;
         firsts.push(mask)?;
     }
     Ok(firsts)

@@ -1,9 +1,9 @@
 //! Which spots take which bytes.
 
-ghost use Rattle.std.specs.Prelude.{◌≡◌, ◌<◌, ◌≤◌, ℕ, true, length, slice_index, vec_len, IfOk};
+ghost use Rattle.std.specs.Prelude.{◌≡◌, ◌<◌, ◌≤◌, ℕ, true, length, slice_index, replicate, vec_len, IfOk};
 ghost use Rattle.hir_core.specs.Program.{spot_at};
 ghost use Rattle.hir_tree.specs.Runs.{in_set};
-ghost use Rattle.hir_core.specs.Masks.{HasBit, Grows, AreTakers, AreAllTakers, SaysWhatTakes, SaysWhichAreWide, is_taker, takes_byte, has_wide, is_wide};
+ghost use Rattle.hir_core.specs.Masks.{HasBit, Grows, GrowsOnly, AreTakers, AreAllTakers, SaysNoMore, SaysWhatTakes, SaysWhichAreWide, is_taker, takes_byte, has_wide, is_wide};
 
 use crate::scan::bits::{masks, with_bit};
 use crate::spot::Spot;
@@ -38,6 +38,7 @@ fn add_range(takes: &mut [u64], bit: usize, start: u8, end: u8)
     requires bit { bit < 64 }
     ensures grows { Grows takes.old takes.new }
     ensures has { (b : ℕ) → start ≤ b → b ≤ end → HasBit (slice_index takes.new b) bit }
+    ensures only { GrowsOnly bit (λ b. (start ≤ b) × (b ≤ end)) takes.old takes.new }
 {
     for byte in start..=end {
         let place = byte as usize;
@@ -51,6 +52,7 @@ fn add_bytes(takes: &mut [u64], bit: usize, set: &ByteRanges)
     requires bit { bit < 64 }
     ensures grows { Grows takes.old takes.new }
     ensures has { (b : ℕ) → in_set set.now b ≡ true → HasBit (slice_index takes.new b) bit }
+    ensures only { GrowsOnly bit (λ b. in_set set.now b ≡ true) takes.old takes.new }
 {
     for i in 0..set.len() {
         let (start, end) = set.get(i);
@@ -64,6 +66,7 @@ fn add_ascii(takes: &mut [u64], bit: usize, start: char, end: char)
     requires bit { bit < 64 }
     ensures grows { Grows takes.old takes.new }
     ensures has { (b : ℕ) → b < 128 → start ≤ b → b ≤ end → HasBit (slice_index takes.new b) bit }
+    ensures only { GrowsOnly bit (λ b. (b < 128) × (start ≤ b) × (b ≤ end)) takes.old takes.new }
 {
     let start = start as u32;
     let end = (end as u32).min(127);
@@ -78,6 +81,7 @@ fn add_chars(takes: &mut [u64], bit: usize, set: &CharRanges)
     requires bit { bit < 64 }
     ensures grows { Grows takes.old takes.new }
     ensures has { (b : ℕ) → b < 128 → in_set set.now b ≡ true → HasBit (slice_index takes.new b) bit }
+    ensures only { GrowsOnly bit (λ b. (b < 128) × (in_set set.now b ≡ true)) takes.old takes.new }
 {
     for i in 0..set.len() {
         let (start, end) = set.get(i);
@@ -91,6 +95,7 @@ fn add_spot(takes: &mut [u64], bit: usize, spot: &Spot)
     requires bit { bit < 64 }
     ensures grows { Grows takes.old takes.new }
     ensures has { (b : ℕ) → takes_byte spot.now b ≡ true → HasBit (slice_index takes.new b) bit }
+    ensures only { GrowsOnly bit (λ b. takes_byte spot.now b ≡ true) takes.old takes.new }
 {
     match spot {
         Spot::Bytes { set, .. } => add_bytes(takes, bit, set),
@@ -103,7 +108,9 @@ fn add_spot(takes: &mut [u64], bit: usize, spot: &Spot)
 fn add_spots(takes: &mut [u64], spots: &[Spot], of: &[usize])
     requires room { length takes.old ≡ 256 }
     requires few { length of.now ≤ 62 }
-    ensures { SaysWhatTakes spots.now of.now takes.new }
+    requires none { takes.old ≡ replicate 256 0 }
+    ensures has { SaysWhatTakes spots.now of.now takes.new }
+    ensures only { SaysNoMore spots.now of.now takes.new }
 {
     for (i, place) in of.iter().enumerate() {
         if let Some(spot) = spots.get(*place) {
@@ -117,6 +124,7 @@ pub fn takes(alloc: Global, spots: &[Spot], of: &[usize]) -> Result<Vec<u64>, No
     requires { length of.now ≤ 62 }
     ensures room { IfOk result (λ takes. vec_len takes ≡ 256) }
     ensures says { IfOk result (λ takes. SaysWhatTakes spots.now of.now takes.items) }
+    ensures only { IfOk result (λ takes. SaysNoMore spots.now of.now takes.items) }
 {
     let mut takes = masks(alloc, 256)?;
     add_spots(&mut takes, spots, of);

@@ -2,8 +2,8 @@
 use Rattle.std.proofs.Common.{◌≡◌, ◌≢◌, ℕ, ◌+◌, ◌-◌, ◌*◌, ◌/◌, ◌%◌, ◌^◌, ◌<◌, ◌≤◌, min, max, ◌⊎◌, inl, inr, List, get_or, set, length, bit_and, bit_or, sym, ap, subst, ◌∙◌, arith, w64, get_or-set_same, get_or-set_other}
 use Rattle.std.proofs.lemmas.Bool.{cases_eq, cases_lt}
 use Rattle.std.proofs.lemmas.List.{get_or_past}
-use Rattle.std.proofs.lemmas.Nat.{shr-shr}
-use Rattle.std.proofs.lemmas.Nat.Bits.{bit_at-zero, bit_at_and, bit_at_or, bit_at-lt, bit_at_above, bit_at_set_same, bit_at_cat_low}
+use Rattle.std.proofs.lemmas.Nat.{pow_below, shr-shr}
+use Rattle.std.proofs.lemmas.Nat.Bits.{bit_at-pow_other, bit_at-pow_same, bit_at-zero, bit_at_and, bit_at_or, bit_at-lt, bit_at_above, bit_at_set_same, bit_at_cat_low}
 use Rattle.std.specs.Int.{bit_at}
 use Rattle.hir_core.specs.Masks.{HasBit, IsPart, Grows, sure_bit}
 
@@ -51,6 +51,37 @@ HasBit-sure = omega arith
 pub HasBit-set : (mask k : ℕ) → k < 64 → HasBit (bit_or mask (1 * 2 ^ k % 2 ^ 64)) k
 unfolding HasBit
 HasBit-set mask k lt = bit_at_set_same w64 mask k lt
+
+-- a power of two has its bit
+pub HasBit-pow : (k : ℕ) → HasBit (2 ^ k) k
+unfolding HasBit
+HasBit-pow k = bit_at-pow_same k
+
+-- and no other
+pub HasBit-pow_only : (k i : ℕ) → HasBit (2 ^ k) i → i ≡ k
+unfolding HasBit
+HasBit-pow_only k i h = elim (cases_eq i k) [
+  | inl here ↦ here
+  | inr other ↦ let e : ◌≡◌ {A = ℕ} 0 1 = sym (bit_at-pow_other k i other) ∙ h in absurd (omega arith)
+]
+
+-- what both have is what one has
+pub HasBit-or : (a b i : ℕ) → HasBit (bit_or a b) i → HasBit a i ⊎ HasBit b i
+unfolding HasBit
+HasBit-or a b i h = either (bit_at a i) (bit_at b i) (bit_at-lt a i) (sym (bit_at_or a b i) ∙ h)
+  where
+    either : (x y : ℕ) → x < 2 → max x y ≡ 1 → (x ≡ 1) ⊎ (y ≡ 1)
+    either x y l e = elim (cases_eq x 1) [ inl one ↦ inl one | inr other ↦ inr (omega arith) ]
+
+-- no bit but the one that was set
+pub HasBit-set_only : (mask k i : ℕ) → k < 64 → HasBit (bit_or mask (1 * 2 ^ k % 2 ^ 64)) i → HasBit mask i ⊎ (i ≡ k)
+HasBit-set_only mask k i lt h = elim (HasBit-or mask (1 * 2 ^ k % 2 ^ 64) i h) [
+  | inl before ↦ inl before
+  | inr set_bit ↦
+      let below : 2 ^ k < 2 ^ 64 = pow_below k 64 lt in
+      let whole : 1 * 2 ^ k % 2 ^ 64 ≡ 2 ^ k = omega arith in
+      inr (HasBit-pow_only k i (subst (λ (m : ℕ). HasBit m i) whole set_bit))
+]
 
 -- a bit of a number is one of its eight bits
 pub HasBit-eight : (mask i : ℕ) → HasBit mask i → HasBit (mask / 2 ^ (8 * (i / 8)) % 256) (i % 8)

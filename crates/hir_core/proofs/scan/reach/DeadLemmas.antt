@@ -1,5 +1,5 @@
 -- Spots that give nothing at a place.
-use Rattle.std.proofs.Common.{◌≡◌, ℕ, zero, suc, ◌+◌, ◌*◌, ◌/◌, ◌%◌, ◌<◌, ◌≤◌, Bool, true, false, ◌⊎◌, inl, inr, List, [], ◌∷◌, ◌++◌, length, drop, slice_index, Option, Some, None, if◌then◌else◌, refl, sym, ap, ap₂, ◌∙◌, subst, true≢false, append-nil, arith, get_or-drop, length-append, length-drop}
+use Rattle.std.proofs.Common.{◌≡◌, ℕ, zero, suc, ◌+◌, ◌*◌, ◌/◌, ◌%◌, ◌^◌, ◌<◌, ◌≤◌, Bool, true, false, ◌⊎◌, inl, inr, List, [], ◌∷◌, ◌++◌, length, drop, slice_index, Option, Some, None, if◌then◌else◌, refl, sym, ap, ap₂, ◌∙◌, subst, true≢false, append-nil, arith, get_or-drop, length-append, length-drop}
 use Rattle.std.specs.Prelude.{◌&&◌, ◌||◌, nat_le, nat_lt, option_map}
 use Rattle.std.specs.List.{flat_map, Contains}
 use Rattle.std.proofs.lemmas.Bool.{cases_eq, cases_lt, or_left, or_right}
@@ -15,11 +15,11 @@ use Rattle.hir_tree.specs.Sides.{byte_after, char_after}
 use Rattle.hir_tree.specs.declared.look.Look.{Look}
 use Rattle.hir_tree.specs.Runs.{Run, begin, moved, mark, in_set, size_in, byte_size, char_size, as_list, take_size}
 use Rattle.hir_core.specs.Program.{Way, way, marked, opened, closed, spot_at, visit_as, gives_within, gives, rank}
-use Rattle.hir_core.specs.Masks.{HasBit, IsPart, Grows, match_bit, sure_bit, is_taker, next_of, takes_byte, has_wide, is_wide, ways_on, is_reached, Asks, IsShut, IsClosed, IsDead, AreDead, Covers, CoversBeside, CoverTheirSpots, NoRun, AreAllTakers}
+use Rattle.hir_core.specs.Masks.{HasBit, IsPart, Grows, match_bit, sure_bit, is_taker, next_of, takes_byte, has_wide, is_wide, ways_on, is_reached, Asks, IsShut, IsClosed, IsDead, AreDead, Covers, CoversBeside, CoverTheirSpots, HasOwnBit, HaveOwnBits, NoRun, AreAllTakers}
 use Rattle.hir_core.specs.declared.spot.Spot.{Spot}
 use Rattle.hir_core.specs.declared.spot.Spot.TheVariants as spot
 use Rattle.hir_tree.proofs.RunsLemmas.{byte_size-within, char_size-within}
-use Rattle.hir_core.proofs.scan.bits.MaskLemmas.{HasBit-none}
+use Rattle.hir_core.proofs.scan.bits.MaskLemmas.{HasBit-none, HasBit-pow}
 
 -- fewer bits are dead too
 pub AreDead-part : (text : List ℕ) (spots : List Spot) (of : List ℕ) (look : Option Look) (at mask more : ℕ) → IsPart mask more
@@ -67,6 +67,20 @@ CoverTheirSpots-more spots of look masks mask q many h covers p low = elim (case
   | inr past ↦
       let here : q ≡ p = omega (arith, low, past, many, length-append masks (mask ∷ [])) in
       subst (λ (m : ℕ). Covers spots of look m p) (sym (get_or_push masks mask 0 p (many ∙ here))) (subst (Covers spots of look mask) here covers)
+]
+
+-- a spot's own bit covers it
+pub Covers-own : (spots : List Spot) (of : List ℕ) (look : Option Look) (i q : ℕ) → i < length of → slice_index of i ≡ q → Covers spots of look (2 ^ i) q
+Covers-own spots of look i q low is text at dead = subst (IsDead text spots at) is (dead.dead i low (HasBit-pow i))
+
+-- a mask more, with the spot's own bit
+pub HaveOwnBits-more : (spots : List Spot) (of masks : List ℕ) (mask q : ℕ) → length masks ≡ q → HaveOwnBits spots of masks → HasOwnBit spots of q mask
+    → HaveOwnBits spots of (masks ++ mask ∷ [])
+HaveOwnBits-more spots of masks mask q many h own p low = elim (cases_lt p (length masks)) [
+  | inl before ↦ subst (HasOwnBit spots of p) (sym (get_or_append_left masks (mask ∷ []) 0 p before)) (h p before)
+  | inr past ↦
+      let here : q ≡ p = omega (arith, low, past, many, length-append masks (mask ∷ [])) in
+      subst (HasOwnBit spots of p) (sym (get_or_push masks mask 0 p (many ∙ here))) (subst (λ (r : ℕ). HasOwnBit spots of r mask) here own)
 ]
 
 either_way : (b : Bool) (xs : List Run) → xs ≡ [] → (if b then [] else xs) ≡ []

@@ -14,11 +14,13 @@ returns c =
       few = search rules;
       takers = search rules;
       takes = search rules;
+      takes_no_more = search rules;
       follows = search rules;
       moves = search rules;
       wide = search rules;
       start = search rules;
       firsts = search rules;
+      own = search rules;
       first = search rules;
       prefilter =
           prefilter_of c.in_ok-after.after.items c.in_ok-takes.takes.items start wide required prefilter

@@ -1,4 +1,4 @@
-use Rattle.hir_core.proofs.scan.bits.MaskLemmas.{HasBit-or_left, HasBit-set}
+use Rattle.hir_core.proofs.scan.bits.MaskLemmas.{HasBit-or_left, HasBit-set, HasBit-set_only}
 use Rattle.hir_core.proofs.scan.bits.with_bit.Goals as goal
 
 pub returns-clause-kept : goal.returns-clause-kept
@@ -6,3 +6,6 @@ returns-clause-kept c i has = HasBit-or_left c.args.mask _ i has
 
 pub returns-clause-set : goal.returns-clause-set
 returns-clause-set c = HasBit-set c.args.mask c.args.bit c.requires
+
+pub returns-clause-only : goal.returns-clause-only
+returns-clause-only c i has = HasBit-set_only c.args.mask c.args.bit i c.requires has

@@ -1,6 +1,6 @@
 use Rattle.std.proofs.Common.{sym, subst, arith}
-use Rattle.hir_core.specs.Masks.{CoverTheirSpots}
-use Rattle.hir_core.proofs.scan.reach.DeadLemmas.{CoverTheirSpots-more}
+use Rattle.hir_core.specs.Masks.{CoverTheirSpots, HaveOwnBits}
+use Rattle.hir_core.proofs.scan.reach.DeadLemmas.{CoverTheirSpots-more, HaveOwnBits-more}
 use Rattle.hir_core.proofs.scan.reach.firsts.Goals as goal
 
 pub loop-place-preserved : goal.loop-place-preserved
@@ -9,5 +9,9 @@ loop-place-preserved c = record {
   covers =
       subst (CoverTheirSpots c.args.spots.now c.args.of.now c.args.look) (sym c.in_ok-push.ensures.items)
       (CoverTheirSpots-more c.args.spots.now c.args.of.now c.args.look c.loop-place.firsts.items c.in_ok-mask.mask c.loop-place.place (omega (arith, c.loop-place.invariant.count))
-      c.loop-place.invariant.covers c.in_ok-mask.ensures);
+      c.loop-place.invariant.covers c.in_ok-mask.ensures.covers);
+  own =
+      subst (HaveOwnBits c.args.spots.now c.args.of.now) (sym c.in_ok-push.ensures.items)
+      (HaveOwnBits-more c.args.spots.now c.args.of.now c.loop-place.firsts.items c.in_ok-mask.mask c.loop-place.place (omega (arith, c.loop-place.invariant.count))
+      c.loop-place.invariant.own c.in_ok-mask.ensures.own);
 }

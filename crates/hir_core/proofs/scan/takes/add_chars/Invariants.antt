@@ -1,6 +1,6 @@
 use Rattle.std.proofs.Common.{◌≡◌, ℕ, ◌<◌, true, take, get_or}
 use Rattle.hir_tree.specs.Runs.{in_set}
-use Rattle.hir_core.specs.Masks.{HasBit, Grows}
+use Rattle.hir_core.specs.Masks.{HasBit, Grows, GrowsOnly}
 use Rattle.hir_core.proofs.scan.takes.add_chars.Given as goal
 
 -- the ranges so far are done
@@ -8,4 +8,5 @@ abbrev pub invariant-loop-i : goal.invariant-loop-i
 invariant-loop-i l = record {
   grows : Grows l.fn.takes l.takes;
   has : (b : ℕ) → b < 128 → in_set (take l.i l.set) b ≡ true → HasBit (get_or l.takes b 0) l.bit;
+  only : GrowsOnly l.bit (λ b. (b < 128) × (in_set (take l.i l.set) b ≡ true)) l.fn.takes l.takes;
 }
