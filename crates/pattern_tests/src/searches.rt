@@ -338,15 +338,19 @@ fn noted_steps(alloc: Global, searcher: &Searcher, text: &[u8]) -> Result<(bool,
     Ok((is_found?, steps.into_ledger().ticks))
 }
 
-// `b` on `aab` has one spot whose visits count, so at most one step for each of the four places, and `(?:x*)*y` has 6 spots, so
-// at most 6 for each of the 200,001 places.
+// `[a-z]` on `aab` has one spot whose visits count, so at most one step for each of the four places. `(?:x*)*y` has 6 spots, so at most
+// 6 for each of the 200,001 places, and where a `y` follows, for each of the 200,002. A pattern that is one text is found without steps.
 #[test]
 fn a_place_takes_a_step_for_each_spot(rt: HostRuntime) -> Result<(), Fail> {
-    let (is_found, ticks) = steps_of(rt.alloc(), b"b", b"aab")?;
+    let (is_found, ticks) = steps_of(rt.alloc(), b"[", b"aab")?;
     assert!(rt; is_found && 0 < ticks && ticks <= 4, "{ticks}");
+    assert_eq!(rt; steps_of(rt.alloc(), b"b", b"aab")?, (true, 0));
     let mut text = Vec::new(rt.alloc());
     text.resize(200_000, b'x')?;
     let (is_found, ticks) = steps_of(rt.alloc(), b"x**y.", &text)?;
-    assert!(rt; !is_found && 0 < ticks && ticks <= 1_200_006, "{ticks}");
+    assert!(rt; !is_found && ticks <= 1_200_006, "{ticks}");
+    text.push(b'y')?;
+    let (is_found, ticks) = steps_of(rt.alloc(), b"x**y.", &text)?;
+    assert!(rt; is_found && 0 < ticks && ticks <= 1_200_012, "{ticks}");
     Ok(())
 }

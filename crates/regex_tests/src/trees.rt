@@ -21,7 +21,7 @@ const FLAGS: PatternFlags = PatternFlags {
 };
 
 /// The tree of a pattern.
-fn tree(alloc: Global, pattern: &str) -> Result<Hir, Fail> {
+pub fn tree(alloc: Global, pattern: &str) -> Result<Hir, Fail> {
     Ok(parse(alloc, pattern, &FLAGS)?.hir)
 }
 

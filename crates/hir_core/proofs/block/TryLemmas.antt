@@ -1,5 +1,6 @@
 -- The spots that are tried in a block, each once at each place, and the ticks of them.
-use Rattle.std.proofs.Common.{◌≡◌, ℕ, zero, suc, ◌+◌, ◌-◌, ◌*◌, ◌<◌, ◌≤◌, Bool, true, false, List, [], ◌∷◌, ◌++◌, length, refl, sym, ap, ◌∙◌, if◌then◌else◌, arith}
+use Rattle.std.proofs.Common.{◌≡◌, ℕ, zero, suc, ◌+◌, ◌-◌, ◌*◌, ◌<◌, ◌≤◌, Bool, true, false, List, [], ◌∷◌, ◌++◌, length, if◌then◌else◌}
+use Rattle.std.proofs.Common.{refl, sym, ap, ◌∙◌, arith}
 use Rattle.std.specs.Prelude.{◌&&◌, not, slice_set, replicate}
 use Rattle.std.proofs.Math.Nat.{mul-le-mul_left}
 use Rattle.std.proofs.lemmas.List.{length-append, get_or_append_left, get_or-append-add}
@@ -8,7 +9,7 @@ use Rattle.sd_base.specs.Steps.{IsTicked, TicksAtMost}
 use Rattle.sd_base.specs.declared.steps.Steps.{Steps}
 use Rattle.sd_base.proofs.StepsLemmas.{at_most}
 use Rattle.hir_core.specs.Blocks.{mark_of}
-use Rattle.hir_core.specs.Pass.{counted, counted_visits, is_counted, visit_ticks, was_visited}
+use Rattle.hir_core.specs.Pass.{CountsVisits, counted, counted_visits, is_counted, visit_ticks, was_visited}
 use Rattle.hir_core.specs.Program.{spot_at}
 use Rattle.hir_core.specs.Tries.{spots_over, CountsTries}
 use Rattle.hir_core.specs.declared.spot.Spot.{Spot}
@@ -60,19 +61,20 @@ tries_set (s ∷ spots) (b ∷ bits) zero e = cases (is_counted s) b
     cases false false = omega arith
 tries_set (s ∷ spots) (b ∷ bits) (suc q) e = let rest = tries_set spots bits q (omega arith) in omega arith
 
+-- nothing is visited
+pub visits_none : {L : Type 0} {noted : L → L} {spots : List Spot} {marks : List Bool} {steps : Steps L} → CountsVisits noted spots marks marks steps steps
+visits_none {noted = noted} {spots = spots} {marks = marks} {steps = steps} = CountsVisits-none noted spots marks steps
+
+-- visits add up
+pub visits_then : {L : Type 0} {noted : L → L} {spots : List Spot} {a b c : List Bool} {old mid new : Steps L}
+    → CountsVisits noted spots a b old mid → CountsVisits noted spots b c mid new → CountsVisits noted spots a c old new
+visits_then {noted = noted} {spots = spots} {a = a} {b = b} {c = c} {old = old} {mid = mid} {new = new} first more =
+    CountsVisits-add noted spots a b c old mid new first more
+
 module _ {L : Type 0} (noted : L → L) (spots : List Spot) (begin end : ℕ) where
-  -- nothing is tried
-  pub CountsTries-none : (marks : List Bool) (steps : Steps L) → CountsTries noted spots begin end marks marks steps steps
-  CountsTries-none marks steps = CountsVisits-none noted (spots_over (end - begin) spots) marks steps
-
-  -- more is tried
-  pub CountsTries-add : (a b c : List Bool) (old mid new : Steps L) → CountsTries noted spots begin end a b old mid
-      → CountsTries noted spots begin end b c mid new → CountsTries noted spots begin end a c old new
-  CountsTries-add a b c old mid new first more = CountsVisits-add noted (spots_over (end - begin) spots) a b c old mid new first more
-
   -- a spot is tried at a place
-  pub CountsTries-one : (at q mark : ℕ) (marks marks' : List Bool) (old new : Steps L) → length spots * (end - begin) ≤ length marks → begin ≤ at → at < end
-      → q < length spots → mark ≡ mark_of (length spots) begin at q → was_visited marks mark ≡ false → marks' ≡ slice_set marks mark true
+  pub CountsTries-one : (at q mark : ℕ) (marks marks' : List Bool) (old new : Steps L)
+      → length spots * (end - begin) ≤ length marks → begin ≤ at → at < end → q < length spots → mark ≡ mark_of (length spots) begin at q → was_visited marks mark ≡ false → marks' ≡ slice_set marks mark true
       → IsTicked noted (visit_ticks (spot_at spots q) false) old new → CountsTries noted spots begin end marks marks' old new
   CountsTries-one at q mark marks marks' old new room from to few same unset set ticked = record {
     taken = visit_ticks (spot_at spots q) false;

@@ -6,7 +6,7 @@ use Rattle.hir_core.specs.Trails.{Stop, way_of, stops_of, stops_on}
 use Rattle.hir_core.specs.Pass.{first_of, stop_gives, stops_give}
 use Rattle.hir_core.proofs.block.FollowLemmas.{HasRoom, FollowsIn, FollowsIn-begin, FollowsIn-kept, FollowsIn-match, FollowsIn-turn, FollowsIn-falls, FollowsIn-end, keeps-trying}
 use Rattle.hir_core.proofs.block.MarkLemmas.{KeepsMarks-none, KeepsMarks-then}
-use Rattle.hir_core.proofs.block.TryLemmas.{CountsTries-none, CountsTries-add}
+use Rattle.hir_core.proofs.block.TryLemmas.{visits_none, visits_then}
 use Rattle.hir_core.proofs.block.Block.follow.Goals as goal
 
 pub loop-here-init : goal.loop-here-init
@@ -16,7 +16,7 @@ loop-here-init g c = record {
       c.args.self.now.later _ c.requires.falls (ap₂ (λ (w : Way) (ps : List Stop). (c.args.spot, w) ∷ ps) c.clear.ensures.way c.clear.ensures.stops) refl
       c.requires.begin c.requires.at c.requires.later c.requires.spent;
   marks = KeepsMarks-none _;
-  ticks = CountsTries-none g.L.Ledger.noted c.args.spots.now c.args.places.begin c.args.places.end c.args.self.now.marks c.args.steps.now;
+  ticks = visits_none;
 }
 
 pub loop-here-preserved-then-self-places : goal.loop-here-preserved-then-self-places
@@ -31,14 +31,10 @@ loop-here-preserved-then-self-places g c =
     }
 
 pub returns-in_err-turn-clause-ticks : goal.returns-in_err-turn-clause-ticks
-returns-in_err-turn-clause-ticks g c =
-    CountsTries-add g.L.Ledger.noted c.args.spots.now c.args.places.begin c.args.places.end c.args.self.now.marks c.loop-here.self.marks c.turn.new.self.marks c.args.steps.now
-    c.loop-here.steps c.turn.new.steps c.loop-here.invariant.ticks c.turn.ensures.ticks
+returns-in_err-turn-clause-ticks g c = visits_then c.loop-here.invariant.ticks c.turn.ensures.ticks
 
 pub returns-in-Match-clause-ticks : goal.returns-in-Match-clause-ticks
-returns-in-Match-clause-ticks g c =
-    CountsTries-add g.L.Ledger.noted c.args.spots.now c.args.places.begin c.args.places.end c.args.self.now.marks c.loop-here.self.marks c.turn.new.self.marks c.args.steps.now
-    c.loop-here.steps c.turn.new.steps c.loop-here.invariant.ticks c.turn.ensures.ticks
+returns-in-Match-clause-ticks g c = visits_then c.loop-here.invariant.ticks c.turn.ensures.ticks
 
 pub returns-in-Match-clause-followed : goal.returns-in-Match-clause-followed
 returns-in-Match-clause-followed g c =
@@ -77,9 +73,7 @@ loop-here-preserved g c =
           KeepsMarks-then c.loop-here.invariant.marks
           (subst (KeepsMarks c.loop-here.self.marks) (sym step.1)
           (keeps-trying c.args.text.now c.args.spots.now c.args.places.begin c.next.new.self.at c.in-Some.here c.loop-here.self.marks));
-      ticks =
-          CountsTries-add g.L.Ledger.noted c.args.spots.now c.args.places.begin c.args.places.end c.args.self.now.marks c.loop-here.self.marks c.turn.new.self.marks c.args.steps.now
-          c.loop-here.steps c.turn.new.steps c.loop-here.invariant.ticks c.turn.ensures.ticks;
+      ticks = visits_then c.loop-here.invariant.ticks c.turn.ensures.ticks;
     }
 
 pub returns-clause-followed : goal.returns-clause-followed

@@ -4,18 +4,14 @@ use Rattle.hir_core.specs.Program.{Way}
 use Rattle.hir_core.specs.Trails.{way_of}
 use Rattle.hir_core.proofs.block.MarkLemmas.{KeepsMarks-then}
 use Rattle.hir_core.proofs.block.ThreadsLemmas.{answer-begun}
-use Rattle.hir_core.proofs.block.TryLemmas.{CountsTries-add}
+use Rattle.hir_core.proofs.block.TryLemmas.{visits_then}
 use Rattle.hir_core.proofs.block.Block.follow_starts.Goals as goal
 
 pub returns-in_err-follow-clause-ticks : goal.returns-in_err-follow-clause-ticks
-returns-in_err-follow-clause-ticks g c =
-    CountsTries-add g.L.Ledger.noted c.args.spots.now c.args.places.begin c.args.places.end c.args.self.now.marks c.loop-starts.self.marks c.follow.new.self.marks c.args.steps.now
-    c.loop-starts.steps c.follow.new.steps c.loop-starts.invariant.ticks c.follow.ensures.ticks
+returns-in_err-follow-clause-ticks g c = visits_then c.loop-starts.invariant.ticks c.follow.ensures.ticks
 
 pub returns-then-branch-clause-ticks : goal.returns-then-branch-clause-ticks
-returns-then-branch-clause-ticks g c =
-    CountsTries-add g.L.Ledger.noted c.args.spots.now c.args.places.begin c.args.places.end c.args.self.now.marks c.loop-starts.self.marks c.follow.new.self.marks c.args.steps.now
-    c.loop-starts.steps c.follow.new.steps c.loop-starts.invariant.ticks c.follow.ensures.ticks
+returns-then-branch-clause-ticks g c = visits_then c.loop-starts.invariant.ticks c.follow.ensures.ticks
 
 pub returns-then-branch-clause-answer : goal.returns-then-branch-clause-answer
 returns-then-branch-clause-answer g c =
@@ -41,7 +37,5 @@ loop-starts-preserved g c =
       begin = omega (arith, c.loop-starts.invariant.begin, c.pass_over.ensures.after);
       within = c.pass_over.ensures.within;
       marks = KeepsMarks-then c.loop-starts.invariant.marks c.in_ok-follow.ensures.marks;
-      ticks =
-          CountsTries-add g.L.Ledger.noted c.args.spots.now c.args.places.begin c.args.places.end c.args.self.now.marks c.loop-starts.self.marks c.follow.new.self.marks c.args.steps.now
-          c.loop-starts.steps c.follow.new.steps c.loop-starts.invariant.ticks c.follow.ensures.ticks;
+      ticks = visits_then c.loop-starts.invariant.ticks c.follow.ensures.ticks;
     }
