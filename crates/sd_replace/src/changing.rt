@@ -13,8 +13,8 @@ ghost use Rattle.sd_replace.specs.OneChange.{one_change};
 ghost use Rattle.sd_replace.specs.Quota.{Knows, Limits};
 ghost use Rattle.sd_replace.specs.Replacement.{Changes};
 ghost use Rattle.sd_replace.specs.Replacer.{replacement_of};
-ghost use Rattle.sd_replace.specs.Searching.{AreOfMatch, groups_or_none};
-ghost use Rattle.sd_replace.specs.Templates.{SufficeFor, pieces_text};
+ghost use Rattle.sd_replace.specs.Searching.{AreOfMatch};
+ghost use Rattle.sd_replace.specs.Templates.{pieces_text};
 ghost use Rattle.sd_replace.specs.Writing.{HasWritten, IsNothing};
 
 use crate::Replacer;
@@ -36,10 +36,9 @@ impl Replacer {
         ensures changed { IfOk result (Tells (Changes (replacement_of self.now)) content.now) }
         ensures few { IfOk result (AreFew content.now) }
     {
-        let mut search = Search::new(&self.matcher);
+        let mut search = Search::new(&self.matcher, &self.kept)?;
         let changed = self.change_by(&mut search, content);
-        // A value that is let go by a call isn't taken apart here, which would be dear to check.
-        drop(search);
+        self.kept.set(Some(search.into_groups()));
         changed
     }
 
@@ -95,7 +94,7 @@ impl Replacer {
         }
     }
 
-    /// The first match, with its groups where there are references to them. The search is at its start.
+    /// The first match. The search is at its start.
     pub(crate) fn find_first(
         &self,
         search: &mut Search<'_>,
@@ -105,33 +104,7 @@ impl Replacer {
         ensures found { IfOk result (IsFirst (accepts None (end_at (tree_of self.now.matcher.searcher) content.now)) 0 (length content.now)) }
         ensures stands { IfOk result (λ found. IfSome found (StandsAtTheFirst self.now content.now search.new)) }
     {
-        let Some(first) = search.next(content)? else {
-            return Ok(None);
-        };
-        self.ask_for_groups(search, content, first)?;
-        Ok(Some(first))
-    }
-
-    /// Asks a search for groups, if there are references to them.
-    fn ask_for_groups(
-        &self,
-        search: &mut Search<'_>,
-        content: &[u8],
-        found: Match,
-    ) -> Result<(), NoMemory>
-        requires found { end_at (tree_of search.old.matcher.now.searcher) content.now found.start ≡ Some found.end }
-        requires within { found.end ≤ length content.now }
-        requires groups { AreOfMatch (tree_of search.old.matcher.now.searcher) content.now found.start search.old.groups }
-        ensures groups { OnOk result (AreOfMatch (tree_of search.old.matcher.now.searcher) content.now found.start search.new.groups) }
-        ensures asked { OnOk result (SufficeFor self.now.template.pieces.items search.new.groups) }
-        ensures pattern { search.new.matcher.now ≡ search.old.matcher.now }
-        ensures from { search.new.from ≡ search.old.from }
-        ensures last { search.new.last ≡ search.old.last }
-    {
-        if self.template.has_references() {
-            search.ask_for_groups(content, found)?;
-        }
-        Ok(())
+        search.next(content)
     }
 
     /// The new bytes, made from match to match. The search found the first one last.
@@ -183,7 +156,7 @@ impl Replacer {
     fn replace_one(
         &self,
         content: &[u8],
-        groups: &Option<RegexCaptures>,
+        groups: &RegexCaptures,
         found: Match,
         quota: &mut Quota<'_>,
         made: &mut Made,
@@ -194,7 +167,6 @@ impl Replacer {
         requires few { made.old.count ≤ found.start }
         requires within { found.end ≤ length content.now }
         requires groups { AreOfMatch (tree_of self.now.matcher.searcher) content.now found.start groups.now }
-        requires asked { SufficeFor self.now.template.pieces.items groups.now }
         ensures written { OnOk result ((done : List Span) → Knows quota.old done
             → HasWritten (replacement_of self.now) content.now done made.old.new_bytes.items made.old.copied made.old.count
             → HasWritten (replacement_of self.now) content.now (done ++ found ∷ []) made.new.new_bytes.items made.new.copied made.new.count) }
@@ -240,14 +212,14 @@ impl Made {
         content: &[u8],
         found: Match,
         template: &Template,
-        groups: &Option<RegexCaptures>,
+        groups: &RegexCaptures,
     ) -> Result<(), NoMemory>
         requires behind { self.old.copied ≤ found.start }
         requires few { self.old.count + 1 < 2 ^ 128 }
         requires within { found.end ≤ length content.now }
-        requires lie { LieIn (groups_or_none groups.now) content.now }
+        requires lie { LieIn groups.now content.now }
         ensures bytes { OnOk result (self.new.new_bytes.items ≡ (self.old.new_bytes.items ++ slice_range content.now self.old.copied found.start)
-            ++ pieces_text (group_text content.now (groups_or_none groups.now)) template.now.pieces.items) }
+            ++ pieces_text (group_text content.now groups.now) template.now.pieces.items) }
         ensures copied { OnOk result (self.new.copied ≡ found.end) }
         ensures count { OnOk result (self.new.count ≡ self.old.count + 1) }
     {

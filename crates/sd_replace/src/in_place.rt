@@ -9,7 +9,6 @@ ghost use Rattle.sd_replace.specs.FirstMatch.{IsAtTheStart, StandsAtTheFirst};
 ghost use Rattle.sd_replace.specs.InPlace.{Became, HasPut, IsRewritten, IsRoomOf, IsUntouched, TellsOf, made_of, put_over};
 ghost use Rattle.sd_replace.specs.Replacement.{Changes};
 ghost use Rattle.sd_replace.specs.Replacer.{replacement_of};
-ghost use Rattle.sd_replace.specs.Searching.{groups_or_none};
 ghost use Rattle.sd_replace.specs.Templates.{pieces_text};
 
 use crate::Replacer;
@@ -28,10 +27,9 @@ impl Replacer {
         ensures rewritten { IfOk result (TellsRewritten (Changes (replacement_of self.now)) content.items) }
         ensures few { IfOk result (AreFewIn content.items) }
     {
-        let mut search = Search::new(&self.matcher);
+        let mut search = Search::new(&self.matcher, &self.kept)?;
         let rewritten = self.rewrite_by(&mut search, content);
-        // A value that is let go by a call isn't taken apart here, which would be dear to check.
-        drop(search);
+        self.kept.set(Some(search.into_groups()));
         rewritten
     }
 
@@ -96,7 +94,7 @@ impl Replacer {
     /// Puts the text of a match in its place. One that is made of groups is made in `made`, whose memory serves for the next one.
     fn put_one(
         &self,
-        groups: &Option<RegexCaptures>,
+        groups: &RegexCaptures,
         found: Match,
         room: &mut Room,
         made: &mut Vec<u8>,
@@ -106,10 +104,10 @@ impl Replacer {
         requires rises { found.start ≤ found.end }
         requires within { found.end ≤ length room.old.bytes.items }
         requires few { room.old.count + 1 < 2 ^ 128 }
-        requires lie { LieIn (groups_or_none groups.now) room.old.bytes.items }
+        requires lie { LieIn groups.now room.old.bytes.items }
         ensures room { OnOk result ((bytes : List ℕ) → IsRoomOf bytes room.old → IsRoomOf bytes room.new) }
         ensures made { OnOk result (made_of room.new ≡ (made_of room.old ++ slice_range room.old.bytes.items room.old.read found.start)
-            ++ pieces_text (group_text room.old.bytes.items (groups_or_none groups.now)) self.now.template.pieces.items) }
+            ++ pieces_text (group_text room.old.bytes.items groups.now) self.now.template.pieces.items) }
         ensures order { OnOk result (room.new.written ≤ found.end) }
         ensures read { OnOk result (room.new.read ≡ found.end) }
         ensures count { OnOk result (room.new.count ≡ room.old.count + 1) }

@@ -10,9 +10,10 @@ ghost use Rattle.sd_replace.specs.declared.replacer.Counted.TheVariants.{InEachL
 
 use crate::error::ReplacerFault;
 use crate::template::Template;
-use grep_regex::RegexMatcher;
+use grep_regex::{RegexCaptures, RegexMatcher};
 use sd_base::{NoMemory, Text};
 use std::alloc::Global;
+use std::cell::Cell;
 
 /// What takes the place of a match.
 #[derive(Drop)]
@@ -44,6 +45,8 @@ pub struct Replacer {
     /// How many matches are replaced at most. 0 is no limit.
     pub(crate) limit: u64,
     pub(crate) counted: Counted,
+    /// The groups and the lists of an earlier search, which the next one uses again.
+    pub(crate) kept: Cell<Option<RegexCaptures>>,
     // The pieces are those of the substitute.
     ghost read: { ArePiecesOf substitute (tree_of matcher.searcher) template.pieces.items } by { Prim.hlevel props },
     // In line mode no match holds a line feed.
@@ -75,6 +78,7 @@ impl Replacer {
                 template,
                 limit,
                 counted,
+                kept: Cell::new(None),
             }),
             Err(NoMemory) => {
                 // A value that is let go by a call isn't taken apart here, which would be dear to check.

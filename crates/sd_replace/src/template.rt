@@ -2,15 +2,13 @@
 
 ghost use Rattle.std.specs.Prelude.{◌≡◌, ◌≤◌, ◌++◌, ◌∷◌, ℕ, List, [], IfOk, IfSome, OnOk, Some, drop, length, slice_get, slice_range};
 ghost use Rattle.std.specs.Option.{option_map_or};
-ghost use Rattle.std.specs.List.{list_any};
 ghost use Rattle.grep_matcher.specs.CaptureRefs.{target_of};
 ghost use Rattle.grep_matcher.specs.References as form;
 ghost use Rattle.grep_matcher.specs.References.{expand, meaning, group_text};
 ghost use Rattle.grep_regex.specs.Options.{names_in, number_of};
 ghost use Rattle.grep_matcher.specs.References.{LieIn};
 ghost use Rattle.hir_tree.specs.Tree.{tree_of};
-ghost use Rattle.sd_replace.specs.Searching.{groups_or_none};
-ghost use Rattle.sd_replace.specs.Templates.{ArePiecesOf, is_group, pieces_text, piece_text};
+ghost use Rattle.sd_replace.specs.Templates.{ArePiecesOf, pieces_text, piece_text};
 
 use crate::Substitute;
 use grep_matcher::{Captures, Match, Matcher, Ref, find_cap_ref};
@@ -66,24 +64,15 @@ impl Template {
         }
     }
 
-    /// Whether there are references to groups. Without them the text doesn't rest on the groups of a match.
-    pub(crate) fn has_references(&self) -> bool
-        ensures { result ≡ list_any is_group self.now.pieces.items }
-    {
-        self.pieces
-            .iter()
-            .any(|piece| matches!(piece, Piece::Group(_)))
-    }
-
     /// Adds the text to `dst`, with the groups of a match of the haystack. Refuses for want of memory alone.
     pub(crate) fn append(
         &self,
         haystack: &[u8],
-        groups: &Option<RegexCaptures>,
+        groups: &RegexCaptures,
         dst: &mut Vec<u8>,
     ) -> Result<(), NoMemory>
-        requires within { LieIn (groups_or_none groups.now) haystack.now }
-        ensures { OnOk result (dst.new.items ≡ dst.old.items ++ pieces_text (group_text haystack.now (groups_or_none groups.now)) self.now.pieces.items) }
+        requires within { LieIn groups.now haystack.now }
+        ensures { OnOk result (dst.new.items ≡ dst.old.items ++ pieces_text (group_text haystack.now groups.now) self.now.pieces.items) }
     {
         for piece in &self.pieces {
             append_piece(piece, haystack, groups, dst)?;
@@ -92,37 +81,21 @@ impl Template {
     }
 }
 
-/// Adds the text of a piece.
+/// Adds the text of a piece: that of a group that isn't set is empty.
 fn append_piece(
     piece: &Piece,
     haystack: &[u8],
-    groups: &Option<RegexCaptures>,
+    groups: &RegexCaptures,
     dst: &mut Vec<u8>,
 ) -> Result<(), NoMemory>
-    requires within { LieIn (groups_or_none groups.now) haystack.now }
-    ensures { OnOk result (dst.new.items ≡ dst.old.items ++ piece_text (group_text haystack.now (groups_or_none groups.now)) piece.now) }
+    requires within { LieIn groups.now haystack.now }
+    ensures { OnOk result (dst.new.items ≡ dst.old.items ++ piece_text (group_text haystack.now groups.now) piece.now) }
 {
     match piece {
         Piece::Bytes(bytes) => dst.extend_from_slice(bytes)?,
-        Piece::Group(number) => append_group(*number, haystack, groups, dst)?,
+        Piece::Group(number) => append_span(groups.get(*number), haystack, dst)?,
     }
     Ok(())
-}
-
-/// Adds the text of a group: nothing where it isn't set.
-fn append_group(
-    number: usize,
-    haystack: &[u8],
-    groups: &Option<RegexCaptures>,
-    dst: &mut Vec<u8>,
-) -> Result<(), NoMemory>
-    requires within { LieIn (groups_or_none groups.now) haystack.now }
-    ensures { OnOk result (dst.new.items ≡ dst.old.items ++ group_text haystack.now (groups_or_none groups.now) number) }
-{
-    match groups {
-        None => Ok(()),
-        Some(groups) => append_span(groups.get(number), haystack, dst),
-    }
 }
 
 /// Adds the bytes of the haystack at a span, if there is one.

@@ -1,6 +1,6 @@
 -- How far a change has come: what was found, and what is written.
 use Rattle.std.proofs.Common.{◌≡◌, ℕ, ◌+◌, ◌<◌, ◌≤◌, Bool, true, false, cond, List, [], ◌∷◌, ◌++◌, append_assoc, length, drop, slice_range, Option, Some, None, arith, refl, sym, subst, ap, ◌∙◌, ◌↔◌, inl, inr}
-use Rattle.std.specs.Prelude.{IsTrue, is_some, Result, Ok, Err, IfOk}
+use Rattle.std.specs.Prelude.{IsTrue, is_some, Result, Ok, Err, IfOk, IfSome}
 use Rattle.std.proofs.lemmas.Bool.{cases_lt}
 use Rattle.std.proofs.lemmas.Bool.Decides.{nat_tests}
 use Rattle.grep_matcher.specs.Cover.{IsLawful, IsFirst, IsAfter, accepts, prefers}
@@ -15,12 +15,15 @@ use Rattle.grep_regex.specs.Matching.{MatchesAreWhole}
 use Rattle.grep_regex.specs.MatchingLemmas.{lawful_ends}
 use Rattle.grep_regex.specs.declared.matcher.Pattern.{Pattern}
 use Rattle.hir_tree.specs.Tree.{tree_of}
+use Rattle.sd_replace.specs.FirstMatch.{IsAtTheStart, StandsAtTheFirst}
 use Rattle.sd_replace.specs.OneChange.{one_change}
 use Rattle.sd_replace.specs.Quota.{Knows, Limits}
 use Rattle.sd_replace.specs.Searching.{AreOfMatch}
 use Rattle.sd_replace.specs.declared.replacer.Counted.{Counted}
 use Rattle.sd_replace.specs.Writing.{HasWritten}
 use Rattle.sd_replace.specs.declared.quota.Quota.{Quota}
+use Rattle.sd_replace.specs.declared.replacer.Replacer.{Replacer}
+use Rattle.sd_replace.specs.declared.searching.Search.{Search}
 use Rattle.sd_replace.specs.declared.changing.Made.{Made}
 
 module _ (preferred : ℕ → Option ℕ) (bytes : List ℕ) (lawful : IsLawful preferred (length bytes)) where
@@ -179,13 +182,40 @@ pub as_first : (m p : Pattern) (bytes : List ℕ) (last : Option ℕ) (from : �
 as_first m p bytes last from o pattern first =
     subst (λ (q : Pattern). IsFirst (accepts last (end_at (tree_of q.searcher) bytes)) from (length bytes) o) pattern first
 
-pub as_start : (preferred : ℕ → Option ℕ) (n from : ℕ) (last : Option ℕ) (o : Option Span) → last ≡ None → from ≡ 0 → IsFirst (accepts last preferred) from n o → IsFirst (accepts None preferred) 0 n o
-as_start preferred n from last o none start first =
-    subst (λ (k : ℕ). IsFirst (accepts None preferred) k n o) start (subst (λ (l : Option ℕ). IsFirst (accepts l preferred) from n o) none first)
+pub as_match : (m p : Pattern) (bytes : List ℕ) (place : ℕ) (groups : List (Option Span)) → m ≡ p
+    → AreOfMatch (tree_of m.searcher) bytes place groups → AreOfMatch (tree_of p.searcher) bytes place groups
+as_match m p bytes place groups pattern of = subst (λ (q : Pattern). AreOfMatch (tree_of q.searcher) bytes place groups) pattern of
 
-pub as_match : (m p : Pattern) (bytes : List ℕ) (place : ℕ) (asked : Option (List (Option Span))) → m ≡ p
-    → AreOfMatch (tree_of m.searcher) bytes place asked → AreOfMatch (tree_of p.searcher) bytes place asked
-as_match m p bytes place asked pattern of = subst (λ (q : Pattern). AreOfMatch (tree_of q.searcher) bytes place asked) pattern of
+-- what is found by a search at its start is the first match, at which the search then stands
+module _ (replacer : Replacer) (text : List ℕ) (search later : Search) (start : IsAtTheStart replacer search) where
+  abbrev FromStart : Option Span → Type 0
+  FromStart = IsFirst (accepts None (end_at (tree_of replacer.matcher.searcher) text)) 0 (length text)
+
+  abbrev FromThere : Option Span → Type 0
+  FromThere = IsFirst (accepts search.last (end_at (tree_of search.matcher.now.searcher) text)) search.from (length text)
+
+  as_start : (o : Option Span) → FromThere o → FromStart o
+  as_start o first =
+      subst (λ (k : ℕ). IsFirst (accepts None (end_at (tree_of replacer.matcher.searcher) text)) k (length text) o) start.from
+      (subst (λ (l : Option ℕ). IsFirst (accepts l (end_at (tree_of replacer.matcher.searcher) text)) search.from (length text) o) start.last
+      (as_first search.matcher.now replacer.matcher text search.last search.from o start.pattern first))
+
+  pub first_found : {E : Type 0} (found : Result (Option Span) E) → IfOk found FromThere → IfOk found FromStart
+  first_found (Ok o) first = as_start o first
+  first_found (Err e) first = tt
+
+  pub first_stands : {E : Type 0} (found : Result (Option Span) E) → IfOk found FromThere → IfOk found (λ o. IfSome o (λ span. IsAfter span later.from))
+      → IfOk found (λ o. IfSome o (λ span. later.last ≡ Some span.end)) → IfOk found (λ o. IfSome o (λ span. AreOfMatch (tree_of search.matcher.now.searcher) text span.start later.groups))
+      → later.matcher.now ≡ search.matcher.now → IfOk found (λ o. IfSome o (StandsAtTheFirst replacer text later))
+  first_stands (Ok (Some x)) first after last groups same = record {
+    pattern = same ∙ start.pattern;
+    first = as_start (Some x) first;
+    after = after;
+    last = last;
+    groups = as_match search.matcher.now replacer.matcher text x.start later.groups start.pattern groups;
+  }
+  first_stands (Ok None) first after last groups same = tt
+  first_stands (Err e) first after last groups same = tt
 
 -- the search goes on behind the start of what it found
 pub onward : (span : Span) (next : ℕ) → span.start ≤ span.end → IsAfter span next → span.start < next

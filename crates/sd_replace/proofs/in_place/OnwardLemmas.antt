@@ -17,8 +17,8 @@ use Rattle.hir_tree.specs.Onward.{GroupsLieAhead, MatchesByWhatFollows, looks_no
 use Rattle.hir_tree.specs.Spots.{groups_of_tree}
 use Rattle.hir_tree.specs.Tree.{Tree}
 use Rattle.sd_replace.specs.Replacement.{substituted}
-use Rattle.sd_replace.specs.Searching.{AreOfMatch, groups_or_none}
-use Rattle.sd_replace.specs.Templates.{ArePiecesOf, SufficeFor, pieces_text}
+use Rattle.sd_replace.specs.Searching.{AreOfMatch}
+use Rattle.sd_replace.specs.Templates.{ArePiecesOf, pieces_text}
 use Rattle.sd_replace.specs.declared.replacer.Substitute.{Substitute}
 use Rattle.sd_replace.specs.declared.template.Piece.{Piece}
 use Rattle.sd_replace.specs.declared.template.Piece.TheVariants.{Bytes, Group}
@@ -57,11 +57,6 @@ text_same a b from (Some s) same ahead = same_piece a b from s.start s.end same 
 pub same_texts : (a b : List ℕ) (from : ℕ) (groups : List (Option Span)) → drop from a ≡ drop from b → LieFrom from groups → (i : ℕ) → group_text a groups i ≡ group_text b groups i
 same_texts a b from groups same ahead i = text_same a b from (group_at groups i) same (ahead i)
 
--- groups that are asked for begin at a match or after it
-pub asked_ahead : GroupsLieAhead → (tree : Tree) (text : List ℕ) (at : ℕ) (asked : Option (List (Option Span))) → at ≤ length text → AreOfMatch tree text at asked → LieFrom at (groups_or_none asked)
-asked_ahead law tree text at None within of = λ i s set. absurd (none-some s set)
-asked_ahead law tree text at (Some groups) within of = λ i s set. spans_ahead law tree text at within i s (ap (λ (g : List (Option Span)). group_at g i) (sym of.0) ∙ set)
-
 -- of two texts of one length that are the same from a place on
 module _ (law : MatchesByWhatFollows) (tree : Tree) (nowhere : looks_nowhere tree ≡ true) (a b : List ℕ) (from : ℕ) (same : drop from a ≡ drop from b) (size : length a ≡ length b) where
   same_match : (at : ℕ) → from ≤ at → match_at tree a at ≡ match_at tree b at
@@ -85,15 +80,14 @@ module _ (law : MatchesByWhatFollows) (tree : Tree) (nowhere : looks_nowhere tre
       )
 
   -- and the same groups
-  pub same_groups : (at : ℕ) (asked : Option (List (Option Span))) → from ≤ at → AreOfMatch tree a at asked → AreOfMatch tree b at asked
-  same_groups at None low of = of
-  same_groups at (Some groups) low of = (of.0 ∙ same_spans at low, λ i s set. let lies = of.1 i s set in omega (arith, size, lies))
+  pub same_groups : (at : ℕ) (groups : List (Option Span)) → from ≤ at → AreOfMatch tree a at groups → AreOfMatch tree b at groups
+  same_groups at groups low of = (of.0 ∙ same_spans at low, λ i s set. let lies = of.1 i s set in omega (arith, size, lies))
 
 -- what is added for a match is its new text
-pub text_ahead : (law : GroupsLieAhead) (substitute : Substitute) (tree : Tree) (pieces : List Piece) (a b : List ℕ) (from at : ℕ) (asked : Option (List (Option Span)))
-    → drop from a ≡ drop from b → from ≤ at → at ≤ length b → ArePiecesOf substitute tree pieces → AreOfMatch tree b at asked → SufficeFor pieces asked
-    → pieces_text (group_text a (groups_or_none asked)) pieces ≡ substituted substitute tree (group_text b (spans_at tree b at))
-text_ahead law substitute tree pieces a b from at asked same low within read of suffice =
-    same_pieces (group_text a (groups_or_none asked)) (group_text b (groups_or_none asked))
-    (same_texts a b from (groups_or_none asked) same (λ i s set. let ahead = asked_ahead law tree b at asked within of i s set in omega (arith, low, ahead))) pieces
-    ∙ text_made substitute tree pieces b at asked read of suffice
+pub text_ahead : (law : GroupsLieAhead) (substitute : Substitute) (tree : Tree) (pieces : List Piece) (a b : List ℕ) (from at : ℕ) (groups : List (Option Span))
+    → drop from a ≡ drop from b → from ≤ at → at ≤ length b → ArePiecesOf substitute tree pieces → AreOfMatch tree b at groups
+    → pieces_text (group_text a groups) pieces ≡ substituted substitute tree (group_text b (spans_at tree b at))
+text_ahead law substitute tree pieces a b from at groups same low within read of =
+    same_pieces (group_text a groups) (group_text b groups)
+    (same_texts a b from groups same (λ i s set. let ahead = spans_ahead law tree b at within i s (ap (λ (g : List (Option Span)). group_at g i) (sym of.0) ∙ set) in omega (arith, low, ahead))) pieces
+    ∙ text_made substitute tree pieces b at groups read of

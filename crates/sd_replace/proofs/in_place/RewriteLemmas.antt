@@ -13,15 +13,14 @@ use Rattle.sd_change.specs.declared.changed.Rewritten.{Rewritten}
 use Rattle.sd_change.specs.declared.changed.Rewritten.TheVariants.{Same, Other}
 use Rattle.sd_replace.specs.InPlace.{Became, IsRoomOf, made_of}
 use Rattle.sd_replace.specs.Replacement.{Replacement, Changes, is_within}
-use Rattle.sd_replace.specs.Searching.{AreOfMatch, groups_or_none}
-use Rattle.sd_replace.specs.Templates.{ArePiecesOf, SufficeFor, pieces_text}
+use Rattle.sd_replace.specs.Searching.{AreOfMatch}
+use Rattle.sd_replace.specs.Templates.{ArePiecesOf, pieces_text}
 use Rattle.sd_replace.specs.Writing.{HasWritten}
 use Rattle.sd_replace.specs.declared.in_place.Room.{Room}
 use Rattle.sd_replace.specs.declared.template.Piece.{Piece}
 use Rattle.sd_replace.proofs.changing.ChangingLemmas.{HasFound, as_first, as_match, written_more, made_at_the_end}
 use Rattle.sd_replace.proofs.in_place.InPlaceLemmas.{left_later, same_piece}
 use Rattle.sd_replace.proofs.in_place.OnwardLemmas.{same_first, same_groups, text_ahead}
-use Rattle.sd_replace.proofs.template.PieceLemmas.{asked_lie}
 
 -- where the loop stands at a span: it was found, and those before it have given way in the room or beside it
 pub record Holds (replacement : Replacement) (bytes : List ℕ) (lawful : IsLawful (end_at replacement.pattern bytes) (length bytes)) (from : ℕ) (last : Option ℕ) (room : Room) (span : Span) : Type 0 where
@@ -31,19 +30,19 @@ pub record Holds (replacement : Replacement) (bytes : List ℕ) (lawful : IsLawf
   pub of : IsRoomOf bytes room
 
 -- of which it gives way too
-pub written_one : (ahead : GroupsLieAhead) (replacement : Replacement) (pieces : List Piece) (bytes : List ℕ) (done : List Span) (x : Span) (old new : Room) (asked : Option (List (Option Span)))
-    → replacement.limit ≡ 0 → ArePiecesOf replacement.substitute replacement.pattern pieces → AreOfMatch replacement.pattern bytes x.start asked → SufficeFor pieces asked
+pub written_one : (ahead : GroupsLieAhead) (replacement : Replacement) (pieces : List Piece) (bytes : List ℕ) (done : List Span) (x : Span) (old new : Room) (groups : List (Option Span))
+    → replacement.limit ≡ 0 → ArePiecesOf replacement.substitute replacement.pattern pieces → AreOfMatch replacement.pattern bytes x.start groups
     → IsRoomOf bytes old → old.written ≤ old.read → old.read ≤ x.start → x.start ≤ length bytes
-    → made_of new ≡ (made_of old ++ slice_range old.bytes.items old.read x.start) ++ pieces_text (group_text old.bytes.items (groups_or_none asked)) pieces
+    → made_of new ≡ (made_of old ++ slice_range old.bytes.items old.read x.start) ++ pieces_text (group_text old.bytes.items groups) pieces
     → new.read ≡ x.end → new.count ≡ old.count + 1
     → HasWritten replacement bytes done (made_of old) old.read old.count → HasWritten replacement bytes (done ++ x ∷ []) (made_of new) new.read new.count
-written_one ahead replacement pieces bytes done x old new asked no_limit read of suffice room order behind within made ends counts h =
+written_one ahead replacement pieces bytes done x old new groups no_limit read of room order behind within made ends counts h =
     written_more replacement bytes done x (made_of old) old.read old.count h (made_of new) new.read new.count
-    (pieces_text (group_text old.bytes.items (groups_or_none asked)) pieces)
+    (pieces_text (group_text old.bytes.items groups) pieces)
     (sym (ap (λ (n : ℕ). is_within replacement.counted n bytes done x) no_limit))
-    (made ∙ ap (λ (l : List ℕ). (made_of old ++ l) ++ pieces_text (group_text old.bytes.items (groups_or_none asked)) pieces)
+    (made ∙ ap (λ (l : List ℕ). (made_of old ++ l) ++ pieces_text (group_text old.bytes.items groups) pieces)
     (same_piece old.bytes.items bytes old.written old.read x.start room.left order))
-    (text_ahead ahead replacement.substitute replacement.pattern pieces old.bytes.items bytes old.written x.start asked room.left (omega (arith, order, behind)) within read of suffice)
+    (text_ahead ahead replacement.substitute replacement.pattern pieces old.bytes.items bytes old.written x.start groups room.left (omega (arith, order, behind)) within read of)
     ends counts
 
 -- what is found in the room is what is found of the bytes
@@ -57,16 +56,15 @@ found_there law m p bytes shown room from last o found nowhere pattern same is o
     (as_first m p shown last from o pattern first)))
 
 -- so is it with groups
-pub groups_there : MatchesByWhatFollows → (m p : Pattern) (bytes shown : List ℕ) (room : Room) (at : ℕ) (asked : Option (List (Option Span))) → looks_nowhere (tree_of p.searcher) ≡ true
-    → m ≡ p → shown ≡ room.bytes.items → IsRoomOf bytes room → room.written ≤ at → AreOfMatch (tree_of m.searcher) shown at asked → AreOfMatch (tree_of p.searcher) bytes at asked
-groups_there law m p bytes shown room at asked nowhere pattern same of low groups =
-    same_groups law (tree_of p.searcher) nowhere room.bytes.items bytes room.written of.left of.size at asked low
-    (subst (λ (l : List ℕ). AreOfMatch (tree_of p.searcher) l at asked) same (as_match m p shown at asked pattern groups))
+pub groups_there : MatchesByWhatFollows → (m p : Pattern) (bytes shown : List ℕ) (room : Room) (at : ℕ) (groups : List (Option Span)) → looks_nowhere (tree_of p.searcher) ≡ true
+    → m ≡ p → shown ≡ room.bytes.items → IsRoomOf bytes room → room.written ≤ at → AreOfMatch (tree_of m.searcher) shown at groups → AreOfMatch (tree_of p.searcher) bytes at groups
+groups_there law m p bytes shown room at groups nowhere pattern same of low match =
+    same_groups law (tree_of p.searcher) nowhere room.bytes.items bytes room.written of.left of.size at groups low
+    (subst (λ (l : List ℕ). AreOfMatch (tree_of p.searcher) l at groups) same (as_match m p shown at groups pattern match))
 
 -- groups that lie in the bytes lie in the room
-pub lie_there : (tree : Tree) (bytes : List ℕ) (room : Room) (at : ℕ) (asked : Option (List (Option Span))) → IsRoomOf bytes room → AreOfMatch tree bytes at asked
-    → LieIn (groups_or_none asked) room.bytes.items
-lie_there tree bytes room at asked of groups = λ i s set. let lies = asked_lie tree bytes at asked groups i s set in omega (arith, lies, of.size)
+pub lie_there : (tree : Tree) (bytes : List ℕ) (room : Room) (at : ℕ) (groups : List (Option Span)) → IsRoomOf bytes room → AreOfMatch tree bytes at groups → LieIn groups room.bytes.items
+lie_there tree bytes room at groups of match = λ i s set. let lies = match.1 i s set in omega (arith, lies, of.size)
 
 -- once no match is left
 module _ (replacement : Replacement) (bytes : List ℕ) (lawful : IsLawful (end_at replacement.pattern bytes) (length bytes)) (done : List Span) (from : ℕ) (last : Option ℕ)

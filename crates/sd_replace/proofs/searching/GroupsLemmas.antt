@@ -1,31 +1,22 @@
 -- The groups that a search fills in.
-use Rattle.std.proofs.Common.{◌≡◌, ℕ, ◌≤◌, Bool, true, false, List, length, Option, Some, arith, sym, subst, ap, ◌∙◌, inl, inr}
-use Rattle.std.proofs.lemmas.Bool.{cases_lt}
+use Rattle.std.proofs.Common.{◌≡◌, ℕ, Bool, true, false, List, length, Option, Some, sym, subst, ap, ◌∙◌}
+use Rattle.std.proofs.lemmas.Option.{same_Some}
 use Rattle.grep_matcher.specs.Cover.{prefers}
-use Rattle.grep_matcher.specs.Groups.{captured, HasFirst}
+use Rattle.grep_matcher.specs.Groups.{captured, group_at, HasFirst}
 use Rattle.grep_matcher.specs.References.{LieIn}
 use Rattle.grep_matcher.specs.Span.{Span}
 use Rattle.grep_regex.specs.Matching.{MatchesAreWhole, end_at, spans_at}
 use Rattle.grep_regex.specs.MatchingLemmas.{lawful_spans}
 use Rattle.hir_tree.specs.Tree.{Tree}
+use Rattle.sd_replace.specs.Searching.{AreOfMatch}
 
-module _ (tree : Tree) (whole : MatchesAreWhole tree) (text : List ℕ) where
-  -- the groups of a match lie in the text
-  lie : (place end : ℕ) (groups : List (Option Span)) → place ≤ length text → end_at tree text place ≡ Some end → groups ≡ spans_at tree text place → LieIn groups text
-  lie place end groups within is same = subst (λ (g : List (Option Span)). LieIn g text) (sym same) (λ i span set. ((lawful_spans tree whole text place end within is).1 i span set).1)
-
-  -- those of the first match
-  pub first_lie : (from : ℕ) (groups : List (Option Span)) (found : Bool) → HasFirst (prefers (captured true (end_at tree text))) from (length text) (spans_at tree text) groups found → found ≡ true
-      → LieIn groups text
-  first_lie from groups true first is = lie first.0.start first.0.end groups first.1.1 first.1.2 first.2
-  first_lie from groups false first is = absurd (cc)
-
-  -- those of a match that is at the place from which it is searched
-  pub here : (from place end : ℕ) (groups : List (Option Span)) (found : Bool) → from ≡ place
-      → HasFirst (prefers (captured true (end_at tree text))) from (length text) (spans_at tree text) groups found
-      → place ≤ length text → end_at tree text place ≡ Some end → (groups ≡ spans_at tree text place) × LieIn groups text
-  here from place end groups false starts first within is = absurd (first place end (omega arith) (omega arith) is)
-  here from place end groups true starts (span, first, same) within is =
-      let at : span.start ≡ place = elim (cases_lt place span.start) [ inl lt ↦ absurd (first.3 place end (omega arith) lt is) | inr ge ↦ omega arith ] in
-      let there : groups ≡ spans_at tree text place = same ∙ ap (spans_at tree text) at in
-      (there, lie place end groups within is there)
+-- those of the first match are the groups of the span that group 0 is, and lie in the text
+pub first_groups : (tree : Tree) → MatchesAreWhole tree → (text : List ℕ) (from : ℕ) (groups : List (Option Span)) (found : Bool) (x : Span)
+    → HasFirst (prefers (captured true (end_at tree text))) from (length text) (spans_at tree text) groups found → found ≡ true → group_at groups 0 ≡ Some x
+    → AreOfMatch tree text x.start groups
+first_groups tree whole text from groups true x (span, first, same) is set =
+    let law = lawful_spans tree whole text span.start span.end first.1 first.2 in
+    let same_span : law.0.0 ≡ x = same_Some law.0.0 x (sym law.0.1 ∙ (ap (λ (g : List (Option Span)). group_at g 0) (sym same) ∙ set)) in
+    let start : span.start ≡ x.start = sym law.0.2 ∙ ap (λ (s : Span). s.start) same_span in
+    (same ∙ ap (spans_at tree text) start, subst (λ (g : List (Option Span)). LieIn g text) (sym same) (λ i s there. (law.1 i s there).1))
+first_groups tree whole text from groups false x first is set = absurd (cc)

@@ -1,7 +1,6 @@
 -- What the pieces of a replacement text stand for.
 use Rattle.std.proofs.Common.{◌≡◌, ℕ, ◌≤◌, Bool, true, false, cond, ◌&&◌, eqb, List, [], ◌∷◌, ◌++◌, length, drop, slice_get, Option, Some, None, refl, sym, subst, ap, ◌∙◌}
-use Rattle.std.specs.Prelude.{IfSome, IsSome, option_map}
-use Rattle.std.specs.List.{list_any}
+use Rattle.std.specs.Prelude.{IfSome, option_map}
 use Rattle.grep_matcher.specs.CaptureRefs.{reference_of}
 use Rattle.grep_matcher.specs.Groups.{group_at}
 use Rattle.grep_matcher.specs.References as form
@@ -11,44 +10,20 @@ use Rattle.grep_matcher.specs.declared.references.CaptureRef.{CaptureRef}
 use Rattle.hir_tree.specs.Tree.{Tree}
 use Rattle.grep_regex.specs.Matching.{spans_at}
 use Rattle.sd_replace.specs.Replacement.{substituted}
-use Rattle.sd_replace.specs.Searching.{AreOfMatch, groups_or_none}
-use Rattle.sd_replace.specs.Templates.{ArePiecesOf, RestOnNoGroup, SufficeFor, is_group, pieces_text}
+use Rattle.sd_replace.specs.Searching.{AreOfMatch}
+use Rattle.sd_replace.specs.Templates.{ArePiecesOf, pieces_text}
 use Rattle.sd_replace.specs.declared.replacer.Substitute.{Substitute}
 use Rattle.sd_replace.specs.declared.template.Piece.{Piece}
-use Rattle.sd_replace.specs.declared.template.Piece.TheVariants.{Bytes, Group}
 
--- pieces without a group rest on none
-pub rest_on_none : (pieces : List Piece) → list_any is_group pieces ≡ false → RestOnNoGroup pieces
-rest_on_none [] h one other = refl
-rest_on_none (Bytes bytes ∷ pieces) h one other = ap (λ (l : List ℕ). bytes.items ++ l) (rest_on_none pieces h one other)
-rest_on_none (Group number ∷ pieces) h one other = absurd (cc)
-
--- which suffices, whether groups are asked for or not
-pub suffice_none : (pieces : List Piece) (asked : Option (List (Option Span))) → RestOnNoGroup pieces → SufficeFor pieces asked
-suffice_none pieces None rest = rest
-suffice_none pieces (Some groups) rest = tt
-
--- groups that were asked for are so later
-pub suffice_on : (pieces : List Piece) (asked later : Option (List (Option Span))) → SufficeFor pieces asked → (IsSome asked → IsSome later) → SufficeFor pieces later
-suffice_on pieces None later suffice kept = suffice_none pieces later suffice
-suffice_on pieces (Some groups) (Some others) suffice kept = tt
-suffice_on pieces (Some groups) None suffice kept = absurd (let there : IsSome {T = List (Option Span)} None = kept refl in cc)
-
--- the groups that are asked for lie in the text
-pub asked_lie : (tree : Tree) (text : List ℕ) (place : ℕ) (asked : Option (List (Option Span))) → AreOfMatch tree text place asked → LieIn (groups_or_none asked) text
-asked_lie tree text place None h = λ i span set. absurd (cc)
-asked_lie tree text place (Some groups) h = h.1
-
--- so does one of them
+-- a group lies in a text where all do
 pub group_lies : (groups : List (Option Span)) (text : List ℕ) (i : ℕ) (span : Option Span) → span ≡ group_at groups i → LieIn groups text → IfSome span (λ s. s.end ≤ length text)
 group_lies groups text i None is lie = tt
 group_lies groups text i (Some span) is lie = lie i span (sym is)
 
 -- what is added for a match is its new text
-pub text_made : (substitute : Substitute) (tree : Tree) (pieces : List Piece) (text : List ℕ) (place : ℕ) (asked : Option (List (Option Span))) → ArePiecesOf substitute tree pieces → AreOfMatch tree text place asked
-    → SufficeFor pieces asked → pieces_text (group_text text (groups_or_none asked)) pieces ≡ substituted substitute tree (group_text text (spans_at tree text place))
-text_made substitute tree pieces text place None read of suffice = suffice (group_text text []) (group_text text (spans_at tree text place)) ∙ read (group_text text (spans_at tree text place))
-text_made substitute tree pieces text place (Some groups) read of suffice =
+pub text_made : (substitute : Substitute) (tree : Tree) (pieces : List Piece) (text : List ℕ) (place : ℕ) (groups : List (Option Span)) → ArePiecesOf substitute tree pieces → AreOfMatch tree text place groups
+    → pieces_text (group_text text groups) pieces ≡ substituted substitute tree (group_text text (spans_at tree text place))
+text_made substitute tree pieces text place groups read of =
     ap (λ (g : List (Option Span)). pieces_text (group_text text g) pieces) of.0 ∙ read (group_text text (spans_at tree text place))
 
 -- where no reference is found, none stands there

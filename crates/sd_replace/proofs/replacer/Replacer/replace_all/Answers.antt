@@ -1,4 +1,4 @@
-use Rattle.std.proofs.Common.{◌≡◌, ◌+◌, ◌≤◌, ◌++◌, ◌∷◌, [], ℕ, List, Option, Some, None, length, drop, arith, refl, sym, subst, ◌∙◌}
+use Rattle.std.proofs.Common.{◌≡◌, ◌≤◌, ◌++◌, ◌∷◌, [], ℕ, List, Option, Some, None, length, drop, arith, refl, sym, subst, ◌∙◌}
 use Rattle.std.specs.Prelude.{IfSome}
 use Rattle.grep_matcher.specs.Cover.{IsAfter, IsFirst, accepts}
 use Rattle.grep_matcher.specs.Span.{Span}
@@ -8,7 +8,6 @@ use Rattle.hir_tree.specs.Tree.{tree_of}
 use Rattle.sd_replace.specs.Replacer.{replacement_of}
 use Rattle.sd_replace.specs.Searching.{AreOfMatch}
 use Rattle.sd_replace.proofs.changing.ChangingLemmas.{HasFound, as_after, as_first, as_match, found_more, found_none, made_at_the_end, made_by_the_limit, onward, written_none}
-use Rattle.sd_replace.proofs.template.PieceLemmas.{suffice_on}
 use Rattle.sd_replace.proofs.replacer.Replacer.replace_all.Goals as goal
 
 pub matches-init : goal.matches-init
@@ -40,7 +39,6 @@ matches-init c =
       onward = onward x search.from rises c.requires.stands.after;
       pattern = c.requires.stands.pattern;
       groups = c.requires.stands.groups;
-      asked = c.requires.stands.asked;
     }
 
 pub returns-then-is_spent-clause-changed : goal.returns-then-is_spent-clause-changed
@@ -106,5 +104,4 @@ matches-preserved c =
       onward = onward x later.from rises after;
       pattern = c.in_ok-next.ensures.pattern ∙ before.pattern;
       groups = as_match search.matcher.now self.matcher bytes x.start later.groups before.pattern groups;
-      asked = suffice_on self.template.pieces.items search.groups later.groups before.asked c.in_ok-next.ensures.asked;
     }

@@ -4,7 +4,6 @@ use Rattle.grep_regex.specs.MatchingLemmas.{lawful_ends}
 use Rattle.sd_replace.specs.Quota.{Limits}
 use Rattle.sd_replace.specs.Replacer.{replacement_of}
 use Rattle.sd_replace.specs.Searching.{AreOfMatch}
-use Rattle.sd_replace.specs.Templates.{SufficeFor}
 use Rattle.sd_replace.proofs.changing.ChangingLemmas.{Stands}
 use Rattle.sd_replace.proofs.replacer.Replacer.replace_all.Given as goal
 
@@ -22,7 +21,6 @@ invariant-matches l = record {
   onward : l.found.start < l.search.from;
   pattern : l.search.matcher.now ≡ l.self.matcher;
   groups : AreOfMatch (tree_of l.self.matcher.searcher) l.content l.found.start l.search.groups;
-  asked : SufficeFor l.self.template.pieces.items l.search.groups;
 }
 
 abbrev pub decreases-matches : goal.decreases-matches

@@ -10,7 +10,7 @@ returns-in_ok-put-clause-written c = λ done known h.
     let self = c.args.self.now in
     let bytes = c.args.content.now in
     let within = as_within c.args.quota.now (replacement_of self) bytes done c.args.found c.admits.result c.requires.limits (c.admits.ensures.admitted done c.args.found (sym c.start.ensures) known) in
-    let text = text_made self.substitute (tree_of self.matcher.searcher) self.template.pieces.items bytes c.args.found.start c.args.groups.now self.read c.requires.groups c.requires.asked in
+    let text = text_made self.substitute (tree_of self.matcher.searcher) self.template.pieces.items bytes c.args.found.start c.args.groups.now self.read c.requires.groups in
     written_more (replacement_of self) bytes done c.args.found c.args.made.now.new_bytes.items c.args.made.now.copied c.args.made.now.count h
     c.put.new.self.new_bytes.items c.put.new.self.copied c.put.new.self.count _ (sym c.if-admits.true ∙ within) c.in_ok-put.ensures.bytes text c.in_ok-put.ensures.copied c.in_ok-put.ensures.count
 

@@ -10,7 +10,6 @@ use Rattle.sd_replace.specs.Replacer.{replacement_of}
 use Rattle.sd_replace.specs.Searching.{AreOfMatch}
 use Rattle.sd_replace.proofs.changing.ChangingLemmas.{HasFound, found_more, found_none, onward, written_none}
 use Rattle.sd_replace.proofs.in_place.RewriteLemmas.{all_rewritten, found_there, groups_there, written_one}
-use Rattle.sd_replace.proofs.template.PieceLemmas.{suffice_on}
 use Rattle.sd_replace.proofs.replacer.Replacer.rewrite_all.Goals as goal
 
 pub matches-init : goal.matches-init
@@ -42,7 +41,6 @@ matches-init c =
       onward = onward x search.from rises c.requires.stands.after;
       pattern = c.requires.stands.pattern;
       groups = c.requires.stands.groups;
-      asked = c.requires.stands.asked;
     }
 
 pub returns-in-None : goal.returns-in-None
@@ -57,7 +55,7 @@ returns-in-None c =
     let none = found_there c.a_pattern_without_looks_matches_by_what_follows.ensures search.matcher.now self.matcher bytes c.deref.result.now room search.from search.last c.in_ok-next.field-0 None
     c.requires.onward before.pattern c.deref.ensures.value c.in-None.is of (omega (arith, put.order, before.ahead)) c.in_ok-next.ensures.found in
     let written = written_one c.groups_lie_ahead.ensures (replacement_of self) self.template.pieces.items bytes before.holds.done c.matches.found c.matches.room room search.groups c.requires.limit self.read
-    before.groups before.asked before.holds.of before.order before.behind (omega (arith, before.rises, before.within)) put.made put.read put.count before.holds.written in
+    before.groups before.holds.of before.order before.behind (omega (arith, before.rises, before.within)) put.made put.read put.count before.holds.written in
     let ends : room.read ≤ length bytes = omega (arith, put.read, before.within) in
     record {
       of = of;
@@ -97,7 +95,7 @@ matches-preserved c =
         done = done;
         found = subst (λ (l : Option ℕ). HasFound preferred bytes lawful (done ++ x ∷ []) later.from l) (sym last) (found_more preferred bytes lawful done search.from later.from search.last x before.holds.found first after);
         written = written_one c.groups_lie_ahead.ensures (replacement_of self) self.template.pieces.items bytes before.holds.done c.matches.found c.matches.room room search.groups c.requires.limit self.read
-            before.groups before.asked before.holds.of before.order before.behind (omega (arith, before.rises, before.within)) put.made put.read put.count before.holds.written;
+            before.groups before.holds.of before.order before.behind (omega (arith, before.rises, before.within)) put.made put.read put.count before.holds.written;
         of = of;
       };
       order = omega (arith, put.order, put.read);
@@ -110,5 +108,4 @@ matches-preserved c =
       pattern = c.in_ok-next.ensures.pattern ∙ before.pattern;
       groups = groups_there law search.matcher.now self.matcher bytes c.deref.result.now room x.start later.groups c.requires.onward before.pattern c.deref.ensures.value of
           (omega (arith, low, starts)) groups;
-      asked = suffice_on self.template.pieces.items search.groups later.groups before.asked c.in_ok-next.ensures.asked;
     }

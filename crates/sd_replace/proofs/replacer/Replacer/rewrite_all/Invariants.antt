@@ -3,7 +3,6 @@ use Rattle.hir_tree.specs.Tree.{tree_of}
 use Rattle.grep_regex.specs.MatchingLemmas.{lawful_ends}
 use Rattle.sd_replace.specs.Replacer.{replacement_of}
 use Rattle.sd_replace.specs.Searching.{AreOfMatch}
-use Rattle.sd_replace.specs.Templates.{SufficeFor}
 use Rattle.sd_replace.proofs.in_place.RewriteLemmas.{Holds}
 use Rattle.sd_replace.proofs.replacer.Replacer.rewrite_all.Given as goal
 
@@ -20,7 +19,6 @@ invariant-matches l = record {
   onward : l.found.start < l.search.from;
   pattern : l.search.matcher.now ≡ l.self.matcher;
   groups : AreOfMatch (tree_of l.self.matcher.searcher) l.fn.room.bytes.items l.found.start l.search.groups;
-  asked : SufficeFor l.self.template.pieces.items l.search.groups;
 }
 
 abbrev pub decreases-matches : goal.decreases-matches
