@@ -8,4 +8,6 @@ mod calls;
 #[cfg(test)]
 mod crowded;
 #[cfg(test)]
+mod long_search;
+#[cfg(test)]
 mod running;

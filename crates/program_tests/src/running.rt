@@ -26,7 +26,7 @@ pub(crate) fn listed(alloc: Global, words: &[&str]) -> Result<Words, Fail> {
 }
 
 /// Runs the program, and gives its status. What it ends with is let go here, so that tests are quickly proved.
-fn run_to_end(
+pub(crate) fn run_to_end(
     alloc: Global,
     words: &Words,
     disk: &mut MemDisk,
