@@ -3,4 +3,5 @@ mod BlockLemmas
 mod MarkLemmas
 mod BlockTurnLemmas
 mod FollowLemmas
+mod LoopLemmas
 pub mod ThreadsLemmas

@@ -1,7 +1,8 @@
 //! Which looks are asked first and last.
 
-ghost use Rattle.std.specs.Prelude.{IfOk, ◌≤◌, length};
+ghost use Rattle.std.specs.Prelude.{IfOk, ◌≡◌, ◌≤◌, ◌<◌, ℕ, List, false, length, slice_index};
 ghost use Rattle.hir_core.specs.Masks.{AreAllTakers};
+ghost use Rattle.hir_tree.specs.Looks.{holds};
 ghost use Rattle.hir_core.specs.Scan.{IsAskedFirst};
 
 use crate::Look;
@@ -38,4 +39,16 @@ pub fn first_look(alloc: Global, spots: &[Spot], of: &[usize]) -> Result<Option<
 pub fn last_look(spots: &[Spot]) -> Option<Look> {
     let look = spots.iter().rev().find_map(look_of);
     look.filter(|look| matches!(look, Look::End | Look::EndLF | Look::EndCRLF))
+}
+
+/// Whether a look may hold before a byte.
+pub fn may_hold_before(look: Look, byte: u8) -> bool
+    ensures { result ≡ false → (text : List ℕ) (at : ℕ) → at < length text → slice_index text at ≡ byte → holds look text at ≡ false }
+{
+    match look {
+        Look::End => false,
+        Look::EndLF => byte == b'\n',
+        Look::EndCRLF => byte == b'\n' || byte == b'\r',
+        _ => true,
+    }
 }
