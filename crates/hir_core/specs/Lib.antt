@@ -2,6 +2,7 @@ pub mod Blocks
 pub mod Compiled
 pub mod Found
 pub mod Laid
+pub mod Loops
 pub mod Masks
 pub mod Pass
 pub mod Program

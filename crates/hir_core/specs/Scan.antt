@@ -2,6 +2,7 @@
 use Rattle.std.specs.Prelude.{◌≡◌, ℕ, ◌^◌, ◌<◌, ◌≤◌, ◌⊎◌, Bool, false, List, length, ◌==◌, slice_index, slice_index_or, bit_and, true, Option, IfSome}
 use Rattle.hir_tree.specs.Looks.{holds}
 use Rattle.hir_tree.specs.declared.look.Look.{Look}
+use Rattle.hir_core.specs.Loops.{AreLoops}
 use Rattle.hir_core.specs.Masks.{Covers, CoverTheirSpots, HaveOwnBits, AreTakers, SaysNoMore, SaysWhatTakes, SaysWhatFollows, SaysWhichAreWide, AreMoved, AreDead, IsDead, IsPart, IsShut, HasBit, match_bit, next_of, sure_bit}
 use Rattle.hir_core.specs.Program.{spot_at}
 use Rattle.hir_core.specs.declared.spot.Spot.{Spot}
@@ -58,6 +59,7 @@ pub record IsFilterOf (spots : List Spot) (s : Scan) : Type 0 where
   pub firsts : CoverTheirSpots spots s.of.items s.last_look s.firsts.items
   pub own : HaveOwnBits spots s.of.items s.firsts.items
   pub first : IsAskedFirst spots s.first_look
+  pub loops : AreLoops spots s.loops
   pub prefilter : IfSome s.prefilter (λ k. IsRequired spots s.of.items s.last_look s.start k.required × TellsStops s.takes.items s.wide k.required k.stops)
 
 -- no run begins at a place from one on to before another, as the filter says

@@ -11,6 +11,7 @@ ghost use Rattle.hir_core.specs.Tries.{CountsTries};
 ghost use Rattle.hir_core.specs.declared.spot.Spot.{Spot};
 
 use crate::closure::{Turn, count, lead};
+use crate::loops::run_over;
 use crate::scan::Scan;
 use crate::set_size::{byte_size, char_size};
 use crate::spot::Spot;
@@ -31,7 +32,7 @@ pub struct Places {
 }
 
 /// Which mark is that of a spot at a place, where there are so many spots.
-fn mark_of(spots: usize, places: Places, at: usize, spot: usize) -> usize
+pub fn mark_of(spots: usize, places: Places, at: usize, spot: usize) -> usize
     requires few { spots * (places.end - places.begin) ≤ 65536 }
     requires begin { places.begin ≤ at }
     requires end { at < places.end }
@@ -187,6 +188,17 @@ impl Block {
         let began = self.trail.at;
         let mut on = Some(spot);
         while let Some(here) = self.trail.next(on)? {
+            let loops = filter.loops();
+            run_over(
+                spots,
+                loops,
+                text,
+                places,
+                here,
+                &mut self.trail,
+                &mut self.marks,
+                steps,
+            );
             if self.trail.at >= places.end {
                 self.later.push(here, self.trail.at, &self.trail)?;
                 on = None;

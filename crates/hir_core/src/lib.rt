@@ -8,6 +8,7 @@ mod block;
 mod blocks;
 mod closure;
 mod compile;
+mod loops;
 mod pass;
 mod plain;
 mod push;

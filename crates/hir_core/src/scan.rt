@@ -14,6 +14,7 @@ mod required;
 mod shifts;
 mod takes;
 
+use crate::loops::Loops;
 use crate::spot::Spot;
 use crate::{Look, holds};
 use asked::line_start;
@@ -54,6 +55,8 @@ pub struct Scan {
     /// How many bytes of a run are looked at before the place where it begins is given as a candidate: a guess, which changes the
     /// time alone.
     look_ahead: usize,
+    /// Which bytes are run over at which spots.
+    loops: Loops,
     ghost all_bytes: { vec_len takes ≡ 256 },
     ghost all_rows: { vec_len after ≡ 2048 },
     ghost all_shifts: { vec_len shifts ≡ 256 },
@@ -108,12 +111,24 @@ pub struct Candidate {
 
 impl Scan {
     ghost use Rattle.hir_core.specs.declared.spot.Spot.{Spot};
+    ghost use Rattle.hir_core.specs.Loops.{IsDeadBy};
     ghost use Rattle.hir_core.specs.Masks.{AreDead, IsDead, IsPart, NoRun, is_taker, takes_byte};
     ghost use Rattle.hir_core.specs.Program.{spot_at};
     ghost use Rattle.hir_core.specs.Scan.{IsFilterOf, Looked, NoEnd, NoneBegins};
 
     /// The filter of a program; None where more than 62 spots take bytes. Refuses for want of memory alone.
     pub fn new(alloc: Global, spots: &[Spot]) -> Result<Option<Scan>, NoMemory>
+        ensures { IfOk result (λ scan. IfSome scan (λ s. IsFilterOf spots.now s)) }
+    {
+        let Some(mut scan) = Scan::without_loops(alloc, spots)? else {
+            return Ok(None);
+        };
+        scan.loops = Loops::new(alloc, spots, &scan)?;
+        Ok(Some(scan))
+    }
+
+    /// The same, which tells of no loop.
+    fn without_loops(alloc: Global, spots: &[Spot]) -> Result<Option<Scan>, NoMemory>
         ensures { IfOk result (λ scan. IfSome scan (λ s. IsFilterOf spots.now s)) }
     {
         let of = takes::takers(alloc, spots)?;
@@ -152,7 +167,15 @@ impl Scan {
             shifts,
             prefilter,
             look_ahead,
+            loops: Loops::none(alloc),
         }))
+    }
+
+    /// Which bytes are run over at which spots.
+    pub fn loops(&self) -> &Loops
+        ensures { result.now ≡ self.now.loops }
+    {
+        &self.loops
     }
 
     /// Whether a run may begin at a place, as the look says that each asks first.
@@ -272,6 +295,30 @@ impl Scan {
             from: place,
             until: place,
         })
+    }
+
+    /// Whether a thread that is at a spot may come to a match at a place where this byte stands.
+    pub fn may_go_on_by(&self, spot: usize, byte: u8) -> bool
+        ensures { result ≡ false → (spots : List Spot) → IsFilterOf spots self.now → IsDeadBy spots spot byte }
+    {
+        if spot >= self.firsts.len() {
+            return true;
+        }
+        let mask = self.firsts[spot];
+        self.may_end_by(mask, byte) || self.may_take(mask, byte)
+    }
+
+    /// Whether a match may end before a byte, where these spots may be tried.
+    fn may_end_by(&self, state: u64, byte: u8) -> bool
+        ensures { result ≡ false → (text : List ℕ) (at : ℕ) → at < length text → slice_index text at ≡ byte → NoEnd text at self.now.last_look state }
+    {
+        if state < SURE {
+            return false;
+        }
+        match self.last_look {
+            Some(look) if state & SURE == 0 => asked::may_hold_before(look, byte),
+            _ => true,
+        }
     }
 
     /// Passes over places from one on up to the next one where a match may pass a required spot, and goes back from there as long as spots

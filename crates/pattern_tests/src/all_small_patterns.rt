@@ -154,8 +154,20 @@ fn compare(
     texts: &[Vec<u8>],
     counts: &mut Counts,
 ) -> Result<(), NoMemory> {
-    let searcher = searcher_for(rt.alloc(), signs)?;
     let last = if signs.len() < 5 { usize::MAX } else { 0 };
+    compare_up_to(rt, signs, ways, texts, last, counts)
+}
+
+/// The same from each place up to this one.
+fn compare_up_to(
+    rt: &(impl Abort + AllocGlobal),
+    signs: &[u8],
+    ways: &[Way],
+    texts: &[Vec<u8>],
+    last: usize,
+    counts: &mut Counts,
+) -> Result<(), NoMemory> {
+    let searcher = searcher_for(rt.alloc(), signs)?;
     let comparison = Comparison {
         searcher: &searcher,
         ways,
@@ -198,6 +210,29 @@ fn compare_all(
     let Counts { matching, others } = compare_words(rt, signs, numbers, &texts, ways)?;
     assert!(rt; matching > 0 && others > 0);
     Ok(matching.saturating_add(others))
+}
+
+/// Compares the searches in these ways for patterns, one a line, on the 121 texts over three letters with at most four bytes, which have
+/// 547 places. Gives how many comparisons there were.
+pub fn compare_patterns(
+    rt: &(impl Abort + AllocGlobal),
+    patterns: &str,
+    letters: &[u8],
+    ways: &[Way],
+) -> Result<usize, NoMemory> {
+    let texts = words(rt.alloc(), letters, 121)?;
+    let mut counts = Counts::default();
+    for pattern in patterns.lines() {
+        compare_up_to(
+            rt,
+            pattern.as_bytes(),
+            ways,
+            &texts,
+            usize::MAX,
+            &mut counts,
+        )?;
+    }
+    Ok(counts.matching.saturating_add(counts.others))
 }
 
 // The words of at most five signs: 1119 of the shorter words are patterns, and 7992 of those of five.

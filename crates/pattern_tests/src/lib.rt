@@ -8,6 +8,8 @@ mod all_small_patterns;
 #[cfg(test)]
 mod lists;
 #[cfg(test)]
+mod loops;
+#[cfg(test)]
 mod many_spots;
 #[cfg(test)]
 mod patterns;

@@ -54,6 +54,14 @@ module _ (text : List ℕ) (spots : List Spot) (falls : ClosesFall spots) where
   as_more [] (m ∷ more) rest k = refl
   as_more (r ∷ kept) more rest k = refl
 
+  -- others between them
+  as_up : (kept xs ys rest : List Run) → (nonempty xs ≡ true → nonempty ys ≡ true) → nonempty (kept ++ (xs ++ rest)) ≡ true
+      → nonempty (kept ++ (ys ++ rest)) ≡ true
+  as_up [] [] ys rest up k = as_more [] ys rest k
+  as_up [] (x ∷ xs) [] rest up k = absurd (true≢false (sym (up refl)))
+  as_up [] (x ∷ xs) (y ∷ ys) rest up k = refl
+  as_up (r ∷ kept) xs ys rest up k = refl
+
   -- the entry on top, and the others at its place
   pub top-level : (goal : Option Run) (tried : ℕ → List ℕ) (kept : List Run) (e : Entry) (rest : List Entry) → Blocking goal tried kept (e ∷ rest)
       → Covers text spots falls (place e) (tried (place e)) (nonempty kept) (tried (place e))
@@ -180,18 +188,20 @@ module _ (text : List ℕ) (spots : List Spot) (falls : ClosesFall spots) where
   begun-level p tried before e here new covers =
       (Stands-begin text spots falls p tried before e here new (spent-level p tried (nonempty before) covers)).0
 
-  -- The entry on top goes on to a later place of the block.
-  pub moved-on : (goal : Option Run) (tried tried' : ℕ → List ℕ) (kept : List Run) (e on : Entry) (rest : List Entry)
-      → Blocking goal tried kept (e ∷ rest) → gives_of e ≡ gives_of on → place e < place on → seen_by on ≡ []
+  -- The entry on top goes on to a later place of the block, where the first run is the same.
+  pub moved-as : (goal : Option Run) (tried tried' : ℕ → List ℕ) (kept : List Run) (e on : Entry) (rest : List Entry)
+      → Blocking goal tried kept (e ∷ rest)
+      → first (map forget (kept ++ (gives_of on ++ runs_of rest))) ≡ first (map forget (kept ++ (gives_of e ++ runs_of rest)))
+      → (nonempty (gives_of e) ≡ true → nonempty (gives_of on) ≡ true) → place e < place on → seen_by on ≡ []
       → ((p : ℕ) → (place e ≡ p → ⊥) → tried' p ≡ tried p)
       → Covers text spots falls (place e) (tried' (place e)) (nonempty (kept ++ gives_of on)) (tried' (place e))
       (level (place e) rest ++ nowhere text spots falls (place e) ∷ [])
       → Blocking goal tried' kept (on ∷ rest)
-  moved-on goal tried tried' kept e on rest h same later new elsewhere covers = record {
+  moved-as goal tried tried' kept e on rest h same some later new elsewhere covers = record {
     top = place on;
     falling = (omega arith, falling_more (place e) rest [] (place on) tt (omega (arith, later)) h.falling.1);
     levels = levels;
-    finds = ap (λ xs. first (map forget (kept ++ (xs ++ runs_of rest)))) (sym same) ∙ h.finds;
+    finds = same ∙ h.finds;
   }
     where
       at_old : Level tried' kept (on ∷ rest) (place e)
@@ -223,9 +233,11 @@ module _ (text : List ℕ) (spots : List Spot) (falls : ClosesFall spots) where
       up p k =
           elim (cases_lt p (place on)) [
             | inl before ↦ elim (cases_lt p (place e)) [
-              | inl low ↦ as_same (kept ++ runs_of (over p (e ∷ rest))) (kept ++ runs_of (over p (on ∷ rest)))
-                  (ap (λ xs. kept ++ runs_of xs) (over_in p e rest low) ∙ ap (λ xs. kept ++ (xs ++ runs_of (over p rest))) same
-                  ∙ ap (λ xs. kept ++ runs_of xs) (sym (over_in p on rest before))) k
+              | inl low ↦ as_same (kept ++ (gives_of on ++ runs_of (over p rest))) (kept ++ runs_of (over p (on ∷ rest)))
+                  (ap (λ xs. kept ++ runs_of xs) (sym (over_in p on rest before)))
+                  (as_up kept (gives_of e) (gives_of on) (runs_of (over p rest)) some
+                  (as_same (kept ++ runs_of (over p (e ∷ rest))) (kept ++ (gives_of e ++ runs_of (over p rest)))
+                  (ap (λ xs. kept ++ runs_of xs) (over_in p e rest low)) k))
               | inr high ↦ as_same (kept ++ (gives_of on ++ runs_of (over p rest))) (kept ++ runs_of (over p (on ∷ rest)))
                   (ap (λ xs. kept ++ runs_of xs) (sym (over_in p on rest before)))
                   (as_more kept (gives_of on) (runs_of (over p rest))
@@ -245,6 +257,16 @@ module _ (text : List ℕ) (spots : List Spot) (falls : ClosesFall spots) where
                   (level_out p on rest another ∙ sym (level_out p e rest other)) (up p) (h.levels p)
             ]
           ]
+
+  -- It goes on to a later place, where it gives the same.
+  pub moved-on : (goal : Option Run) (tried tried' : ℕ → List ℕ) (kept : List Run) (e on : Entry) (rest : List Entry)
+      → Blocking goal tried kept (e ∷ rest) → gives_of e ≡ gives_of on → place e < place on → seen_by on ≡ []
+      → ((p : ℕ) → (place e ≡ p → ⊥) → tried' p ≡ tried p)
+      → Covers text spots falls (place e) (tried' (place e)) (nonempty (kept ++ gives_of on)) (tried' (place e))
+      (level (place e) rest ++ nowhere text spots falls (place e) ∷ [])
+      → Blocking goal tried' kept (on ∷ rest)
+  moved-on goal tried tried' kept e on rest h same =
+      moved-as goal tried tried' kept e on rest h (ap (λ xs. first (map forget (kept ++ (xs ++ runs_of rest)))) (sym same)) (λ k. ap nonempty (sym same) ∙ k)
 
   -- At a match the search of the block is over.
   pub blocking-match : (goal : Option Run) (tried : ℕ → List ℕ) (kept : List Run) (e : Entry) (rest : List Entry) → spot_at spots e.spot ≡ spot.Match

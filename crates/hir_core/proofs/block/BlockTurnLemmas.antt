@@ -1,9 +1,9 @@
 -- One turn of the search of a block.
 use Rattle.std.proofs.Common.{◌≡◌, ℕ, ◌<◌, ◌≤◌, Bool, true, false, cond, inl, inr, List, [], ◌∷◌, ◌++◌, length, map, Option, Some, None, if◌then◌else◌, refl, sym, ap, ◌∙◌, subst, true≢false, append-nil, arith}
-use Rattle.std.specs.Prelude.{slice_set}
+use Rattle.std.specs.Prelude.{◌==◌, ◌||◌, slice_set}
 use Rattle.std.specs.Option.{option_or}
 use Rattle.std.specs.List.{flat_map, AllByRecursion}
-use Rattle.std.proofs.lemmas.Bool.{cases_lt, cond-false, le-ltb, lt-ltb}
+use Rattle.std.proofs.lemmas.Bool.{cases_lt, cond-false, eqb-true, le-ltb, lt-ltb}
 use Rattle.std.proofs.lemmas.Grind.{flat_map-append}
 use Rattle.std.proofs.lemmas.List.{map-append, get_or_past}
 use Rattle.hir_tree.specs.Looks.{holds}
@@ -12,7 +12,7 @@ use Rattle.hir_tree.specs.RunsLaws.{forget}
 use Rattle.hir_tree.proofs.ListLemmas.{All-append}
 use Rattle.hir_tree.proofs.RunsLemmas.{TakesWithin, byte_size-within, char_size-within}
 use Rattle.hir_core.specs.Blocks.{mark_of, trying, AreSpent}
-use Rattle.hir_core.specs.Masks.{IsDead}
+use Rattle.hir_core.specs.Masks.{IsDead, is_taker}
 use Rattle.hir_core.specs.Pass.{first_of, some_run, taken, leads, leads_on, comes, keeps, was_visited, visiting, stop_gives, stops_give, fresh}
 use Rattle.hir_core.specs.Program.{spot_at, is_unmarked, way, marked, closed, follow, gives, ClosesFall}
 use Rattle.hir_core.specs.Trails.{Stop}
@@ -28,9 +28,23 @@ use Rattle.hir_core.proofs.block.BlockLemmas.{Blocking, top-level, replaced, dro
 use Rattle.hir_core.proofs.block.MarkLemmas.{adding, adding-here, adding-elsewhere, AreMarks, AreMarks-adding, AreMarks-tried, tried_by, tried-is}
 
 module _ (text : List ℕ) (spots : List Spot) (falls : ClosesFall spots) (begin end : ℕ) where
-  -- entries past the block have seen nothing
+  -- no spot that takes bytes is among these
+  abbrev pub NoTaker : List ℕ → Type 0
+  NoTaker xs = (m : ℕ) → is_seen m xs ≡ true → is_taker (spot_at spots m) ≡ false
+
+  pub NoTaker-none : NoTaker []
+  NoTaker-none m seen = absurd (true≢false (sym seen))
+
+  pub NoTaker-more : (q : ℕ) (xs : List ℕ) → is_taker (spot_at spots q) ≡ false → NoTaker xs → NoTaker (q ∷ xs)
+  NoTaker-more q xs calm h m seen = cases (q == m) refl seen
+    where
+      cases : (b : Bool) → (q == m) ≡ b → (b || is_seen m xs) ≡ true → is_taker (spot_at spots m) ≡ false
+      cases true same k = ap (λ i. is_taker (spot_at spots i)) (sym (eqb-true q m same)) ∙ calm
+      cases false same k = h m k
+
+  -- Entries past the block have seen nothing, and none has seen a spot that takes bytes.
   abbrev pub Outside : List Entry → Type 0
-  Outside es = AllByRecursion (λ (e : Entry). end ≤ place e → seen_by e ≡ []) es
+  Outside es = AllByRecursion (λ (e : Entry). (end ≤ place e → seen_by e ≡ []) × NoTaker (seen_by e)) es
 
   -- others come in the place of a stop, all of them
   abbrev pub GivesAllWayTo : Stop → List Bool → List Bool → List Stop → List Stop → Type 0
@@ -58,18 +72,23 @@ module _ (text : List ℕ) (spots : List Spot) (falls : ClosesFall spots) (begin
       only [] h = tt
       only (c ∷ cs) h = (h.0.0, only cs h.1)
 
-  -- those in the block aren't among them
-  here_outside : {at : ℕ} → at < end → (cs : List Entry) → AllAt at cs → Outside cs
-  here_outside to [] h = tt
-  here_outside to (c ∷ cs) h = ((λ past. absurd (omega (arith, past, to, h.0))), here_outside to cs h.1)
+  -- those that a spot leads to are in the block, and see one spot more
+  led_outside : (s : Spot) (e : Entry) → place e < end → is_taker (spot_at spots e.spot) ≡ false → NoTaker (seen_by e)
+      → Outside (led_to text s (marked e.spot e.way))
+  led_outside s e to calm h = only (led_to text s (marked e.spot e.way)) (led_children text spots falls (place e) s e refl)
+    where
+      only : (cs : List Entry) → Children text spots falls (place e) e cs → Outside cs
+      only [] k = tt
+      only (c ∷ cs) k =
+          (((λ past. absurd (omega (arith, past, to, k.0.0))), subst NoTaker (sym k.0.1) (NoTaker-more e.spot (seen_by e) calm h)), only cs k.1)
 
   module _ (goal : Option Run) (marks : List Bool) (kept : List Stop) (tried : ℕ → List ℕ) (e : Entry) (es : List Entry)
-      (are : AreMarks (length spots) begin marks tried) (out : Outside es) (h : Blocking text spots falls goal tried (stops_give text spots kept) (e ∷ es)) where
-    abbrev others : List Entry
+      (are : AreMarks (length spots) begin marks tried) (calm : NoTaker (seen_by e)) (out : Outside es) (h : Blocking text spots falls goal tried (stops_give text spots kept) (e ∷ es)) where
+    abbrev pub others : List Entry
     others = level (place e) es ++ nowhere text spots falls (place e) ∷ []
 
     -- the search of its place
-    abbrev stands_goal : Option Run
+    abbrev pub stands_goal : Option Run
     stands_goal = first (map forget (stops_give text spots kept ++ pend text spots falls (place e) (e ∷ others)))
 
     -- an entry that gives nothing is dropped
@@ -95,7 +114,7 @@ module _ (text : List ℕ) (spots : List Spot) (falls : ClosesFall spots) (begin
         shut before = ap (λ (b : Bool). cond b [] (follow text spots (gives text spots) s (marked e.spot e.way))) before
 
     module _ (s : Spot) (k : spot_at spots e.spot ≡ s) (plain : is_unmarked s ≡ false) (new : is_seen e.spot (tried (place e)) ≡ false) where
-      fresh_gives : gives text spots e.spot e.way ≡ follow text spots (gives text spots) s (marked e.spot e.way)
+      pub fresh_gives : gives text spots e.spot e.way ≡ follow text spots (gives text spots) s (marked e.spot e.way)
       fresh_gives =
           gives_fresh text spots falls (place e) (tried (place e)) (nonempty (stops_give text spots kept)) e others s k plain new
           (top-level text spots falls goal tried (stops_give text spots kept) e es h)
@@ -147,7 +166,7 @@ module _ (text : List ℕ) (spots : List Spot) (falls : ClosesFall spots) (begin
       entries = cs ++ es;
       are_marks = are';
       are_stack = map-append bare cs es ∙ ap (λ xs. xs ++ map bare es) same;
-      outside = All-append (λ (x : Entry). end ≤ place x → seen_by x ≡ []) cs es fresh out;
+      outside = All-append (λ (x : Entry). (end ≤ place x → seen_by x ≡ []) × NoTaker (seen_by x)) cs es fresh out;
       blocking = b;
     }
 
@@ -163,14 +182,14 @@ module _ (text : List ℕ) (spots : List Spot) (falls : ClosesFall spots) (begin
       are_more : AreMarks (length spots) begin (slice_set marks mark true) (adding (place e) e.spot tried)
       are_more = AreMarks-adding (length spots) begin marks (place e) e.spot from few room tried are
 
-      lead : (s : Spot) → spot_at spots e.spot ≡ s → is_unmarked s ≡ false → leads_on text s (bare e).1 ≡ []
+      lead : (s : Spot) → spot_at spots e.spot ≡ s → is_unmarked s ≡ false → is_taker s ≡ false → leads_on text s (bare e).1 ≡ []
           → follow text spots (gives text spots) s (marked e.spot e.way) ≡ pend text spots falls (place e) (led_to text s (marked e.spot e.way))
           → Searching goal (slice_set marks mark true) kept ((leads text s (bare e).1 ++ leads_on text s (bare e).1) ++ map bare es)
-      lead s k plain none_on same =
+      lead s k plain still none_on same =
           leave (slice_set marks mark true) (adding (place e) e.spot tried) (led_to text s (marked e.spot e.way)) (leads text s (bare e).1 ++ leads_on text s (bare e).1)
           are_more
           (led_bare text spots falls (place e) s e ∙ sym (append-nil (leads text s (bare e).1)) ∙ ap (λ xs. leads text s (bare e).1 ++ xs) (sym none_on))
-          (here_outside to (led_to text s (marked e.spot e.way)) (led_at s e))
+          (led_outside s e to (ap is_taker k ∙ still) calm)
           (lead_entry s k plain unseen same)
 
       take : (s : Spot) (o : Option ℕ) (f : ℕ) → spot_at spots e.spot ≡ s → is_unmarked s ≡ false → ((bytes : ℕ) → o ≡ Some bytes → 0 < bytes)
@@ -186,7 +205,7 @@ module _ (text : List ℕ) (spots : List Spot) (falls : ClosesFall spots) (begin
           (top-level text spots falls goal tried (stops_give text spots kept) e es h, refl)).0))
       take s (Some bytes) f k plain some same =
           leave (slice_set marks mark true) (adding (place e) e.spot tried) (entry f (way e.way.starts (moved bytes (forget e.way.run))) ∷ [])
-          (taken (Some bytes) f (bare e).1) are_more refl ((λ past. refl), tt)
+          (taken (Some bytes) f (bare e).1) are_more refl (((λ past. refl), NoTaker-none), tt)
           (take_entry s k plain unseen f bytes (some bytes refl) same)
 
       look_same : (f : ℕ) (b : Bool) → cond b (gives text spots f (marked e.spot e.way)) []
@@ -205,13 +224,13 @@ module _ (text : List ℕ) (spots : List Spot) (falls : ClosesFall spots) (begin
       turn_new (spot.Chars set f) k plain =
           take (spot.Chars set f) (char_size set text (place e)) f k plain (sized (char_size set text) (char_size-within set text))
           (taken_gives text spots falls (place e) (char_size set text (place e)) f e.spot e.way)
-      turn_new (spot.Look l f) k plain = lead (spot.Look l f) k plain refl (look_same f (holds l text (place e)))
-      turn_new (spot.Jump f) k plain = lead (spot.Jump f) k plain refl (sym (append-nil _))
+      turn_new (spot.Look l f) k plain = lead (spot.Look l f) k plain refl refl (look_same f (holds l text (place e)))
+      turn_new (spot.Jump f) k plain = lead (spot.Jump f) k plain refl refl (sym (append-nil _))
       turn_new (spot.Split a b) k plain =
-          lead (spot.Split a b) k plain refl (ap (λ xs. gives text spots a (marked e.spot e.way) ++ xs) (sym (append-nil _)))
-      turn_new (spot.Open f) k plain = lead (spot.Open f) k plain refl (sym (append-nil _))
+          lead (spot.Split a b) k plain refl refl (ap (λ xs. gives text spots a (marked e.spot e.way) ++ xs) (sym (append-nil _)))
+      turn_new (spot.Open f) k plain = lead (spot.Open f) k plain refl refl (sym (append-nil _))
       turn_new (spot.Close i f) k plain = absurd (true≢false plain)
-      turn_new spot.Fail k plain = lead spot.Fail k plain refl refl
+      turn_new spot.Fail k plain = lead spot.Fail k plain refl refl refl
       turn_new spot.Match k plain = absurd (true≢false plain)
 
     -- an entry gives way to what its spot leads to
@@ -239,8 +258,8 @@ module _ (text : List ℕ) (spots : List Spot) (falls : ClosesFall spots) (begin
       at_spot seen v (spot.Close i f) k live few = ended seen
         where
           ended : (seen : Bool) → Searching goal marks kept (((f, closed i (bare e).1) ∷ keeps text (spot.Close i f) seen (bare e).1) ++ map bare es)
-          ended true = leave marks tried (entry f (closed i e.way) ∷ []) ((f, closed i (bare e).1) ∷ []) are refl ((λ past. absurd (omega (arith, past, to))), tt) (close_entry i f k)
-          ended false = leave marks tried (entry f (closed i e.way) ∷ []) ((f, closed i (bare e).1) ∷ []) are refl ((λ past. absurd (omega (arith, past, to))), tt) (close_entry i f k)
+          ended true = leave marks tried (entry f (closed i e.way) ∷ []) ((f, closed i (bare e).1) ∷ []) are refl (((λ past. absurd (omega (arith, past, to))), calm), tt) (close_entry i f k)
+          ended false = leave marks tried (entry f (closed i e.way) ∷ []) ((f, closed i (bare e).1) ∷ []) are refl (((λ past. absurd (omega (arith, past, to))), calm), tt) (close_entry i f k)
       at_spot seen v spot.Match k live few = absurd (live refl)
       at_spot seen v spot.Fail k live few = inside spot.Fail k few refl seen v
       at_spot seen v (spot.Bytes set f) k live few = inside (spot.Bytes set f) k few refl seen v
@@ -268,11 +287,11 @@ module _ (text : List ℕ) (spots : List Spot) (falls : ClosesFall spots) (begin
 
   -- the first of the stack apart
   module _ (goal : Option Run) (marks : List Bool) (kept rest : List Stop) (p : Stop) where
-    abbrev At : Type 0
+    abbrev pub At : Type 0
     At = (tried : ℕ → List ℕ) × (e : Entry) × (es : List Entry) × AreMarks (length spots) begin marks tried × (bare e ≡ p) × (map bare es ≡ rest)
         × Outside (e ∷ es) × Blocking text spots falls goal tried (stops_give text spots kept) (e ∷ es)
 
-    apart : Searching goal marks kept (p ∷ rest) → At
+    pub apart : Searching goal marks kept (p ∷ rest) → At
     apart c = cases c.entries c.are_stack c.outside c.blocking
       where
         cases : (entries : List Entry) → map bare entries ≡ p ∷ rest → Outside entries
@@ -291,7 +310,7 @@ module _ (text : List ℕ) (spots : List Spot) (falls : ClosesFall spots) (begin
         subst (λ r. GivesAllWayTo (bare e) marks marks' r stack') (sym a.5) (subst (λ q. GivesAllWayTo q marks marks' rest stack') (sym a.4) turned) in
         subst (λ bs. Searching goal bs kept stack') (sym now.1)
         (subst (λ st. Searching goal (trying text spots begin (place e) e.spot marks) kept st) (sym now.0)
-        (turn_entry goal marks kept a.0 e a.2 a.3 a.6.1 a.7 (subst (λ (q : Stop). begin ≤ q.1.run.at) (sym a.4) from)
+        (turn_entry goal marks kept a.0 e a.2 a.3 a.6.0.1 a.6.1 a.7 (subst (λ (q : Stop). begin ≤ q.1.run.at) (sym a.4) from)
         (subst (λ (q : Stop). q.1.run.at < end) (sym a.4) to)
         (subst (λ (q : Stop). q.0 < length spots → mark_of (length spots) begin q.1.run.at q.0 < length marks) (sym a.4) room)
         (was_visited marks (mark_of (length spots) begin (place e) e.spot)) refl now.2))
@@ -307,7 +326,7 @@ module _ (text : List ℕ) (spots : List Spot) (falls : ClosesFall spots) (begin
           are_stack = a.5;
           outside = a.6.1;
           blocking =
-              drop_entry goal marks kept a.0 a.1 a.2 a.3 a.6.1 a.7
+              drop_entry goal marks kept a.0 a.1 a.2 a.3 a.6.0.1 a.6.1 a.7
               (gives-dead text spots (place a.1) a.1.spot a.1.way refl (subst (λ (q : Stop). IsDead text spots q.1.run.at q.0) (sym a.4) dead));
         }
 
@@ -315,7 +334,7 @@ module _ (text : List ℕ) (spots : List Spot) (falls : ClosesFall spots) (begin
     pub Searching-kept : end ≤ p.1.run.at → Searching goal marks kept (p ∷ rest) → Searching goal marks (kept ++ p ∷ []) rest
     Searching-kept past c =
         let a = apart c in
-        let new : seen_by a.1 ≡ [] = a.6.0 (subst (λ (q : Stop). end ≤ q.1.run.at) (sym a.4) past) in
+        let new : seen_by a.1 ≡ [] = a.6.0.0 (subst (λ (q : Stop). end ≤ q.1.run.at) (sym a.4) past) in
         let given : gives text spots a.1.spot a.1.way ≡ stop_gives text spots p = bare_gives a.1 new ∙ ap (stop_gives text spots) a.4 in
         record {
           tried = a.0;
@@ -346,7 +365,7 @@ module _ (text : List ℕ) (spots : List Spot) (falls : ClosesFall spots) (begin
     entries = entry p.0 p.1 ∷ [];
     are_marks = AreMarks-tried (length spots) begin marks;
     are_stack = ap (λ xs. (p.0, way p.1.starts (record { at = p.1.run.at; groups = p.1.run.groups; seen = xs })) ∷ []) (sym new);
-    outside = ((λ past. new), tt);
+    outside = (((λ past. new), subst NoTaker (sym new) NoTaker-none), tt);
     blocking =
         blocking-begin text spots falls (tried_by (length spots) begin marks) (stops_give text spots kept) (entry p.0 p.1) new
         (λ at m k. elim (spent at m (sym (AreMarks-tried (length spots) begin marks at m) ∙ k)) [

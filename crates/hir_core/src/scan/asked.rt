@@ -1,9 +1,9 @@
 //! Which looks are asked first and last, and where lines start.
 
-ghost use Rattle.std.specs.Prelude.{◌≡◌, ◌+◌, ◌<◌, ◌≤◌, ℕ, false, length, IfOk};
-ghost use Rattle.hir_tree.specs.Looks.{holds};
+ghost use Rattle.std.specs.Prelude.{◌≡◌, ◌+◌, ◌<◌, ◌≤◌, ℕ, List, false, length, slice_index, IfOk};
 ghost use Rattle.hir_tree.specs.declared.look.Look.TheVariants as look;
 ghost use Rattle.hir_core.specs.Masks.{AreAllTakers};
+ghost use Rattle.hir_tree.specs.Looks.{holds};
 ghost use Rattle.hir_core.specs.Scan.{IsAskedFirst};
 
 use crate::Look;
@@ -55,4 +55,16 @@ pub fn line_start(text: &[u8], at: usize) -> usize
         return 0;
     }
     next_of_one(b'\n', text, at - 1) + 1
+}
+
+/// Whether a look may hold before a byte.
+pub fn may_hold_before(look: Look, byte: u8) -> bool
+    ensures { result ≡ false → (text : List ℕ) (at : ℕ) → at < length text → slice_index text at ≡ byte → holds look text at ≡ false }
+{
+    match look {
+        Look::End => false,
+        Look::EndLF => byte == b'\n',
+        Look::EndCRLF => byte == b'\n' || byte == b'\r',
+        _ => true,
+    }
 }

@@ -1,0 +1,2 @@
+mod SureLemmas
+pub mod OverLemmas
