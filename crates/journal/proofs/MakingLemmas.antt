@@ -342,7 +342,10 @@ root_first tells root s t (fault.StageDiffers path planned found) told there fai
 root_first tells root s t fault.NoMemory told there fails = tt
 
 root_reached : (s : DiskState) (root : List ℕ) → IsSome (reached s.tree root true) → LeadsNowhere s root true → ⊥
-root_reached s root there nowhere = absurd (subst (λ (o : Option NameList). IsSome o) nowhere there)
+root_reached s root there nowhere = none_there (subst (λ (o : Option NameList). IsSome o) nowhere there)
+  where
+    none_there : IsSome {T = NameList} None → ⊥
+    none_there h = cc
 
 pub root_for_memory : (tells : Bool) (root : List ℕ) (s t : DiskState) (refused : JournalFault) → IsTrue tells → IsSome (reached s.tree root true) → (DiskFailed (course tells s t) → ⊥)
     → RootFails (course tells s t) root refused → WantsMemory refused

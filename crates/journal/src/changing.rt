@@ -1,6 +1,6 @@
 //! A change of many files, made with a journal.
 
-ghost use Rattle.std.specs.Prelude.{◌≡◌, ◌<◌, ◌≤◌, ◌++◌, ◌∷◌, [], ℕ, IsTrue, IsSome, IfOk, IfErr, OnOk, IsErrAnd, Contains, List, length, Some, None};
+ghost use Rattle.std.specs.Prelude.{◌≡◌, ◌<◌, ◌≤◌, ◌++◌, ◌∷◌, [], ℕ, true, IsTrue, IsSome, IfOk, IfErr, OnOk, IsErrAnd, Contains, List, length, Some, None};
 ghost use Rattle.sd_io.specs.Tree.{NameList, node_at};
 ghost use Rattle.sd_io.specs.Paths.{parts_of, parent_of, reached};
 ghost use Rattle.sd_io.specs.Disk.{SameTree, SameLists};

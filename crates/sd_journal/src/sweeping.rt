@@ -1,6 +1,6 @@
 //! A command on a tree that is done whole, or not at all.
 
-ghost use Rattle.std.specs.Prelude.{◌≡◌, ◌≤◌, IsTrue, IsSome, IfOk, IfErr, IsErrAnd, OnOk, None};
+ghost use Rattle.std.specs.Prelude.{◌≡◌, ◌≤◌, true, IsTrue, IsSome, IfOk, IfErr, IsErrAnd, OnOk, None};
 ghost use Rattle.sd_io.specs.Disk.{SameTree};
 ghost use Rattle.sd_io.specs.Lists.{directory_of};
 ghost use Rattle.sd_io.specs.Paths.{reached};
