@@ -3,7 +3,7 @@
 ghost use Rattle.std.specs.Prelude.{◌≡◌, ◌+◌, ◌<◌, ◌≤◌, ℕ, false, length, IfOk};
 ghost use Rattle.hir_tree.specs.Looks.{holds};
 ghost use Rattle.hir_tree.specs.declared.look.Look.TheVariants as look;
-ghost use Rattle.hir_core.specs.Masks.{AreAllTakers};
+ghost use Rattle.hir_core.specs.Masks.{AreAllTakers, IsShutBefore};
 ghost use Rattle.hir_core.specs.Scan.{IsAskedFirst};
 
 use crate::Look;
@@ -41,6 +41,19 @@ pub fn first_look(alloc: Global, spots: &[Spot], of: &[usize]) -> Result<Option<
 pub fn last_look(spots: &[Spot]) -> Option<Look> {
     let look = spots.iter().rev().find_map(look_of);
     look.filter(|look| matches!(look, Look::End | Look::EndLF | Look::EndCRLF))
+}
+
+/// Whether a look, if there is one, may hold before a byte.
+#[tactic(auto, unfolding(hir_tree::specs::Looks::holds))]
+pub fn may_hold_before(look: Option<Look>, byte: u8) -> bool
+    ensures { result ≡ false → IsShutBefore look byte }
+{
+    match look {
+        Some(Look::End) => false,
+        Some(Look::EndLF) => byte == b'\n',
+        Some(Look::EndCRLF) => byte == b'\n' || byte == b'\r',
+        _ => true,
+    }
 }
 
 /// The next place from one on where a line starts, or the one after the end of the text.
