@@ -102,6 +102,23 @@ AllAsk spots look marked = (q : ℕ) → q < length marked → slice_index_or ma
 abbrev pub IsShut : List ℕ → ℕ → Option Look → Type 0
 IsShut text at look = IfSome look (λ l. holds l text at ≡ false)
 
+-- the look, if there is one, holds nowhere before the byte
+abbrev pub IsShutBefore : Option Look → ℕ → Type 0
+IsShutBefore look b = (l : Look) → look ≡ Some l → (text : List ℕ) (at : ℕ) → at < length text → slice_index text at ≡ b → holds l text at ≡ false
+
+-- What may go on before a byte that the spots of `takes` take: those, and those of `wide`, which may take a character that begins with a byte
+-- beyond ASCII; and a match may end, where the look doesn't hold if the byte doesn't rule that out.
+pub record IsOpen (byte takes wide : ℕ) (look : Option Look) (mask : ℕ) : Type 0 where
+  pub taken : IsPart takes mask
+  pub beyond : 128 ≤ byte → IsPart wide mask
+  pub sure : HasBit mask sure_bit
+  pub ends : (HasBit mask match_bit → ⊥) → IsShutBefore look byte
+
+-- each of these says what may go on before its byte
+abbrev pub AreOpen : List ℕ → ℕ → Option Look → List ℕ → Type 0
+AreOpen takes wide look masks =
+    (b mask : ℕ) → b < length masks → mask ≡ slice_index_or masks b mask → IsOpen b (slice_index takes b) wide look mask
+
 -- where a spot leads that was reached, that was reached too, unless the spot asks the look
 abbrev pub IsClosed : List Spot → Option Look → List Bool → Type 0
 IsClosed spots look reached =

@@ -16,6 +16,13 @@ use Rattle.hir_core.specs.declared.scan.FilterState.{FilterState}
 abbrev pub IsAskedFirst : List Spot → Option Look → Type 0
 IsAskedFirst spots look = IfSome look (λ l. (text : List ℕ) (at : ℕ) → holds l text at ≡ false → IsDead text spots at 0)
 
+-- what may go on at a place: what may before the byte there, and at the end of the text a match may end
+pub record IsOpenAt (text : List ℕ) (at : ℕ) (s : Scan) (mask : ℕ) : Type 0 where
+  pub taken : at < length text → IsPart (slice_index s.takes.items (slice_index text at)) mask
+  pub beyond : at < length text → 128 ≤ slice_index text at → IsPart s.wide mask
+  pub sure : HasBit mask sure_bit
+  pub ends : (HasBit mask match_bit → ⊥) → IsShut text at s.last_look
+
 -- no match ends at the place after the spots that have the mask, where the last look is this one
 abbrev pub NoEnd : List ℕ → ℕ → Option Look → ℕ → Type 0
 NoEnd text at look mask = (HasBit mask sure_bit → ⊥) × (HasBit mask match_bit → IsShut text at look)

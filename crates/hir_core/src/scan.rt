@@ -2,7 +2,7 @@
 //! prefilter.
 
 ghost use Rattle.std.specs.Prelude.{◌≡◌, ◌<◌, ◌≤◌, ◌+◌, ◌⊎◌, ℕ, false, true, List, length, vec_len, slice_index, bit_and, Some, IfOk, IfSome, IfNone};
-ghost use Rattle.hir_core.specs.Masks.{AreShifts, HasBit-prop};
+ghost use Rattle.hir_core.specs.Masks.{AreOpen, AreShifts, HasBit-prop};
 ghost use Rattle.std.proofs.Props.{props};
 ghost use Rattle.hir_tree.specs.declared.look.Look.TheVariants as look;
 
@@ -18,7 +18,7 @@ use crate::loops::Loops;
 use crate::spot::Spot;
 use crate::{Look, holds};
 use asked::line_start;
-use bits::{Moves, SURE, joined, moves_in};
+use bits::{MATCH, Moves, SURE, joined, moves_in};
 use prefilter::Prefilter;
 use required::{Required, ends_at_once};
 use sd_base::NoMemory;
@@ -45,6 +45,9 @@ pub struct Scan {
     start: u64,
     /// The spots that may take a character beyond ASCII.
     wide: u64,
+    /// For each byte, what may go on before it: the spots that take it, or a character that begins with it, SURE, and MATCH where the
+    /// last look may hold.
+    open_before: Vec<u64>,
     /// A look that each run asks before its first byte, if there is one.
     first_look: Option<Look>,
     /// A look that may be asked before the end of a match, if there is one.
@@ -58,6 +61,8 @@ pub struct Scan {
     /// Which bytes are run over at which spots.
     loops: Loops,
     ghost all_bytes: { vec_len takes ≡ 256 },
+    ghost all_open: { vec_len open_before ≡ 256 },
+    ghost open_before_bytes: { AreOpen takes.items wide last_look open_before.items } by { Prim.hlevel (props, HasBit-prop) },
     ghost all_rows: { vec_len after ≡ 2048 },
     ghost all_shifts: { vec_len shifts ≡ 256 },
     ghost shift: { AreShifts takes.items moves start wide shifts.items } by { Prim.hlevel (props, HasBit-prop) },
@@ -112,9 +117,9 @@ pub struct Candidate {
 impl Scan {
     ghost use Rattle.hir_core.specs.declared.spot.Spot.{Spot};
     ghost use Rattle.hir_core.specs.Loops.{IsDeadBy};
-    ghost use Rattle.hir_core.specs.Masks.{AreDead, IsDead, IsPart, NoRun, is_taker, takes_byte};
+    ghost use Rattle.hir_core.specs.Masks.{AreDead, IsDead, IsOpen, IsPart, NoRun, is_taker, takes_byte};
     ghost use Rattle.hir_core.specs.Program.{spot_at};
-    ghost use Rattle.hir_core.specs.Scan.{IsFilterOf, Looked, NoEnd, NoneBegins};
+    ghost use Rattle.hir_core.specs.Scan.{IsFilterOf, IsOpenAt, Looked, NoEnd, NoneBegins};
 
     /// The filter of a program; None where more than 62 spots take bytes. Refuses for want of memory alone.
     pub fn new(alloc: Global, spots: &[Spot]) -> Result<Option<Scan>, NoMemory>
@@ -144,6 +149,7 @@ impl Scan {
         let moves = moves_in(after.as_slice(), of.len());
         let wide = takes::wide(spots, of.as_slice());
         let shifts = shifts::shifts(alloc, takes.as_slice(), moves, start, wide)?;
+        let open_before = takes::open_before(alloc, takes.as_slice(), wide, last_look)?;
         let required = Required::rarest(takes.as_slice(), after.as_slice(), start, of.len());
         let is_sure = first_look.is_none() && ends_at_once(after.as_slice(), start);
         let prefilter = prefilter::worth_while(
@@ -162,6 +168,7 @@ impl Scan {
             firsts,
             start,
             wide,
+            open_before,
             first_look,
             last_look,
             shifts,
@@ -189,18 +196,23 @@ impl Scan {
         }
     }
 
+    /// What may go on at a place.
+    fn open_at(&self, text: &[u8], place: usize) -> u64
+        requires { place ≤ length text.now }
+        ensures { IsOpenAt text.now place self.now result }
+    {
+        if place >= text.len() {
+            return SURE | MATCH;
+        }
+        self.open_before[text[place] as usize]
+    }
+
     /// Whether a match may end at a place, where these spots may be tried.
     fn may_end(&self, state: u64, text: &[u8], place: usize) -> bool
         requires { place ≤ length text.now }
         ensures { result ≡ false → NoEnd text.now place self.now.last_look state }
     {
-        if state < SURE {
-            return false;
-        }
-        match self.last_look {
-            Some(look) if state & SURE == 0 => holds(look, text, place),
-            _ => true,
-        }
+        state & self.open_at(text, place) >= SURE
     }
 
     /// Whether an empty match may stand at a place.
@@ -211,38 +223,13 @@ impl Scan {
         self.may_end(self.start, text, place) && self.may_begin(text, place)
     }
 
-    /// Whether a spot of a mask may take a byte, or a character that begins with it.
-    fn may_take(&self, mask: u64, byte: u8) -> bool
-        ensures narrow { result ≡ false → (byte < 128) ⊎ (bit_and mask self.now.wide ≡ 0) }
-        ensures none { result ≡ false → bit_and mask (slice_index self.now.takes.items byte) ≡ 0 }
-    {
-        if byte >= 128 && mask & self.wide != 0 {
-            return true;
-        }
-        mask & self.takes[byte as usize] != 0
-    }
-
-    /// Whether a run may begin by a byte.
-    fn may_begin_by(&self, byte: u8) -> bool
-        ensures narrow { result ≡ false → (byte < 128) ⊎ (bit_and self.now.start self.now.wide ≡ 0) }
-        ensures none { result ≡ false → bit_and self.now.start (slice_index self.now.takes.items byte) ≡ 0 }
-    {
-        self.may_take(self.start, byte)
-    }
-
     /// Whether one of these spots may go on at a place, or a match may end there.
     fn is_open(&self, mask: u64, text: &[u8], place: usize) -> bool
         requires { place ≤ length text.now }
         ensures { result ≡ false → (spots : List Spot) → IsFilterOf spots self.now
             → AreDead text.now spots self.now.of.items self.now.last_look place mask }
     {
-        if self.may_end(mask, text, place) {
-            return true;
-        }
-        if place >= text.len() {
-            return false;
-        }
-        self.may_take(mask, text[place])
+        mask & self.open_at(text, place) != 0
     }
 
     /// Whether a thread that is at a spot and a place may come to a match.
@@ -297,28 +284,18 @@ impl Scan {
         })
     }
 
+    /// What may go on before a byte.
+    fn open_by(&self, byte: u8) -> u64
+        ensures { IsOpen byte (slice_index self.now.takes.items byte) self.now.wide self.now.last_look result }
+    {
+        self.open_before[byte as usize]
+    }
+
     /// Whether a thread that is at a spot may come to a match at a place where this byte stands.
     pub fn may_go_on_by(&self, spot: usize, byte: u8) -> bool
         ensures { result ≡ false → (spots : List Spot) → IsFilterOf spots self.now → IsDeadBy spots spot byte }
     {
-        if spot >= self.firsts.len() {
-            return true;
-        }
-        let mask = self.firsts[spot];
-        self.may_end_by(mask, byte) || self.may_take(mask, byte)
-    }
-
-    /// Whether a match may end before a byte, where these spots may be tried.
-    fn may_end_by(&self, state: u64, byte: u8) -> bool
-        ensures { result ≡ false → (text : List ℕ) (at : ℕ) → at < length text → slice_index text at ≡ byte → NoEnd text at self.now.last_look state }
-    {
-        if state < SURE {
-            return false;
-        }
-        match self.last_look {
-            Some(look) if state & SURE == 0 => asked::may_hold_before(look, byte),
-            _ => true,
-        }
+        spot >= self.firsts.len() || self.firsts[spot] & self.open_by(byte) != 0
     }
 
     /// Passes over places from one on up to the next one where a match may pass a required spot, and goes back from there as long as spots
@@ -365,7 +342,7 @@ impl Scan {
         ensures begun { IsPart self.now.start result ⊎ NoneBegins text.now self.now place (place + 1) }
     {
         let is_more = self.start & !state != 0;
-        if is_more && self.may_begin_by(text[place]) && !self.may_begin(text, place) {
+        if is_more && self.may_start(text, place) && !self.may_begin(text, place) {
             return state;
         }
         state | self.start

@@ -1,7 +1,8 @@
 -- What a filter has looked at of a text.
 use Rattle.std.proofs.Common.{◌≡◌, ℕ, zero, suc, ◌+◌, ◌-◌, ◌*◌, ◌/◌, ◌%◌, ◌^◌, ◌<◌, ◌≤◌, Bool, true, false, ◌⊎◌, inl, inr, List, [], Option, Some, length, slice_index, slice_index_or, bit_and, refl, sym, ap, subst, ◌∙◌, true≢false, arith}
-use Rattle.std.specs.Prelude.{None, IfNone, IfSome}
+use Rattle.std.specs.Prelude.{◌==◌, not, None, IfNone, IfSome}
 use Rattle.std.proofs.lemmas.Bool.{cases_lt}
+use Rattle.std.proofs.lemmas.Bool.Decides.{nat_tests}
 use Rattle.std.specs.Int.{bit_at}
 use Rattle.std.proofs.lemmas.Nat.{pow_below}
 use Rattle.std.proofs.lemmas.Nat.Bits.{and_pow, bit_at-lt}
@@ -10,8 +11,8 @@ use Rattle.hir_tree.specs.Looks.{holds}
 use Rattle.hir_tree.specs.declared.look.Look.{Look}
 use Rattle.hir_tree.specs.declared.look.Look.TheVariants as look
 use Rattle.hir_core.specs.Program.{Way, gives, rank, spot_at}
-use Rattle.hir_core.specs.Masks.{HasBit, IsPart, match_bit, sure_bit, row_place, next_of, is_taker, is_wide, takes_byte, Covers, IsMoved, IsDead, AreDead, NoRun}
-use Rattle.hir_core.specs.Scan.{IsAskedFirst, IsRequired, IsFilterOf, IsPassedOver, Looked, NoEnd, NoneBegins, TellsStops, stops_at}
+use Rattle.hir_core.specs.Masks.{HasBit, IsOpen, IsPart, IsShut, IsShutBefore, match_bit, sure_bit, row_place, next_of, is_taker, is_wide, takes_byte, Covers, IsMoved, IsDead, AreDead, NoRun}
+use Rattle.hir_core.specs.Scan.{IsAskedFirst, IsRequired, IsFilterOf, IsOpenAt, IsPassedOver, Looked, NoEnd, NoneBegins, TellsStops, stops_at}
 use Rattle.hir_core.specs.declared.spot.Spot.{Spot}
 use Rattle.hir_core.specs.declared.scan.Candidate.{Candidate}
 use Rattle.hir_core.specs.declared.scan.Scan.{Scan}
@@ -72,9 +73,39 @@ Steps-read text s place state tried next read more within byte kept begun narrow
       follows = subst (λ (live : ℕ). CoversAfter s (bit_and tried live) next) takes follows;
     }
 
+-- a number that doesn't differ from 0
+pub zero_where : (n : ℕ) → not (n == 0) ≡ false → n ≡ 0
+zero_where n e = grind (arith, nat_tests)
+
 -- no match ends where there is no bit for it
 pub NoEnd-small : (text : List ℕ) (at : ℕ) (look : Option Look) (mask : ℕ) → mask < 2 ^ 62 → NoEnd text at look mask
 NoEnd-small text at look mask small = (HasBit-above mask sure_bit small, λ has. absurd (HasBit-above mask match_bit (omega (arith, small)) has))
+
+-- no bit is set in both
+abbrev AreApart : ℕ → ℕ → Type 0
+AreApart a b = (i : ℕ) → HasBit a i → HasBit b i → ⊥
+
+-- no match ends where none of a mask may go on
+pub NoEnd-closed : (text : List ℕ) (at : ℕ) (s : Scan) (mask more : ℕ) → IsOpenAt text at s more → bit_and mask more < 2 ^ 62 → NoEnd text at s.last_look mask
+NoEnd-closed text at s mask more is small = (
+  λ has. HasBit-above (bit_and mask more) sure_bit small (HasBit-and mask more sure_bit has is.sure),
+  λ has. is.ends (λ set_bit. HasBit-above (bit_and mask more) match_bit (omega (arith, small)) (HasBit-and mask more match_bit has set_bit)),
+)
+
+-- a look that doesn't hold before a byte doesn't hold where that stands
+shut_at : (look : Option Look) (b : ℕ) → IsShutBefore look b → (text : List ℕ) (at : ℕ) → at < length text → slice_index text at ≡ b → IsShut text at look
+shut_at None b shut text at within here = tt
+shut_at (Some l) b shut text at within here = shut l refl text at within here
+
+-- what may go on before a byte may where that stands
+pub open_where : (s : Scan) (b mask : ℕ) → IsOpen b (slice_index s.takes.items b) s.wide s.last_look mask → (text : List ℕ) (at : ℕ) → at < length text → slice_index text at ≡ b
+    → IsOpenAt text at s mask
+open_where s b mask is text at within here = record {
+  taken = λ inside. subst (λ (n : ℕ). IsPart (slice_index s.takes.items n) mask) (sym here) is.taken;
+  beyond = λ inside big. is.beyond (omega (arith, big, here));
+  sure = is.sure;
+  ends = λ unset. shut_at s.last_look b (is.ends unset) text at within here;
+}
 
 module _ (text : List ℕ) (spots : List Spot) (s : Scan) (filter : IsFilterOf spots s) where
   -- at the end of the text each spot that takes bytes is dead
@@ -91,13 +122,18 @@ module _ (text : List ℕ) (spots : List Spot) (s : Scan) (filter : IsFilterOf s
   taker i = spot_at spots (slice_index s.of.items i)
 
   -- no spot of a mask takes a character beyond ASCII that begins with the byte
+  narrow_by : (byte mask : ℕ) → (byte < 128) ⊎ AreApart mask s.wide → (i : ℕ) → i < length s.of.items → HasBit mask i
+      → (byte < 128) ⊎ (is_wide (taker i) ≡ false)
+  narrow_by byte mask narrow i lt has = elim narrow [ inl low ↦ inl low | inr apart ↦ inr (cases (is_wide (taker i)) refl apart) ]
+    where
+      cases : (b : Bool) → is_wide (taker i) ≡ b → AreApart mask s.wide → b ≡ false
+      cases false e apart = refl
+      cases true e apart = absurd (apart i has (filter.wide i lt e))
+
   narrow_at : (byte mask : ℕ) → (byte < 128) ⊎ (bit_and mask s.wide ≡ 0) → (i : ℕ) → i < length s.of.items → HasBit mask i
       → (byte < 128) ⊎ (is_wide (taker i) ≡ false)
-  narrow_at byte mask narrow i lt has = elim narrow [ inl low ↦ inl low | inr nothing ↦ inr (cases (is_wide (taker i)) refl nothing) ]
-    where
-      cases : (b : Bool) → is_wide (taker i) ≡ b → bit_and mask s.wide ≡ 0 → b ≡ false
-      cases false e nothing = refl
-      cases true e nothing = absurd (HasBit-none i (subst (λ (m : ℕ). HasBit m i) nothing (HasBit-and mask s.wide i has (filter.wide i lt e))))
+  narrow_at byte mask narrow =
+      narrow_by byte mask (elim narrow [ inl low ↦ inl low | inr nothing ↦ inr (λ i. HasBit-apart mask s.wide i nothing) ])
 
   -- the spots that were tried are dead, if those are that may be tried next
   AreDead-before : (place state tried next mask : ℕ) → Steps text s place state tried next → AreDead text spots s.of.items s.last_look (place + 1) next
@@ -119,21 +155,40 @@ module _ (text : List ℕ) (spots : List Spot) (s : Scan) (filter : IsFilterOf s
 
   -- they are dead where none takes the byte
   pub AreDead-by : (place mask : ℕ) → slice_index text place < 256 → NoEnd text place s.last_look mask
-      → (slice_index text place < 128) ⊎ (bit_and mask s.wide ≡ 0) → bit_and mask (slice_index s.takes.items (slice_index text place)) ≡ 0
+      → (slice_index text place < 128) ⊎ AreApart mask s.wide → AreApart mask (slice_index s.takes.items (slice_index text place))
       → AreDead text spots s.of.items s.last_look place mask
-  AreDead-by place mask small none narrow nothing = record {
+  AreDead-by place mask small none narrow apart = record {
     unmatched = none.0;
     asked = none.1;
     dead = λ i lt has.
         IsDead-taker text spots place (slice_index s.of.items i) (taker i) refl (filter.takers i lt)
         (λ k sized.
-        let one = one_byte text spots (taker i) place k (narrow_at byte mask narrow i lt has) sized in
-        absurd (HasBit-none i (subst (λ (m : ℕ). HasBit m i) nothing
-        (HasBit-and mask (slice_index s.takes.items byte) i has (filter.takes i byte lt small one.1)))));
+        let one = one_byte text spots (taker i) place k (narrow_by byte mask narrow i lt has) sized in
+        absurd (apart i has (filter.takes i byte lt small one.1)));
   }
     where
       byte : ℕ
       byte = slice_index text place
+
+  -- they are dead where nothing of a mask may go on
+  pub AreDead-closed : (place mask more : ℕ) → (place < length text → slice_index text place < 256) → IsOpenAt text place s more → bit_and mask more ≡ 0
+      → AreDead text spots s.of.items s.last_look place mask
+  AreDead-closed place mask more small is nothing = elim (cases_lt place (length text)) [
+    | inl within ↦ AreDead-by place mask (small within) none (narrow within) (λ i has taken. apart i has (is.taken within i taken))
+    | inr past ↦ AreDead-end mask place past none
+  ]
+    where
+      apart : AreApart mask more
+      apart i = HasBit-apart mask more i nothing
+
+      none : NoEnd text place s.last_look mask
+      none = NoEnd-closed text place s mask more is (subst (λ (m : ℕ). m < 2 ^ 62) (sym nothing) (let low : 0 < 2 ^ 62 = omega arith in low))
+
+      narrow : place < length text → (slice_index text place < 128) ⊎ AreApart mask s.wide
+      narrow within = elim (cases_lt (slice_index text place) 128) [
+        | inl low ↦ inl low
+        | inr high ↦ inr (λ i has beyond. apart i has (is.beyond within high i beyond))
+      ]
 
   module _ (c : Required) (required : IsRequired spots s.of.items s.last_look s.start c) where
     -- the spots before a required one are dead where it is passed over, if they are at the next place
@@ -234,6 +289,9 @@ module _ (text : List ℕ) (s : Scan) where
         (λ (o : Option Prefilter). IfSome o (λ j. IsRequired spots s.of.items s.last_look s.start j.required × TellsStops s.takes.items s.wide j.required j.stops))
         is filter.prefilter
 
+    narrow_apart : {byte : ℕ} → (byte < 128) ⊎ (bit_and k.required.before s.wide ≡ 0) → (byte < 128) ⊎ AreApart k.required.before s.wide
+    narrow_apart narrow = elim narrow [ inl low ↦ inl low | inr nothing ↦ inr (λ i. HasBit-apart k.required.before s.wide i nothing) ]
+
     -- no run begins where the prefilter comes to the end of the text
     pub NoneBegins-end : length text ≤ next → NoneBegins text s at next
     NoneBegins-end over spots filter q low high =
@@ -252,7 +310,8 @@ module _ (text : List ℕ) (s : Scan) where
           let passes = λ (p : ℕ) (from : at ≤ p) (until : p < next). (said spots filter).1 (slice_index text p) (small p) (passed p from until) in
           IsDead-prefilter text spots s filter k.required is_required at (gap - 1) q small (λ p from until. passes p from (omega arith))
           (AreDead-by text spots s filter (gap - 1) k.required.before (small (gap - 1))
-          (NoEnd-small text (gap - 1) s.last_look k.required.before is_required.unmatched) (passes (gap - 1) (omega arith) (omega arith)).1 nothing)
+          (NoEnd-small text (gap - 1) s.last_look k.required.before is_required.unmatched) (narrow_apart (passes (gap - 1) (omega arith) (omega arith)).1)
+          (λ i. HasBit-apart k.required.before (slice_index s.takes.items (slice_index text (gap - 1))) i nothing))
           low (omega arith)
     ]
 

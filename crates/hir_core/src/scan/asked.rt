@@ -1,8 +1,8 @@
 //! Which looks are asked first and last, and where lines start.
 
-ghost use Rattle.std.specs.Prelude.{◌≡◌, ◌+◌, ◌<◌, ◌≤◌, ℕ, List, false, length, slice_index, IfOk};
+ghost use Rattle.std.specs.Prelude.{◌≡◌, ◌+◌, ◌<◌, ◌≤◌, ℕ, false, length, IfOk};
 ghost use Rattle.hir_tree.specs.declared.look.Look.TheVariants as look;
-ghost use Rattle.hir_core.specs.Masks.{AreAllTakers};
+ghost use Rattle.hir_core.specs.Masks.{AreAllTakers, IsShutBefore};
 ghost use Rattle.hir_tree.specs.Looks.{holds};
 ghost use Rattle.hir_core.specs.Scan.{IsAskedFirst};
 
@@ -43,6 +43,19 @@ pub fn last_look(spots: &[Spot]) -> Option<Look> {
     look.filter(|look| matches!(look, Look::End | Look::EndLF | Look::EndCRLF))
 }
 
+/// Whether a look, if there is one, may hold before a byte.
+#[tactic(auto, unfolding(hir_tree::specs::Looks::holds))]
+pub fn may_hold_before(look: Option<Look>, byte: u8) -> bool
+    ensures { result ≡ false → IsShutBefore look byte }
+{
+    match look {
+        Some(Look::End) => false,
+        Some(Look::EndLF) => byte == b'\n',
+        Some(Look::EndCRLF) => byte == b'\n' || byte == b'\r',
+        _ => true,
+    }
+}
+
 /// The next place from one on where a line starts, or the one after the end of the text.
 #[tactic(auto, unfolding(hir_tree::specs::Looks::holds))]
 pub fn line_start(text: &[u8], at: usize) -> usize
@@ -55,16 +68,4 @@ pub fn line_start(text: &[u8], at: usize) -> usize
         return 0;
     }
     next_of_one(b'\n', text, at - 1) + 1
-}
-
-/// Whether a look may hold before a byte.
-pub fn may_hold_before(look: Look, byte: u8) -> bool
-    ensures { result ≡ false → (text : List ℕ) (at : ℕ) → at < length text → slice_index text at ≡ byte → holds look text at ≡ false }
-{
-    match look {
-        Look::End => false,
-        Look::EndLF => byte == b'\n',
-        Look::EndCRLF => byte == b'\n' || byte == b'\r',
-        _ => true,
-    }
 }

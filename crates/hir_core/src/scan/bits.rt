@@ -6,9 +6,11 @@ ghost use Rattle.hir_core.specs.Masks.{HasBit, IsPart, Grows, IsMoved, AreMoved,
 use sd_base::NoMemory;
 use std::alloc::Global;
 
-/// The bit that tells that a match may end also where the last look doesn't hold. The bit above tells that one may end where it
-/// holds.
+/// The bit that tells that a match may end also where the last look doesn't hold.
 pub const SURE: u64 = 1 << 62;
+
+/// The bit that tells that a match may end where the last look holds.
+pub const MATCH: u64 = 1 << 63;
 
 /// The mask with one more bit.
 pub fn with_bit(mask: u64, bit: usize) -> u64

@@ -3,11 +3,12 @@
 ghost use Rattle.std.specs.Prelude.{◌≡◌, ◌<◌, ◌≤◌, ℕ, true, length, slice_index, replicate, vec_len, IfOk};
 ghost use Rattle.hir_core.specs.Program.{spot_at};
 ghost use Rattle.hir_tree.specs.Runs.{in_set};
-ghost use Rattle.hir_core.specs.Masks.{HasBit, Grows, GrowsOnly, AreTakers, AreAllTakers, SaysNoMore, SaysWhatTakes, SaysWhichAreWide, is_taker, takes_byte, has_wide, is_wide};
+ghost use Rattle.hir_core.specs.Masks.{HasBit, Grows, GrowsOnly, AreOpen, IsOpen, AreTakers, AreAllTakers, SaysNoMore, SaysWhatTakes, SaysWhichAreWide, is_taker, takes_byte, has_wide, is_wide};
 
-use crate::scan::bits::{masks, with_bit};
+use crate::scan::asked::may_hold_before;
+use crate::scan::bits::{MATCH, SURE, masks, with_bit};
 use crate::spot::Spot;
-use crate::{ByteRanges, CharRanges};
+use crate::{ByteRanges, CharRanges, Look};
 use sd_base::NoMemory;
 use std::alloc::Global;
 
@@ -165,4 +166,36 @@ pub fn wide(spots: &[Spot], of: &[usize]) -> u64
         }
     }
     mask
+}
+
+/// What may go on before a byte that these spots take.
+fn open_by(byte: u8, takes: u64, wide: u64, look: Option<Look>) -> u64
+    ensures { IsOpen byte takes wide look result }
+{
+    let beyond = if byte < 128 { 0 } else { wide };
+    let ends = if may_hold_before(look, byte) {
+        SURE | MATCH
+    } else {
+        SURE
+    };
+    takes | beyond | ends
+}
+
+/// For each byte, what may go on before it, where these masks say which spots take it: those, and those that may take a character that
+/// begins with it, SURE, and MATCH where the look, if there is one, may hold. Refuses for want of memory alone.
+pub fn open_before(
+    alloc: Global,
+    takes: &[u64],
+    wide: u64,
+    look: Option<Look>,
+) -> Result<Vec<u64>, NoMemory>
+    requires room { length takes.now ≡ 256 }
+    ensures room { IfOk result (λ masks. vec_len masks ≡ 256) }
+    ensures says { IfOk result (λ masks. AreOpen takes.now wide look masks.items) }
+{
+    let mut masks = Vec::new(alloc);
+    for byte in 0..256usize {
+        masks.push(open_by(byte as u8, takes[byte], wide, look))?;
+    }
+    Ok(masks)
 }

@@ -5,7 +5,7 @@ use Rattle.std.proofs.lemmas.List.{get_or_past}
 use Rattle.std.proofs.lemmas.Nat.{pow_below, shr-shr}
 use Rattle.std.proofs.lemmas.Nat.Bits.{bit_at-pow_other, bit_at-pow_same, bit_at-zero, bit_at_and, bit_at_or, bit_at-lt, bit_at_above, bit_at_set_same, bit_at_cat_low}
 use Rattle.std.specs.Int.{bit_at}
-use Rattle.hir_core.specs.Masks.{HasBit, IsPart, Grows, sure_bit}
+use Rattle.hir_core.specs.Masks.{HasBit, IsPart, Grows, match_bit, sure_bit}
 
 -- 0 has no bit
 pub HasBit-none : (i : ℕ) → HasBit 0 i → ⊥
@@ -46,6 +46,11 @@ HasBit-apart a b i nothing h k = HasBit-none i (subst (λ (m : ℕ). HasBit m i)
 pub HasBit-sure : HasBit (2 ^ 62) sure_bit
 unfolding HasBit
 HasBit-sure = omega arith
+
+-- and those of both kinds of ends
+pub HasBit-ends : HasBit 13835058055282163712 sure_bit × HasBit 13835058055282163712 match_bit
+unfolding HasBit
+HasBit-ends = (omega arith, omega arith)
 
 -- the bit that was set
 pub HasBit-set : (mask k : ℕ) → k < 64 → HasBit (bit_or mask (1 * 2 ^ k % 2 ^ 64)) k

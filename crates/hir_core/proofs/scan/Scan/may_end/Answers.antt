@@ -1,14 +1,12 @@
-use Rattle.std.proofs.Common.{◌^◌, sym, ◌∙◌, subst}
-use Rattle.hir_core.specs.Masks.{IsShut, sure_bit}
-use Rattle.hir_core.proofs.scan.bits.MaskLemmas.{HasBit-apart, HasBit-sure}
-use Rattle.hir_core.proofs.scan.ScanLemmas.{NoEnd-small}
+use Rattle.std.proofs.Common.{◌≡◌, ℕ, ◌^◌, ◌<◌, false, bit_and, arith}
+use Rattle.std.specs.Prelude.{nat_le}
+use Rattle.std.proofs.lemmas.Bool.Decides.{nat_tests}
+use Rattle.hir_core.proofs.scan.ScanLemmas.{NoEnd-closed}
 use Rattle.hir_core.proofs.scan.Scan.may_end.Goals as goal
 
-pub returns-then-state-lt-SURE : goal.returns-then-state-lt-SURE
-returns-then-state-lt-SURE c none = NoEnd-small c.args.text.now c.args.place c.args.self.now.last_look c.args.state c.if-state-lt-SURE.true
+below : (n : ℕ) → nat_le (2 ^ 62) n ≡ false → n < 2 ^ 62
+below n e = grind (arith, nat_tests)
 
-pub returns-in-Some : goal.returns-in-Some
-returns-in-Some c fails = (
-  λ has. HasBit-apart c.args.state (2 ^ 62) sure_bit c.if-state-eq0.true has HasBit-sure,
-  λ has. subst (IsShut c.args.text.now c.args.place) (sym c.in-Some.is) (sym c.holds.ensures ∙ fails),
-)
+pub returns : goal.returns
+returns c fails =
+    NoEnd-closed c.args.text.now c.args.place c.args.self.now c.args.state c.open_at.result c.open_at.ensures (below (bit_and c.args.state c.open_at.result) fails)

@@ -1,16 +1,12 @@
 use Rattle.std.proofs.Common.{◌≡◌, ℕ, ◌<◌, Bool, true, false, List, length, slice_index, slice_index_or, bit_and, refl, sym, ap, ◌∙◌, true≢false, arith}
 use Rattle.std.specs.Prelude.{◌==◌, not}
-use Rattle.std.proofs.lemmas.Bool.Decides.{nat_tests}
 use Rattle.std.proofs.lemmas.Option.{get_or_from_slice_get, slice_get_read}
-use Rattle.hir_core.proofs.scan.ScanLemmas.{takes_byte-is}
+use Rattle.hir_core.proofs.scan.ScanLemmas.{takes_byte-is, zero_where}
 use Rattle.hir_core.proofs.scan.Scan.takes_ascii.Goals as goal
 
 -- a number of a list that was read
 read_at : (masks : List ℕ) (i read : ℕ) → i < length masks → read ≡ slice_index_or masks i read → read ≡ slice_index masks i
 read_at masks i read within e = sym (get_or_from_slice_get masks i read 0 (slice_get_read masks (length masks) i read refl within e))
-
-zero_where : (n : ℕ) → not (n == 0) ≡ false → n ≡ 0
-zero_where n e = grind (arith, nat_tests)
 
 pub returns : goal.returns
 returns c =

@@ -25,8 +25,8 @@ returns c =
       loops = c.none.ensures c.args.spots.now;
       prefilter =
           prefilter_of c.in_ok-after.after.items c.in_ok-takes.takes.items start wide required prefilter
-          (subst (λ (rows : List ℕ). IfSome required (λ k. IsRequiredOf rows start k)) c.as_slice-10.ensures.value c.rarest-required.ensures)
-          (subst (λ (takes : List ℕ). IfSome prefilter (λ k. (required ≡ Some k.required) × TellsStops takes wide k.required k.stops)) c.as_slice-11.ensures.value
+          (subst (λ (rows : List ℕ). IfSome required (λ k. IsRequiredOf rows start k)) c.as_slice-11.ensures.value c.rarest-required.ensures)
+          (subst (λ (takes : List ℕ). IfSome prefilter (λ k. (required ≡ Some k.required) × TellsStops takes wide k.required k.stops)) c.as_slice-12.ensures.value
           c.worth_while-prefilter.ensures)
           c.args.spots.now c.in_ok-of.of.items c.last_look-last_look.result (search rules) (search rules);
     }
