@@ -42,11 +42,15 @@ module _ (text : List ℕ) (spots : List Spot) (begin : ℕ) where
       AreSpent marks (some_run (stops_give text spots new)) × (first_of (stops_give text spots new) ≡ first_of (stops_give text spots old ++ runs))
   IsFollowed runs (Some m) marks old new = option_or (first_of (stops_give text spots new)) (Some m) ≡ first_of (stops_give text spots old ++ runs)
 
-  -- all are left of these stops, or all but the first, from which no way gives a run
+  -- All are left of these stops, or all but the first, or but the second, which is at the place of the first: from that no way gives a run.
   abbrev pub AreLeft : List Stop → List Stop → Type 0
-  AreLeft all left = (left ≡ all) ⊎ ((p : Stop) × (all ≡ p ∷ left) × IsDead text spots p.1.run.at p.0)
+  AreLeft all left =
+      (left ≡ all)
+      ⊎ (((p : Stop) × (all ≡ p ∷ left) × IsDead text spots p.1.run.at p.0)
+      ⊎ ((p : Stop) × (q : Stop) × (rest : List Stop) × (all ≡ p ∷ q ∷ rest) × (left ≡ p ∷ rest) × (q.1.run.at ≡ p.1.run.at)
+      × IsDead text spots q.1.run.at q.0))
 
-  -- others come in the place of one, at its place or after bytes from there, but for a first from which no way gives a run
+  -- others come in the place of one, at its place or after bytes from there, but for one of two from which no way gives a run
   abbrev pub GivesWayTo : Stop → List Bool → List Bool → List Stop → List Stop → Type 0
   GivesWayTo p marks marks' stack stack' =
       let s = spot_at spots p.0 in

@@ -111,15 +111,13 @@ impl Block {
     }
 
     /// Follows the thread, which is in the block, from this spot to those that it leads to, and says whether it is a match, or where
-    /// it goes on. Of two ways at the place where it began it leaves out the first, if that can't come to a match: many are tried there,
-    /// and few go on. Refuses for want of memory alone.
+    /// it goes on. Of two ways it leaves out one that can't come to a match. Refuses for want of memory alone.
     fn turn<L: Ledger>(
         &mut self,
         spots: &[Spot],
         filter: &Scan,
         text: &[u8],
         places: Places,
-        began: usize,
         spot: usize,
         steps: &mut Steps<L>,
     ) -> Result<Turn, NoMemory>
@@ -152,8 +150,11 @@ impl Block {
         count(here, steps);
         if let Spot::Split { first, second } = here {
             let at = self.trail.at;
-            if at == began && !filter.may_go_on(*first, text, at) {
+            if !filter.may_go_on(*first, text, at) {
                 return Ok(Turn::On(Some(*second)));
+            }
+            if !filter.may_go_on(*second, text, at) {
+                return Ok(Turn::On(Some(*first)));
             }
         }
         Ok(Turn::On(advance(here, text, &mut self.trail)?))
@@ -185,7 +186,6 @@ impl Block {
         ensures ticks { CountsTries L.noted spots.now places.begin places.end self.old.marks self.new.marks steps.old steps.new }
     {
         self.trail.clear();
-        let began = self.trail.at;
         let mut on = Some(spot);
         while let Some(here) = self.trail.next(on)? {
             let loops = filter.loops();
@@ -204,7 +204,7 @@ impl Block {
                 on = None;
                 continue;
             }
-            match self.turn(spots, filter, text, places, began, here, steps)? {
+            match self.turn(spots, filter, text, places, here, steps)? {
                 Turn::Match => return Ok(true),
                 Turn::On(next) => on = next,
             }

@@ -3,6 +3,7 @@ use Rattle.std.proofs.Common.{◌≡◌, ℕ, ◌<◌, Bool, true, inl, inr, Lis
 use Rattle.std.specs.Prelude.{◌||◌}
 use Rattle.std.specs.Option.{option_or}
 use Rattle.std.specs.List.{flat_map}
+use Rattle.std.proofs.Math.Bool.{or-false}
 use Rattle.std.proofs.lemmas.Bool.{cases_lt, cases_eq, or_left}
 use Rattle.std.proofs.lemmas.Grind.{flat_map-append}
 use Rattle.hir_tree.specs.Runs.{Run, first}
@@ -134,6 +135,54 @@ module _ (text : List ℕ) (spots : List Spot) (falls : ClosesFall spots) where
                 Covers-above text spots falls (place e) (tried (place e)) (level (place e) rest ++ nowhere text spots falls (place e) ∷ []) (nonempty kept || nonempty (gives_of e))
                 (nonempty (kept ++ runs_of (over (place e) rest))) (seen_by e) (tried (place e)) (λ k. any _) head.1 head.3)
             | inr other ↦ level-as tried tried kept kept (e ∷ rest) rest p refl (sym (level_out p e rest other)) (λ k. any _) (h.levels p)
+          ]
+
+  -- The second entry is dropped, where it is at the same place and gives nothing.
+  pub dropped-second : (goal : Option Run) (tried : ℕ → List ℕ) (kept : List Run) (e f : Entry) (rest : List Entry) → place f ≡ place e → gives_of f ≡ []
+      → Blocking goal tried kept (e ∷ f ∷ rest) → Blocking goal tried kept (e ∷ rest)
+  dropped-second goal tried kept e f rest same nothing h = record {
+    top = h.top;
+    falling = (h.falling.0, subst (λ p. Falling p rest) same h.falling.1.1);
+    levels = levels;
+    finds = ap (λ xs. first (map forget (kept ++ (gives_of e ++ (xs ++ runs_of rest))))) (sym nothing) ∙ h.finds;
+  }
+    where
+      here : (p : ℕ) → place e ≡ p → Level tried kept (e ∷ rest) p
+      here p at =
+          let there : place f ≡ p = same ∙ at in
+          let over_same : over p (e ∷ f ∷ rest) ≡ over p (e ∷ rest) =
+          over_out p e (f ∷ rest) (omega (arith, at)) ∙ over_out p f rest (omega (arith, there)) ∙ sym (over_out p e rest (omega (arith, at))) in
+          let done : Bool = nonempty (kept ++ runs_of (over p (e ∷ rest))) in
+          let both : Covers text spots falls p (tried p) done (tried p) (e ∷ f ∷ (level p rest ++ nowhere text spots falls p ∷ [])) =
+          subst (λ xs. Covers text spots falls p (tried p) done (tried p) (xs ++ nowhere text spots falls p ∷ []))
+          (level_in p e (f ∷ rest) at ∙ ap (λ xs. e ∷ xs) (level_in p f rest there))
+          (subst (λ xs. Covers text spots falls p (tried p) (nonempty (kept ++ runs_of xs)) (tried p) (level p (e ∷ f ∷ rest) ++ nowhere text spots falls p ∷ [])) over_same
+          (h.levels p)) in
+          subst (λ xs. Covers text spots falls p (tried p) done (tried p) (xs ++ nowhere text spots falls p ∷ [])) (sym (level_in p e rest at)) (
+            both.0,
+            both.1,
+            both.2,
+            Covers-above text spots falls p (tried p) (level p rest ++ nowhere text spots falls p ∷ []) ((done || nonempty (gives_of e)) || nonempty (gives_of f))
+                (done || nonempty (gives_of e)) (seen_by f) (seen_by e)
+                (λ k. sym (or-false (done || nonempty (gives_of e))) ∙ ap (λ xs. (done || nonempty (gives_of e)) || nonempty xs) (sym nothing) ∙ k) both.3.1 both.3.3,
+          )
+
+      over_runs : (p : ℕ) → runs_of (over p (e ∷ f ∷ rest)) ≡ runs_of (over p (e ∷ rest))
+      over_runs p =
+          elim (cases_lt p (place e)) [
+            | inl before ↦ ap runs_of (over_in p e (f ∷ rest) before) ∙ ap (λ xs. gives_of e ++ runs_of xs) (over_in p f rest (omega (arith, same, before)))
+                ∙ ap (λ xs. gives_of e ++ (xs ++ runs_of (over p rest))) nothing ∙ ap runs_of (sym (over_in p e rest before))
+            | inr past ↦ ap runs_of
+                (over_out p e (f ∷ rest) past ∙ over_out p f rest (omega (arith, same, past)) ∙ sym (over_out p e rest past))
+          ]
+
+      levels : (p : ℕ) → Level tried kept (e ∷ rest) p
+      levels p =
+          elim (cases_eq (place e) p) [
+            | inl at ↦ here p at
+            | inr other ↦ level-as tried tried kept kept (e ∷ f ∷ rest) (e ∷ rest) p refl
+                (level_out p e rest other ∙ sym (level_out p e (f ∷ rest) other ∙ level_out p f rest (λ at. other (sym same ∙ at))))
+                (as_same _ _ (ap (λ xs. kept ++ xs) (over_runs p))) (h.levels p)
           ]
 
   -- It goes on later than all places of the block, and is kept after what is there.

@@ -1,5 +1,5 @@
 -- One turn of the search of a block.
-use Rattle.std.proofs.Common.{◌≡◌, ℕ, ◌<◌, ◌≤◌, Bool, true, false, cond, inl, inr, List, [], ◌∷◌, ◌++◌, length, map, Option, Some, None, if◌then◌else◌, refl, sym, ap, ◌∙◌, subst, true≢false, append-nil, arith}
+use Rattle.std.proofs.Common.{◌≡◌, ℕ, ◌<◌, ◌≤◌, Bool, true, false, cond, inl, inr, List, [], ◌∷◌, ◌++◌, length, map, Option, Some, None, if◌then◌else◌, refl, sym, ap, ap₂, ◌∙◌, subst, true≢false, append-nil, arith}
 use Rattle.std.specs.Prelude.{◌==◌, ◌||◌, slice_set}
 use Rattle.std.specs.Option.{option_or}
 use Rattle.std.specs.List.{flat_map, AllByRecursion}
@@ -24,7 +24,7 @@ use Rattle.hir_core.proofs.closure.TurnLemmas.{led_to, bare, cons_not_nil, cons_
 use Rattle.hir_core.proofs.pass.PassLemmas.{Stands-dropped, Stands-led, Stands-kept, Stands-closed, gives_fresh, nowhere}
 use Rattle.hir_core.proofs.scan.ScanLemmas.{gives-dead}
 use Rattle.hir_core.proofs.block.LevelLemmas.{place, level, AllAt}
-use Rattle.hir_core.proofs.block.BlockLemmas.{Blocking, top-level, replaced, dropped-done, kept-later, moved-on, blocking-match, blocking-begin, blocking-end}
+use Rattle.hir_core.proofs.block.BlockLemmas.{Blocking, top-level, replaced, dropped-done, dropped-second, kept-later, moved-on, blocking-match, blocking-begin, blocking-end}
 use Rattle.hir_core.proofs.block.MarkLemmas.{adding, adding-here, adding-elsewhere, AreMarks, AreMarks-adding, AreMarks-tried, tried_by, tried-is}
 
 module _ (text : List ℕ) (spots : List Spot) (falls : ClosesFall spots) (begin end : ℕ) where
@@ -329,6 +329,28 @@ module _ (text : List ℕ) (spots : List Spot) (falls : ClosesFall spots) (begin
               drop_entry goal marks kept a.0 a.1 a.2 a.3 a.6.0.1 a.6.1 a.7
               (gives-dead text spots (place a.1) a.1.spot a.1.way refl (subst (λ (q : Stop). IsDead text spots q.1.run.at q.0) (sym a.4) dead));
         }
+
+    -- so is the second, at the same place
+    pub Searching-dead_second : (more : List Stop) (q : Stop) → rest ≡ q ∷ more → q.1.run.at ≡ p.1.run.at → IsDead text spots q.1.run.at q.0
+        → Searching goal marks kept (p ∷ rest) → Searching goal marks kept (p ∷ more)
+    Searching-dead_second more q is here dead c =
+        let a = apart c in cases a.0 a.1 a.2 a.3 a.4 (a.5 ∙ is) a.6 a.7
+      where
+        cases : (tried : ℕ → List ℕ) (e : Entry) (es : List Entry) → AreMarks (length spots) begin marks tried → bare e ≡ p → map bare es ≡ q ∷ more
+            → Outside (e ∷ es) → Blocking text spots falls goal tried (stops_give text spots kept) (e ∷ es) → Searching goal marks kept (p ∷ more)
+        cases tried e [] are first same out b = absurd (cons_not_nil q more (sym same))
+        cases tried e (f ∷ es) are first same out b =
+            let second : bare f ≡ q = cons_head same in record {
+              tried = tried;
+              entries = e ∷ es;
+              are_marks = are;
+              are_stack = ap₂ (λ (x : Stop) (xs : List Stop). x ∷ xs) first (cons_tail same);
+              outside = (out.0, out.1.1);
+              blocking =
+                  dropped-second text spots falls goal tried (stops_give text spots kept) e f es
+                  (ap (λ (x : Stop). x.1.run.at) second ∙ here ∙ sym (ap (λ (x : Stop). x.1.run.at) first))
+                  (gives-dead text spots (place f) f.spot f.way refl (subst (λ (x : Stop). IsDead text spots x.1.run.at x.0) (sym second) dead)) b;
+            }
 
     -- a thread that goes on past the block is kept
     pub Searching-kept : end ≤ p.1.run.at → Searching goal marks kept (p ∷ rest) → Searching goal marks (kept ++ p ∷ []) rest

@@ -17,7 +17,7 @@ use Rattle.hir_core.specs.declared.spot.Spot.{Spot}
 use Rattle.hir_core.specs.declared.spot.Spot.TheVariants as spot
 use Rattle.hir_core.proofs.closure.TurnLemmas.{visited_again, unset_bits, stack_weight, turn_weight, less_bits, same_bits, tie_within, keeps_later, length-visiting}
 use Rattle.hir_core.proofs.block.MarkLemmas.{mark-within, set_stays}
-use Rattle.hir_core.proofs.block.BlockTurnLemmas.{Searching, Searching-turn, Searching-dead, Searching-kept, Searching-match, Searching-begin, Searching-end}
+use Rattle.hir_core.proofs.block.BlockTurnLemmas.{Searching, Searching-turn, Searching-dead, Searching-dead_second, Searching-kept, Searching-match, Searching-begin, Searching-end}
 
 -- What the loop over the stack of a block keeps true.
 abbrev pub FollowsIn : List ℕ → List Spot → ℕ → ℕ → Option Run → List Bool → List Stop → List Stop → Type 0
@@ -170,19 +170,38 @@ module _ (text : List ℕ) (spots : List Spot) (begin : ℕ) (all left : List St
       → FollowsIn text spots begin end goal marks kept left
   FollowsIn-left end goal marks kept h = elim cut [
     | inl same ↦ subst (λ ps. FollowsIn text spots begin end goal marks kept ps) (sym same) h
-    | inr first ↦
-        let now : FollowsIn text spots begin end goal marks kept (first.0 ∷ left) = subst (λ ps. FollowsIn text spots begin end goal marks kept ps) first.1 h in
-        (now.0, Searching-dead text spots now.0 begin end goal marks kept left first.0 first.2 now.1, now.2.1, now.3)
+    | inr one ↦ elim one [
+      | inl first ↦
+          let now : FollowsIn text spots begin end goal marks kept (first.0 ∷ left) = subst (λ ps. FollowsIn text spots begin end goal marks kept ps) first.1 h in
+          (now.0, Searching-dead text spots now.0 begin end goal marks kept left first.0 first.2 now.1, now.2.1, now.3)
+      | inr second ↦
+          let now : FollowsIn text spots begin end goal marks kept (second.0 ∷ second.1 ∷ second.2) =
+          subst (λ ps. FollowsIn text spots begin end goal marks kept ps) second.3 h in
+          subst (λ ps. FollowsIn text spots begin end goal marks kept ps) (sym second.4) (
+            now.0,
+            Searching-dead_second text spots now.0 begin end goal marks kept (second.1 ∷ second.2) second.0 second.2 second.1 refl second.5 second.6 now.1,
+            (now.2.0, now.2.1.1),
+            now.3,
+          )
+    ]
   ]
 
   -- and is no heavier
   weight-left : (marks : List Bool) → turn_weight text spots marks left ≤ turn_weight text spots marks all
   weight-left marks = elim cut [
     | inl same ↦ let k : turn_weight text spots marks left ≡ turn_weight text spots marks all = ap (λ ps. turn_weight text spots marks ps) same in omega arith
-    | inr first ↦
-        let k : turn_weight text spots marks all ≡ turn_weight text spots marks (first.0 ∷ left) = ap (λ ps. turn_weight text spots marks ps) first.1 in
-        let less : turn_weight text spots marks left < turn_weight text spots marks (first.0 ∷ left) = omega arith in
-        omega arith
+    | inr one ↦ elim one [
+      | inl first ↦
+          let k : turn_weight text spots marks all ≡ turn_weight text spots marks (first.0 ∷ left) = ap (λ ps. turn_weight text spots marks ps) first.1 in
+          let less : turn_weight text spots marks left < turn_weight text spots marks (first.0 ∷ left) = omega arith in
+          omega arith
+      | inr second ↦
+          let k : turn_weight text spots marks all ≡ turn_weight text spots marks (second.0 ∷ second.1 ∷ second.2) =
+          ap (λ ps. turn_weight text spots marks ps) second.3 in
+          let j : turn_weight text spots marks left ≡ turn_weight text spots marks (second.0 ∷ second.2) = ap (λ ps. turn_weight text spots marks ps) second.4 in
+          let less : turn_weight text spots marks (second.0 ∷ second.2) < turn_weight text spots marks (second.0 ∷ second.1 ∷ second.2) = omega arith in
+          omega arith
+    ]
   ]
 
 -- with the first of the stack apart
