@@ -87,5 +87,5 @@ fn more_spots_that_take_characters_than_a_filter_has(rt: HostRuntime) -> Result<
 
 #[test]
 fn more_spots_than_a_block_has(rt: HostRuntime) -> Result<(), Fail> {
-    check(&rt, r"(?:\w|(?:\b|\B){90})*\bz")
+    check(&rt, r"(?:\w|\w\w|a(?:\b|\B){90})*\bz")
 }
