@@ -4,8 +4,8 @@ use Rattle.hir_core.specs.Masks.{AreDead}
 use Rattle.hir_core.proofs.scan.ScanLemmas.{AreDead-closed, open_where, zero_where}
 use Rattle.hir_core.proofs.scan.Scan.may_go_on_by.Goals as goal
 
-pub returns : goal.returns
-returns c fails spots filter text at within here =
+pub returns-else-spot-len : goal.returns-else-spot-len
+returns-else-spot-len c fails spots filter text at within here =
     let firsts = c.args.self.now.firsts.items in
     let few : c.args.spot < length firsts = omega (arith, c.if-spot-len.false, c.len.ensures) in
     let mask : c.index.result.now ≡ slice_index firsts c.args.spot =
