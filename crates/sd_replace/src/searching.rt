@@ -84,7 +84,9 @@ impl<'a> Search<'a> {
     }
 
     /// The groups and the lists of the search, for the next one.
-    pub(crate) fn into_groups(self) -> RegexCaptures {
+    pub(crate) fn into_groups(self) -> RegexCaptures
+        ensures { result ≡ self.groups }
+    {
         self.groups
     }
 }
