@@ -84,9 +84,7 @@ impl<'a> Search<'a> {
     }
 
     /// The groups and the lists of the search, for the next one.
-    pub(crate) fn into_groups(self) -> RegexCaptures
-        ensures { result ≡ self.groups }
-    {
+    pub(crate) fn into_groups(self) -> RegexCaptures {
         self.groups
     }
 }
