@@ -1,5 +1,5 @@
 -- A sweep by a plan, from its beginning to its end.
-use Rattle.std.proofs.Common.{◌≡◌, ◌∙◌, ℕ, ◌≤◌, Bool, List, sym, ap, subst, inl, inr, arith}
+use Rattle.std.proofs.Common.{◌≡◌, ◌∙◌, ℕ, ◌≤◌, Bool, true, List, sym, ap, subst, inl, inr, arith}
 use Rattle.std.specs.Prelude.{◌⊎◌, Some, None, IsSome, IsTrue, Result, Ok, Err, IsErrAnd, IfOk, IfErr, OnOk}
 use Rattle.sd_io.specs.Paths.{reached}
 use Rattle.sd_io.specs.Tree.{NameList, Tree, IsTree}

@@ -1,3 +1,4 @@
+use Rattle.std.proofs.Common.{rules}
 use Rattle.sd_journal.proofs.running.TellLemmas.{words_told}
 use Rattle.sd_journal.proofs.running.refuse.Goals as goal
 
