@@ -1,3 +1,1 @@
-mod PlacedLemmas
-mod ProgramLemmas
 mod PruningLemmas

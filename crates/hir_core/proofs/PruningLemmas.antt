@@ -7,12 +7,12 @@ use Rattle.std.proofs.lemmas.Bool.{cond-true, cond-false, or_left, or_right}
 use Rattle.hir_tree.specs.Looks.{holds}
 use Rattle.hir_tree.specs.Runs.{Run, moved, mark, is_seen, byte_size, char_size, as_list, take_size}
 use Rattle.hir_tree.specs.RunsLaws.{forget}
-use Rattle.hir_core.specs.Program.{spot_at, is_close, is_unmarked, Way, way, marked, closed, follow, rank, gives, ClosesFall}
-use Rattle.hir_core.specs.declared.spot.Spot.{Spot}
-use Rattle.hir_core.specs.declared.spot.Spot.TheVariants as spot
+use Rattle.hir_program.specs.Program.{spot_at, is_close, is_unmarked, Way, way, marked, closed, follow, rank, gives, ClosesFall}
+use Rattle.hir_program.specs.declared.spot.Spot.{Spot}
+use Rattle.hir_program.specs.declared.spot.Spot.TheVariants as spot
 use Rattle.hir_tree.proofs.RunsLemmas.{TakesWithin, byte_size-within, char_size-within}
-use Rattle.hir_core.proofs.ProgramLemmas.{rank-marked, rank-moved, rank-closed}
-use Rattle.hir_core.proofs.PlacedLemmas.{gives-at, gives-close}
+use Rattle.hir_program.proofs.ProgramLemmas.{rank-marked, rank-moved, rank-closed}
+use Rattle.hir_program.proofs.PlacedLemmas.{gives-at, gives-close}
 
 -- each of the one is among the other
 abbrev pub Subset : List ℕ → List ℕ → Type 0

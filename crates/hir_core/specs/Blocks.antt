@@ -2,14 +2,14 @@
 use Rattle.std.specs.Prelude.{◌≡◌, ℕ, ◌+◌, ◌-◌, ◌*◌, Bool, true, ◌&&◌, ◌⊎◌, nat_le, nat_lt, List, [], ◌∷◌, ◌++◌, length, Option, Some, None, if◌then◌else◌}
 use Rattle.std.specs.Option.{option_or}
 use Rattle.hir_tree.specs.Runs.{Run}
-use Rattle.hir_core.specs.Masks.{IsDead}
-use Rattle.hir_core.specs.Pass.{comes, first_of, fresh, keeps, some_run, stops_give, visiting, was_visited}
-use Rattle.hir_core.specs.Program.{gives, spot_at}
+use Rattle.hir_program.specs.Masks.{IsDead}
+use Rattle.hir_core.specs.Pass.{comes, first_of, fresh, keeps, stops_give, visiting, was_visited}
+use Rattle.hir_program.specs.Program.{gives, spot_at, some_run}
 use Rattle.hir_core.specs.Trails.{Stop, stops_on, way_of}
 use Rattle.hir_core.specs.declared.closure.Turn.{Turn}
 use Rattle.hir_core.specs.declared.closure.Turn.TheVariants as turn
-use Rattle.hir_core.specs.declared.spot.Spot.{Spot}
-use Rattle.hir_core.specs.declared.spot.Spot.TheVariants as spot
+use Rattle.hir_program.specs.declared.spot.Spot.{Spot}
+use Rattle.hir_program.specs.declared.spot.Spot.TheVariants as spot
 use Rattle.hir_core.specs.declared.trail.Trail.{Trail}
 
 -- which mark is that of a spot at a place: there is a row of so many marks for each place from the first one on

@@ -3,13 +3,13 @@ use Rattle.std.specs.Prelude.{◌≡◌, ℕ, ◌≤◌, List, Option, IfSome}
 use Rattle.hir_tree.specs.Cores.{core_of}
 use Rattle.hir_tree.specs.Spots.{groups_of, spots_of}
 use Rattle.hir_tree.specs.declared.hir.Hir.{Hir}
-use Rattle.hir_core.specs.Laid.{GivesPreferred}
+use Rattle.hir_program.specs.Laid.{GivesPreferred}
 use Rattle.hir_core.specs.Pass.{counted}
 use Rattle.hir_tree.specs.PlainText.{text_of}
-use Rattle.hir_core.specs.Program.{ClosesFall}
-use Rattle.hir_core.specs.Scan.{IsFilterOf}
-use Rattle.hir_core.specs.declared.scan.Scan.{Scan}
-use Rattle.hir_core.specs.declared.spot.Spot.{Spot}
+use Rattle.hir_program.specs.Program.{ClosesFall}
+use Rattle.hir_program.specs.Scan.{IsFilterOf}
+use Rattle.hir_program.specs.declared.scan.Scan.{Scan}
+use Rattle.hir_program.specs.declared.spot.Spot.{Spot}
 
 -- The groups, the program, its filter and the text are those of the pattern.
 pub record IsCompiled (hir : Hir) (last_group : ℕ) (spots : List Spot) (scan : Option Scan) (bytes : Option (List ℕ)) : Type 0 where

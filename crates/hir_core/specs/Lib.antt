@@ -1,13 +1,9 @@
 pub mod Blocks
 pub mod Compiled
 pub mod Found
-pub mod Laid
-pub mod Loops
-pub mod Masks
 pub mod Pass
-pub mod Program
 pub mod Rows
-pub mod Scan
+pub mod RunsOver
 pub mod Stamps
 pub mod StackSearch
 pub mod Trails

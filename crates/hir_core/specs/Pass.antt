@@ -7,9 +7,9 @@ use Rattle.sd_base.specs.declared.steps.Steps.{Steps}
 use Rattle.hir_tree.specs.Looks.{holds}
 use Rattle.hir_tree.specs.Runs.{Run, begin, moved, byte_size, char_size, first}
 use Rattle.hir_tree.specs.RunsLaws.{forget}
-use Rattle.hir_core.specs.Program.{spot_at, is_unmarked, Way, way, opened, closed, gives}
-use Rattle.hir_core.specs.declared.spot.Spot.{Spot}
-use Rattle.hir_core.specs.declared.spot.Spot.TheVariants as spot
+use Rattle.hir_program.specs.Program.{spot_at, is_unmarked, some_run, Way, way, opened, closed, gives}
+use Rattle.hir_program.specs.declared.spot.Spot.{Spot}
+use Rattle.hir_program.specs.declared.spot.Spot.TheVariants as spot
 use Rattle.hir_core.specs.Trails.{Stop, way_of, stops_on}
 use Rattle.hir_core.specs.declared.trail.Trail.{Trail}
 use Rattle.hir_core.specs.declared.closure.Turn.{Turn}
@@ -23,11 +23,6 @@ fresh at = way [] (record { at = at; groups = []; seen = [] })
 -- the first run, without what it saw
 abbrev pub first_of : List Run → Option Run
 first_of runs = first (map forget runs)
-
--- there is a run
-abbrev pub some_run : List Run → Bool
-some_run [] = false
-some_run (r ∷ runs) = true
 
 -- where a spot leads without a byte, the preferred first
 abbrev pub leads : List ℕ → Spot → Way → List Stop

@@ -1,7 +1,7 @@
 -- The threads that go on later, as they lie in flat lists.
 use Rattle.std.specs.Prelude.{ℕ, ◌≤◌, List, [], reverse, Option, slice_range}
 use Rattle.std.specs.List.{All}
-use Rattle.hir_core.specs.Program.{way}
+use Rattle.hir_program.specs.Program.{way}
 use Rattle.hir_core.specs.Trails.{Stop}
 use Rattle.hir_core.specs.declared.thread_list.Row.{Row}
 

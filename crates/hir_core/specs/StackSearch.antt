@@ -4,10 +4,10 @@ use Rattle.std.specs.List.{flat_map, sum_by, AllByRecursion}
 use Rattle.hir_tree.specs.Looks.{holds}
 use Rattle.hir_tree.specs.Runs.{Run, begin, byte_size, char_size, take_size, first}
 use Rattle.hir_tree.specs.RunsLaws.{forget}
-use Rattle.hir_core.specs.Program.{Way, way, opened, closed, rank, gives}
+use Rattle.hir_program.specs.Program.{Way, way, opened, closed, rank, gives}
 use Rattle.hir_core.specs.declared.seen.Seen.{Seen}
-use Rattle.hir_core.specs.declared.spot.Spot.{Spot}
-use Rattle.hir_core.specs.declared.spot.Spot.TheVariants as spot
+use Rattle.hir_program.specs.declared.spot.Spot.{Spot}
+use Rattle.hir_program.specs.declared.spot.Spot.TheVariants as spot
 use Rattle.hir_core.specs.declared.stack_search.Alternative.{Alternative}
 
 -- the spot is a member of the set

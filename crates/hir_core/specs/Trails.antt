@@ -1,6 +1,6 @@
 -- The thread of a search that is followed, and the alternatives at its place.
 use Rattle.std.specs.Prelude.{◌≡◌, ℕ, List, [], ◌∷◌, drop, reverse, Option, Some, None, slice_set}
-use Rattle.hir_core.specs.Program.{Way, way}
+use Rattle.hir_program.specs.Program.{Way, way}
 use Rattle.hir_core.specs.declared.trail.Frame.{Frame}
 use Rattle.hir_core.specs.declared.trail.Frame.TheVariants as frame
 use Rattle.hir_core.specs.declared.trail.Trail.{Trail}

@@ -2,7 +2,7 @@
 use Rattle.std.specs.Prelude.{ℕ, zero, suc, ◌-◌, Bool, List, [], ◌++◌}
 use Rattle.sd_base.specs.declared.steps.Steps.{Steps}
 use Rattle.hir_core.specs.Pass.{CountsVisits}
-use Rattle.hir_core.specs.declared.spot.Spot.{Spot}
+use Rattle.hir_program.specs.declared.spot.Spot.{Spot}
 
 -- the spots of so many places, place by place, as they are marked in a block
 abbrev pub spots_over : ℕ → List Spot → List Spot

@@ -3,22 +3,20 @@
 
 ghost use Rattle.std.specs.Prelude.{◌≡◌, ℕ, List, ◌+◌, ◌-◌, ◌*◌, ◌^◌, ◌≤◌, ◌<◌, [], ◌++◌, false, length, replicate, None, IfOk, IfSome};
 ghost use Rattle.hir_core.specs.Blocks.{AreSpent, IsFollowed, KeepsMarks, TurnedAt, mark_of};
-ghost use Rattle.hir_core.specs.Pass.{answer, leads, leads_on, match_of, some_run, stop_gives, stops_give, taken, AllFrom};
-ghost use Rattle.hir_core.specs.Program.{ClosesFall};
-ghost use Rattle.hir_core.specs.Scan.{IsFilterOf};
+ghost use Rattle.hir_core.specs.Pass.{answer, leads, leads_on, match_of, stop_gives, stops_give, taken, AllFrom};
+ghost use Rattle.hir_program.specs.Program.{ClosesFall, some_run};
+ghost use Rattle.hir_program.specs.Scan.{IsFilterOf};
 ghost use Rattle.hir_core.specs.Trails.{stops_of, stops_on, way_of};
 ghost use Rattle.hir_core.specs.Tries.{CountsTries};
-ghost use Rattle.hir_core.specs.declared.spot.Spot.{Spot};
+ghost use Rattle.hir_program.specs.declared.spot.Spot.{Spot};
 
 use crate::closure::{Turn, count, lead};
-use crate::loops::run_over;
-use crate::scan::Scan;
+use crate::run_over::run_over;
 use crate::set_size::{byte_size, char_size};
-use crate::spot::Spot;
-use crate::starts::Starts;
 use crate::thread_list::ThreadList;
 use crate::trail::Trail;
 use crate::visited::Visited;
+use hir_program::{Scan, Spot, Starts};
 use sd_base::{Ledger, NoMemory, Steps};
 use std::alloc::Global;
 

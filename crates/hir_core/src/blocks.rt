@@ -3,26 +3,21 @@
 ghost use Rattle.std.specs.Prelude.{◌≡◌, ◌+◌, ◌-◌, ◌*◌, ◌≤◌, ◌<◌, [], None, false, is_some, length, IfOk};
 ghost use Rattle.std.specs.Option.{option_or};
 ghost use Rattle.hir_core.specs.Blocks.{AreSpent};
-ghost use Rattle.hir_core.specs.Pass.{answer, best_in, counted, first_from, match_of, some_run, stops_give, AllFrom};
-ghost use Rattle.hir_core.specs.Program.{ClosesFall};
-ghost use Rattle.hir_core.specs.Scan.{IsFilterOf};
+ghost use Rattle.hir_core.specs.Pass.{answer, best_in, counted, first_from, match_of, stops_give, AllFrom};
+ghost use Rattle.hir_program.specs.Program.{ClosesFall, some_run};
+ghost use Rattle.hir_program.specs.Scan.{IsFilterOf};
 ghost use Rattle.sd_base.specs.Steps.{TicksAtMost};
 
 use crate::block::{Block, Places};
 use crate::pass::Best;
-use crate::scan::Scan;
-use crate::spot::Spot;
-use crate::starts::Starts;
 use crate::thread_list::ThreadList;
+use hir_program::{Scan, Spot, Starts};
 use sd_base::{Ledger, NoMemory, Steps};
 use std::alloc::Global;
 use std::mem;
 
 /// How many places a block has at most.
 pub const PLACES: usize = 256;
-
-/// How many spots a program has at most that is searched block by block: so the marks of a block are at most 64 KB.
-pub const SPOTS: usize = 256;
 
 /// A search that is under way, and its lists, which it uses again in each block.
 #[derive(Drop)]

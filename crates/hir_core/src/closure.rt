@@ -1,17 +1,17 @@
 //! The search of one place, as in Pike's virtual machine: it visits each spot once at most, but for the ends of groups.
 
 ghost use Rattle.std.specs.Prelude.{◌≡◌, ◌+◌, ◌^◌, ◌≤◌, ◌<◌, [], ◌++◌, false, length, IfOk, IfSome};
-ghost use Rattle.hir_core.specs.Program.{ClosesFall, spot_at};
+ghost use Rattle.hir_program.specs.Program.{ClosesFall, spot_at, some_run};
 ghost use Rattle.hir_core.specs.Trails.{way_of, stops_of, stops_on};
 ghost use Rattle.sd_base.specs.Steps.{IsTicked};
-ghost use Rattle.hir_core.specs.Pass.{leads, taken, some_run, match_of, stops_give, Spent, Turned, Followed, AllLater, AllFrom, stop_gives, was_visited, visiting, is_counted, visit_ticks, CountsVisits};
+ghost use Rattle.hir_core.specs.Pass.{leads, taken, match_of, stops_give, Spent, Turned, Followed, AllLater, AllFrom, stop_gives, was_visited, visiting, is_counted, visit_ticks, CountsVisits};
 
 use crate::holds;
 use crate::set_size::{byte_size, char_size};
-use crate::spot::Spot;
 use crate::thread_list::ThreadList;
 use crate::trail::Trail;
 use crate::visited::Visited;
+use hir_program::Spot;
 use sd_base::{Ledger, NoMemory, Steps};
 use std::alloc::Global;
 

@@ -2,17 +2,16 @@
 
 ghost use Rattle.std.specs.Prelude.{◌≡◌, ◌+◌, ◌-◌, ◌*◌, ◌≤◌, ℕ, List, [], None, is_some, length, IfOk, IfSome, IsTrue, ◌++◌};
 ghost use Rattle.std.specs.Option.{option_or};
-ghost use Rattle.hir_core.specs.Program.{ClosesFall};
-ghost use Rattle.hir_core.specs.Scan.{IsFilterOf};
+ghost use Rattle.hir_program.specs.Program.{ClosesFall};
+ghost use Rattle.hir_program.specs.Scan.{IsFilterOf};
 ghost use Rattle.sd_base.specs.Steps.{TicksAtMost};
-ghost use Rattle.hir_core.specs.declared.spot.Spot.{Spot};
+ghost use Rattle.hir_program.specs.declared.spot.Spot.{Spot};
 ghost use Rattle.hir_core.specs.Pass.{stops_give, match_of, first_of, begins_unless, answer, first_from, best_in, AllLater, AllFrom, counted};
 
 use crate::closure::Closure;
-use crate::scan::Scan;
-use crate::spot::Spot;
 use crate::thread_list::ThreadList;
 use crate::trail::Trail;
+use hir_program::{Scan, Spot};
 use sd_base::{Ledger, NoMemory, Steps};
 use std::alloc::Global;
 use std::mem;

@@ -9,13 +9,11 @@ ghost use Rattle.hir_tree.specs.Spots.{groups_of, spots_of};
 ghost use Rattle.hir_tree.specs.Tree.{tree_of};
 ghost use Rattle.sd_base.specs.Steps.{TicksAtMost};
 
-use crate::blocks::{PLACES, SPOTS};
-use crate::compile::program;
+use crate::blocks::PLACES;
 use crate::plain::TextFinder;
-use crate::scan::Scan;
-use crate::spot::Spot;
 use crate::{Hir, Slots, group_count, stack_search};
 use grep_matcher::Match;
+use hir_program::{SPOTS, Scan, Spot, program};
 use sd_base::{Ledger, NoMemory, Silent, Steps};
 use std::alloc::Global;
 use std::marker::Model;

@@ -4,15 +4,14 @@ ghost use Rattle.std.specs.Prelude.{◌≡◌, ◌+◌, ◌-◌, ◌*◌, ◌<�
 ghost use Rattle.grep_matcher.specs.Groups.{group_at};
 ghost use Rattle.hir_core.specs.Found.{IsFound, IsInOrder, span_of};
 ghost use Rattle.hir_core.specs.Pass.{counted, groups_found};
-ghost use Rattle.hir_core.specs.Program.{ClosesFall};
-ghost use Rattle.hir_core.specs.Scan.{IsFilterOf};
+ghost use Rattle.hir_program.specs.Program.{ClosesFall};
+ghost use Rattle.hir_program.specs.Scan.{IsFilterOf};
 ghost use Rattle.sd_base.specs.Steps.{TicksAtMost};
 
 use crate::blocks::Blocks;
 use crate::pass::Pass;
-use crate::scan::Scan;
-use crate::spot::Spot;
 use grep_matcher::Match;
+use hir_program::{Scan, Spot};
 use sd_base::{Ledger, NoMemory, Steps};
 use std::alloc::Global;
 use std::marker::Model;

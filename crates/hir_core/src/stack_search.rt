@@ -7,7 +7,7 @@ ghost use Rattle.std.specs.Prelude.{◌≡◌, ◌+◌, ◌-◌, ◌^◌, ◌<�
 ghost use Rattle.std.specs.List.{AllByRecursion};
 ghost use Rattle.hir_core.specs.Found.{IsOfLeast, IsFound};
 ghost use Rattle.hir_core.specs.Pass.{groups_found};
-ghost use Rattle.hir_core.specs.Program.{ClosesFall, way, opened, closed};
+ghost use Rattle.hir_program.specs.Program.{ClosesFall, way, opened, closed};
 ghost use Rattle.hir_tree.specs.Runs.{begin, moved, as_list};
 ghost use Rattle.hir_core.specs.StackSearch.{place_of, run_of, places_of, leads, first_at, LiesBefore, Advances};
 
@@ -15,7 +15,7 @@ use crate::holds;
 use crate::seen::Seen;
 use crate::set_size::{byte_size, char_size};
 use crate::slots::Slots;
-use crate::spot::Spot;
+use hir_program::Spot;
 use sd_base::NoMemory;
 use std::alloc::Global;
 

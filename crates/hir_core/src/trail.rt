@@ -1,7 +1,7 @@
 //! The thread of a search that is followed, and what else is to be tried at its place.
 
 ghost use Rattle.std.specs.Prelude.{◌≡◌, ◌+◌, ◌^◌, ◌<◌, ℕ, ◌∷◌, [], IfOk, None, slice_index_or, slice_set};
-ghost use Rattle.hir_core.specs.Program.{opened, closed, way};
+ghost use Rattle.hir_program.specs.Program.{opened, closed, way};
 ghost use Rattle.hir_tree.specs.Runs as runs;
 ghost use Rattle.hir_core.specs.Trails.{way_of, placed_at, stops_of, stops_on, undone, ComesBack};
 

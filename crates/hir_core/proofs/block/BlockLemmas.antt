@@ -8,10 +8,10 @@ use Rattle.std.proofs.lemmas.Bool.{cases_lt, cases_eq, or_left}
 use Rattle.std.proofs.lemmas.Grind.{flat_map-append}
 use Rattle.hir_tree.specs.Runs.{Run, first}
 use Rattle.hir_tree.specs.RunsLaws.{forget}
-use Rattle.hir_core.specs.Program.{spot_at, gives, ClosesFall}
-use Rattle.hir_core.specs.declared.spot.Spot.{Spot}
-use Rattle.hir_core.specs.declared.spot.Spot.TheVariants as spot
-use Rattle.hir_core.proofs.PlacedLemmas.{gives-at}
+use Rattle.hir_program.specs.Program.{spot_at, gives, ClosesFall}
+use Rattle.hir_program.specs.declared.spot.Spot.{Spot}
+use Rattle.hir_program.specs.declared.spot.Spot.TheVariants as spot
+use Rattle.hir_program.proofs.PlacedLemmas.{gives-at}
 use Rattle.hir_core.proofs.closure.ClosureLemmas.{Entry, seen_by, nonempty, nonempty-append, Covers}
 use Rattle.hir_core.proofs.pass.PassLemmas.{Covers-above, first_before, first_of_two, nowhere, Spent, Stands-begin}
 use Rattle.hir_core.proofs.block.LevelLemmas.{place, over, level, Falling, AllAt, over_in, over_out, level_in, level_out, over_none, level_none, over_more, over_same, level_more, level_same, falling_more}

@@ -12,17 +12,17 @@ use Rattle.hir_tree.specs.RunsLaws.{forget}
 use Rattle.hir_tree.proofs.ListLemmas.{All-append}
 use Rattle.hir_tree.proofs.RunsLemmas.{TakesWithin, byte_size-within, char_size-within}
 use Rattle.hir_core.specs.Blocks.{mark_of, trying, AreSpent}
-use Rattle.hir_core.specs.Masks.{IsDead, is_taker}
-use Rattle.hir_core.specs.Pass.{first_of, some_run, taken, leads, leads_on, comes, keeps, was_visited, visiting, stop_gives, stops_give, fresh}
-use Rattle.hir_core.specs.Program.{spot_at, is_unmarked, way, marked, closed, follow, gives, ClosesFall}
+use Rattle.hir_program.specs.Masks.{IsDead, is_taker}
+use Rattle.hir_core.specs.Pass.{first_of, taken, leads, leads_on, comes, keeps, was_visited, visiting, stop_gives, stops_give, fresh}
+use Rattle.hir_program.specs.Program.{spot_at, is_unmarked, way, marked, closed, follow, gives, ClosesFall, some_run}
 use Rattle.hir_core.specs.Trails.{Stop}
-use Rattle.hir_core.specs.declared.spot.Spot.{Spot}
-use Rattle.hir_core.specs.declared.spot.Spot.TheVariants as spot
-use Rattle.hir_core.proofs.PlacedLemmas.{gives-at, gives-close}
+use Rattle.hir_program.specs.declared.spot.Spot.{Spot}
+use Rattle.hir_program.specs.declared.spot.Spot.TheVariants as spot
+use Rattle.hir_program.proofs.PlacedLemmas.{gives-at, gives-close}
 use Rattle.hir_core.proofs.closure.ClosureLemmas.{Entry, entry, seen_by, nonempty, pend, Children, Covers, Covers-seen}
 use Rattle.hir_core.proofs.closure.TurnLemmas.{led_to, bare, cons_not_nil, cons_head, cons_tail, led_bare, led_children, taken_gives, gives_fail, some_run-nonempty, visited_again}
 use Rattle.hir_core.proofs.pass.PassLemmas.{Stands-dropped, Stands-led, Stands-kept, Stands-closed, gives_fresh, nowhere}
-use Rattle.hir_core.proofs.scan.ScanLemmas.{gives-dead}
+use Rattle.hir_program.proofs.ScanLemmas.{gives-dead}
 use Rattle.hir_core.proofs.block.LevelLemmas.{place, level, AllAt}
 use Rattle.hir_core.proofs.block.BlockLemmas.{Blocking, top-level, replaced, dropped-done, dropped-second, kept-later, moved-on, blocking-match, blocking-begin, blocking-end}
 use Rattle.hir_core.proofs.block.MarkLemmas.{adding, adding-here, adding-elsewhere, AreMarks, AreMarks-adding, AreMarks-tried, tried_by, tried-is}

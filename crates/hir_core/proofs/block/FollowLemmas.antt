@@ -10,11 +10,11 @@ use Rattle.hir_tree.specs.Runs.{Run, byte_size, char_size}
 use Rattle.hir_tree.specs.RunsLaws.{forget}
 use Rattle.hir_tree.proofs.ListLemmas.{All-append, All-weaker}
 use Rattle.hir_core.specs.Blocks.{mark_of, trying, AreLeft, GivesWayTo, AreSpent, KeepsMarks}
-use Rattle.hir_core.specs.Pass.{AllFrom, first_of, some_run, taken, leads, leads_on, comes, keeps, was_visited, visiting, stop_gives, stops_give}
-use Rattle.hir_core.specs.Program.{spot_at, is_unmarked, tie, Way, closed, ClosesFall}
+use Rattle.hir_core.specs.Pass.{AllFrom, first_of, taken, leads, leads_on, comes, keeps, was_visited, visiting, stop_gives, stops_give}
+use Rattle.hir_program.specs.Program.{spot_at, is_unmarked, tie, Way, closed, ClosesFall, some_run}
 use Rattle.hir_core.specs.Trails.{Stop}
-use Rattle.hir_core.specs.declared.spot.Spot.{Spot}
-use Rattle.hir_core.specs.declared.spot.Spot.TheVariants as spot
+use Rattle.hir_program.specs.declared.spot.Spot.{Spot}
+use Rattle.hir_program.specs.declared.spot.Spot.TheVariants as spot
 use Rattle.hir_core.proofs.closure.TurnLemmas.{visited_again, unset_bits, stack_weight, turn_weight, less_bits, same_bits, tie_within, keeps_later, length-visiting}
 use Rattle.hir_core.proofs.block.MarkLemmas.{mark-within, set_stays}
 use Rattle.hir_core.proofs.block.BlockTurnLemmas.{Searching, Searching-turn, Searching-dead, Searching-dead_second, Searching-kept, Searching-match, Searching-begin, Searching-end}

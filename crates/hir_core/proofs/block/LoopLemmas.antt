@@ -11,20 +11,21 @@ use Rattle.bstr.proofs.lemmas.PieceLemmas.{value-1}
 use Rattle.hir_tree.specs.Runs.{Run, moved, mark, is_seen, in_set, size_in, byte_size, char_size, as_list, take_size, first}
 use Rattle.hir_tree.specs.RunsLaws.{forget}
 use Rattle.hir_core.specs.Blocks.{mark_of, KeepsMarks}
-use Rattle.hir_core.specs.Loops.{LeadsTo, AreWays, IsRunOver, StepsOver, RunsOver}
-use Rattle.hir_core.specs.Masks.{is_taker, takes_byte}
+use Rattle.hir_core.specs.RunsOver.{StepsOver, RunsOver}
+use Rattle.hir_program.specs.Loops.{LeadsTo, AreWays, IsRunOver}
+use Rattle.hir_program.specs.Masks.{is_taker, takes_byte}
 use Rattle.hir_core.specs.Pass.{stops_give, was_visited}
-use Rattle.hir_core.specs.Program.{spot_at, is_unmarked, Way, way, marked, follow, gives, ClosesFall}
+use Rattle.hir_program.specs.Program.{spot_at, is_unmarked, Way, way, marked, follow, gives, ClosesFall}
 use Rattle.hir_core.specs.Trails.{Stop, placed_at}
-use Rattle.hir_core.specs.declared.loops.Ways.{Ways}
-use Rattle.hir_core.specs.declared.spot.Spot.{Spot}
-use Rattle.hir_core.specs.declared.spot.Spot.TheVariants as spot
-use Rattle.hir_core.proofs.PlacedLemmas.{gives-at}
+use Rattle.hir_program.specs.declared.loops.Ways.{Ways}
+use Rattle.hir_program.specs.declared.spot.Spot.{Spot}
+use Rattle.hir_program.specs.declared.spot.Spot.TheVariants as spot
+use Rattle.hir_program.proofs.PlacedLemmas.{gives-at}
 use Rattle.hir_core.proofs.closure.ClosureLemmas.{Entry, entry, seen_by, nonempty, nonempty-append, Covers}
 use Rattle.hir_core.proofs.closure.TurnLemmas.{bare, some_run-nonempty, unset_bits, turn_weight}
-use Rattle.hir_core.proofs.loops.OverLemmas.{loop-within}
+use Rattle.hir_core.proofs.run_over.OverLemmas.{loop-within}
 use Rattle.hir_core.proofs.pass.PassLemmas.{Covers-above, Stands-kept, first_before, gives_fresh, nowhere}
-use Rattle.hir_core.proofs.scan.ScanLemmas.{gives-dead}
+use Rattle.hir_program.proofs.ScanLemmas.{gives-dead}
 use Rattle.hir_core.proofs.block.LevelLemmas.{place, level}
 use Rattle.hir_core.proofs.block.BlockLemmas.{Blocking, runs_of, top-level, moved-as}
 use Rattle.hir_core.proofs.block.BlockTurnLemmas.{NoTaker, NoTaker-none, NoTaker-more, Outside, Searching, apart, stands_goal}

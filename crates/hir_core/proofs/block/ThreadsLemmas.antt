@@ -4,11 +4,11 @@ use Rattle.std.specs.Prelude.{is_some}
 use Rattle.std.specs.Option.{option_or}
 use Rattle.hir_tree.specs.Runs.{Run, begin}
 use Rattle.hir_core.specs.Blocks.{AreSpent, IsFollowed}
-use Rattle.hir_core.specs.Masks.{NoRun}
-use Rattle.hir_core.specs.Pass.{AllFrom, first_of, some_run, stop_gives, stops_give, begins, first_from, answer}
-use Rattle.hir_core.specs.Program.{way}
+use Rattle.hir_program.specs.Masks.{NoRun}
+use Rattle.hir_core.specs.Pass.{AllFrom, first_of, stop_gives, stops_give, begins, first_from, answer}
+use Rattle.hir_program.specs.Program.{way, some_run}
 use Rattle.hir_core.specs.Trails.{Stop}
-use Rattle.hir_core.specs.declared.spot.Spot.{Spot}
+use Rattle.hir_program.specs.declared.spot.Spot.{Spot}
 use Rattle.hir_core.proofs.pass.PassLemmas.{first_of_two}
 use Rattle.hir_core.proofs.pass.SkipLemmas.{answer-skip}
 use Rattle.hir_core.proofs.pass.RoundLemmas.{first_then, or_else_some, or_assoc, or_none, answer-round}

@@ -10,10 +10,10 @@ use Rattle.sd_base.specs.declared.steps.Steps.{Steps}
 use Rattle.sd_base.proofs.StepsLemmas.{at_most}
 use Rattle.hir_core.specs.Blocks.{mark_of}
 use Rattle.hir_core.specs.Pass.{CountsVisits, counted, counted_visits, is_counted, visit_ticks, was_visited}
-use Rattle.hir_core.specs.Program.{spot_at}
+use Rattle.hir_program.specs.Program.{spot_at}
 use Rattle.hir_core.specs.Tries.{spots_over, CountsTries}
-use Rattle.hir_core.specs.declared.spot.Spot.{Spot}
-use Rattle.hir_core.specs.declared.spot.Spot.TheVariants as spot
+use Rattle.hir_program.specs.declared.spot.Spot.{Spot}
+use Rattle.hir_program.specs.declared.spot.Spot.TheVariants as spot
 use Rattle.hir_core.proofs.closure.VisitLemmas.{CountsVisits-none, CountsVisits-add, visits-at_most, visits-none}
 
 -- ---- the spots of several places

@@ -6,8 +6,8 @@ use Rattle.std.specs.List.{flat_map, AllByRecursion}
 use Rattle.std.proofs.lemmas.Bool.{or_left, or_right, or_parts, eqb-true}
 use Rattle.hir_tree.specs.Runs.{Run, is_seen}
 use Rattle.hir_tree.specs.RunsLaws.{forget}
-use Rattle.hir_core.specs.Program.{Way, gives, ClosesFall}
-use Rattle.hir_core.specs.declared.spot.Spot.{Spot}
+use Rattle.hir_program.specs.Program.{Way, gives, ClosesFall}
+use Rattle.hir_program.specs.declared.spot.Spot.{Spot}
 use Rattle.hir_core.proofs.PruningLemmas.{Subset, Subset-mark, mono, extend, reseen, Covered}
 
 -- a spot that is still to be tried, with what its path saw at this place

@@ -10,16 +10,16 @@ use Rattle.std.proofs.lemmas.List.Sums.{sum_by-set}
 use Rattle.hir_tree.specs.Looks.{holds}
 use Rattle.hir_tree.specs.Runs.{Run, moved, mark, is_seen, byte_size, char_size, as_list}
 use Rattle.hir_tree.specs.RunsLaws.{forget}
-use Rattle.hir_core.specs.Program.{spot_at, is_unmarked, tie, Way, way, marked, opened, closed, follow, gives, ClosesFall}
+use Rattle.hir_program.specs.Program.{spot_at, is_unmarked, tie, Way, way, marked, opened, closed, follow, gives, ClosesFall, some_run}
 use Rattle.hir_core.specs.Trails.{Stop}
-use Rattle.hir_core.specs.Pass.{AllLater, first_of, some_run, taken, leads, leads_on, comes, keeps, was_visited, visiting, stop_gives, stops_give, Spent, TurnedTo}
-use Rattle.hir_core.specs.declared.spot.Spot.{Spot}
-use Rattle.hir_core.specs.declared.spot.Spot.TheVariants as spot
+use Rattle.hir_core.specs.Pass.{AllLater, first_of, taken, leads, leads_on, comes, keeps, was_visited, visiting, stop_gives, stops_give, Spent, TurnedTo}
+use Rattle.hir_program.specs.declared.spot.Spot.{Spot}
+use Rattle.hir_program.specs.declared.spot.Spot.TheVariants as spot
 use Rattle.hir_tree.proofs.ListLemmas.{All-append}
 use Rattle.hir_tree.proofs.RunsLemmas.{TakesWithin, byte_size-within, char_size-within}
-use Rattle.hir_core.proofs.ProgramLemmas.{not_fail}
+use Rattle.hir_program.proofs.ProgramLemmas.{not_fail}
 use Rattle.hir_core.proofs.closure.ClosureLemmas.{Entry, entry, nonempty, pend, Children}
-use Rattle.hir_core.proofs.PlacedLemmas.{gives-at}
+use Rattle.hir_program.proofs.PlacedLemmas.{gives-at}
 use Rattle.hir_core.proofs.pass.PassLemmas.{Stands, Stands-dropped, Stands-seen, Stands-led, Stands-kept, Stands-closed, Stands-match, Stands-begin, Stands-end, nowhere}
 
 -- where a spot leads without a byte

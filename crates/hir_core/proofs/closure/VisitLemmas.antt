@@ -6,10 +6,10 @@ use Rattle.sd_base.specs.declared.steps.Steps.{Steps}
 use Rattle.sd_base.proofs.StepsLemmas.{ticked_none, ticked_add, ticked_as, at_most}
 use Rattle.std.proofs.Math.Nat.{mul-le-mul_left}
 use Rattle.std.proofs.lemmas.List.Sums.{sum_by-cons}
-use Rattle.hir_core.specs.Program.{spot_at}
+use Rattle.hir_program.specs.Program.{spot_at}
 use Rattle.hir_core.specs.Pass.{was_visited, visiting, is_counted, visit_ticks, counted, counted_visits, CountsVisits}
-use Rattle.hir_core.specs.declared.spot.Spot.{Spot}
-use Rattle.hir_core.specs.declared.spot.Spot.TheVariants as spot
+use Rattle.hir_program.specs.declared.spot.Spot.{Spot}
+use Rattle.hir_program.specs.declared.spot.Spot.TheVariants as spot
 
 suc_len : (a b : ℕ) → suc a ≡ suc b → a ≡ b
 suc_len a b e = omega arith

@@ -8,10 +8,10 @@ use Rattle.std.proofs.lemmas.Grind.{flat_map-append}
 use Rattle.std.proofs.lemmas.List.{get_or_past}
 use Rattle.hir_tree.specs.Runs.{Run, is_seen, first}
 use Rattle.hir_tree.specs.RunsLaws.{forget}
-use Rattle.hir_core.specs.Program.{spot_at, is_unmarked, way, marked, closed, follow, gives, ClosesFall}
-use Rattle.hir_core.specs.declared.spot.Spot.{Spot}
-use Rattle.hir_core.specs.declared.spot.Spot.TheVariants as spot
-use Rattle.hir_core.proofs.PlacedLemmas.{gives-at, gives-close}
+use Rattle.hir_program.specs.Program.{spot_at, is_unmarked, way, marked, closed, follow, gives, ClosesFall}
+use Rattle.hir_program.specs.declared.spot.Spot.{Spot}
+use Rattle.hir_program.specs.declared.spot.Spot.TheVariants as spot
+use Rattle.hir_program.proofs.PlacedLemmas.{gives-at, gives-close}
 use Rattle.hir_core.proofs.PruningLemmas.{Subset, unseen_before, mono}
 use Rattle.hir_core.proofs.closure.ClosureLemmas.{Entry, entry, seen_by, nonempty, pend, Covers, Children, Covers-expand, Covers-kept, Covers-seen}
 

@@ -4,10 +4,10 @@ use Rattle.std.specs.Prelude.{drop, slice_get, is_some}
 use Rattle.std.specs.Option.{option_or}
 use Rattle.std.proofs.lemmas.Grind.{flat_map-append}
 use Rattle.hir_tree.specs.Runs.{Run, begin}
-use Rattle.hir_core.specs.Program.{way}
+use Rattle.hir_program.specs.Program.{way, some_run}
 use Rattle.hir_core.specs.Trails.{Stop}
-use Rattle.hir_core.specs.Pass.{first_of, some_run, stop_gives, stops_give, begins, begins_unless, first_from, answer, Spent, Followed, AllLater, AllFrom}
-use Rattle.hir_core.specs.declared.spot.Spot.{Spot}
+use Rattle.hir_core.specs.Pass.{first_of, stop_gives, stops_give, begins, begins_unless, first_from, answer, Spent, Followed, AllLater, AllFrom}
+use Rattle.hir_program.specs.declared.spot.Spot.{Spot}
 use Rattle.hir_tree.proofs.ListLemmas.{All-weaker}
 use Rattle.hir_core.proofs.pass.PassLemmas.{first_of_two}
 

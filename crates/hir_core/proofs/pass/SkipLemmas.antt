@@ -2,10 +2,10 @@
 use Rattle.std.proofs.Common.{◌≡◌, ℕ, zero, suc, ◌+◌, ◌-◌, ◌≤◌, List, [], length, Option, None, sym, ap, ◌∙◌, arith}
 use Rattle.std.specs.Option.{option_or}
 use Rattle.hir_tree.specs.Runs.{Run}
-use Rattle.hir_core.specs.Masks.{NoRun}
+use Rattle.hir_program.specs.Masks.{NoRun}
 use Rattle.hir_core.specs.Trails.{Stop}
 use Rattle.hir_core.specs.Pass.{first_of, first_from, answer, stops_give}
-use Rattle.hir_core.specs.declared.spot.Spot.{Spot}
+use Rattle.hir_program.specs.declared.spot.Spot.{Spot}
 
 module _ (text : List ℕ) (spots : List Spot) (groups : ℕ) where
   -- so many places that have no run change nothing

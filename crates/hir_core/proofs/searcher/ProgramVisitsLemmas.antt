@@ -2,12 +2,12 @@
 use Rattle.std.proofs.Common.{◌≡◌, ℕ, zero, suc, ◌+◌, ◌≤◌, true, false, List, [], ◌∷◌, length, if◌then◌else◌, refl, ap, ◌∙◌, sym, arith}
 use Rattle.std.proofs.lemmas.List.Sums.{sum_by-cons}
 use Rattle.hir_tree.specs.Core.{Core, empty, byte_in, char_in, look, group, pair, choice, none, plus, numbers}
-use Rattle.hir_core.specs.Laid.{IsProgram}
+use Rattle.hir_program.specs.Laid.{IsProgram}
 use Rattle.hir_tree.specs.Cores.{core_spots}
 use Rattle.hir_core.specs.Pass.{is_counted, counted}
-use Rattle.hir_core.specs.Program.{spot_at, Placed}
-use Rattle.hir_core.specs.declared.spot.Spot.{Spot}
-use Rattle.hir_core.specs.declared.spot.Spot.TheVariants as spot
+use Rattle.hir_program.specs.Program.{spot_at, Placed}
+use Rattle.hir_program.specs.declared.spot.Spot.{Spot}
+use Rattle.hir_program.specs.declared.spot.Spot.TheVariants as spot
 
 -- the counted visits of a spot
 abbrev one_if : Spot → ℕ

@@ -13,9 +13,9 @@ use Rattle.hir_tree.specs.Runs.{Run, first, preferred}
 use Rattle.hir_core.specs.Pass.{first_of, begins, groups_found, first_from, best_in}
 use Rattle.grep_matcher.specs.Span.{Span}
 use Rattle.hir_core.specs.declared.pass.Best.{Best}
-use Rattle.hir_core.specs.declared.scan.Scan.{Scan}
+use Rattle.hir_program.specs.declared.scan.Scan.{Scan}
 use Rattle.hir_tree.specs.declared.hir.Hir.{Hir}
-use Rattle.hir_core.specs.declared.spot.Spot.{Spot}
+use Rattle.hir_program.specs.declared.spot.Spot.{Spot}
 use Rattle.hir_tree.proofs.PlainTextLemmas.{preferred-text}
 use Rattle.hir_core.proofs.searcher.SoundRunsLemmas.{IsWhole, first_from-whole}
 

@@ -8,11 +8,11 @@ use Rattle.hir_core.specs.Found.{IsInOrder}
 use Rattle.hir_tree.specs.Looks.{holds}
 use Rattle.hir_tree.specs.Runs.{Run, begin, moved, is_seen, byte_size, char_size, as_list}
 use Rattle.hir_tree.specs.RunsLaws.{forget}
-use Rattle.hir_core.specs.Program.{spot_at, is_unmarked, Way, way, marked, Gives, follow, visit_spot, gives_within, rank, gives}
+use Rattle.hir_program.specs.Program.{spot_at, is_unmarked, Way, way, marked, Gives, follow, visit_spot, gives_within, rank, gives}
 use Rattle.hir_core.specs.Pass.{first_of, begins, first_from}
 use Rattle.hir_core.specs.StackSearch.{LiesBefore, IsSound, AllSound}
-use Rattle.hir_core.specs.declared.spot.Spot.{Spot}
-use Rattle.hir_core.specs.declared.spot.Spot.TheVariants as spot
+use Rattle.hir_program.specs.declared.spot.Spot.{Spot}
+use Rattle.hir_program.specs.declared.spot.Spot.TheVariants as spot
 use Rattle.hir_tree.proofs.ListLemmas.{All-append}
 use Rattle.hir_core.proofs.stack_search.StackLemmas.{past, leads-sound, sound-begin}
 

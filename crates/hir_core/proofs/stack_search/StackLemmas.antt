@@ -12,17 +12,17 @@ use Rattle.hir_core.specs.Found.{IsOfLeast}
 use Rattle.hir_tree.specs.Looks.{holds}
 use Rattle.hir_tree.specs.Runs.{Run, begin, moved, mark, is_seen, byte_size, char_size, as_list, first}
 use Rattle.hir_tree.specs.RunsLaws.{forget}
-use Rattle.hir_core.specs.Program.{spot_at, is_close, is_unmarked, Way, way, marked, opened, closed, follow, unseen, rank, gives, ClosesFall}
+use Rattle.hir_program.specs.Program.{spot_at, is_close, is_unmarked, Way, way, marked, opened, closed, follow, unseen, rank, gives, ClosesFall}
 use Rattle.hir_core.specs.Pass.{begins, groups_found}
 use Rattle.hir_core.specs.StackSearch.{has, members_below, members, Place, place_of, places_of, leads, LiesBefore, IsSound, AllSound, gives_at, first_at, pending, weight, Advances}
 use Rattle.hir_core.specs.declared.seen.Seen.{Seen}
-use Rattle.hir_core.specs.declared.spot.Spot.{Spot}
+use Rattle.hir_program.specs.declared.spot.Spot.{Spot}
 use Rattle.hir_core.specs.declared.stack_search.Alternative.{Alternative}
-use Rattle.hir_core.specs.declared.spot.Spot.TheVariants as spot
+use Rattle.hir_program.specs.declared.spot.Spot.TheVariants as spot
 use Rattle.hir_tree.proofs.ListLemmas.{All-append, All-weaker}
 use Rattle.hir_tree.proofs.RunsLemmas.{TakesWithin, byte_size-within, char_size-within}
-use Rattle.hir_core.proofs.ProgramLemmas.{rank-marked, rank-moved, rank-closed}
-use Rattle.hir_core.proofs.PlacedLemmas.{gives-at}
+use Rattle.hir_program.proofs.ProgramLemmas.{rank-marked, rank-moved, rank-closed}
+use Rattle.hir_program.proofs.PlacedLemmas.{gives-at}
 use Rattle.hir_core.proofs.PruningLemmas.{reseen, extend}
 
 -- the members of a set

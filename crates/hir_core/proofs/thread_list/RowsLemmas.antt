@@ -5,7 +5,7 @@ use Rattle.std.specs.List.{AllByRecursion}
 use Rattle.std.proofs.lemmas.List.{map-append, take-append-le, take_all, drop_at}
 use Rattle.std.proofs.lemmas.List.Elements.{recursion_from_All}
 use Rattle.std.proofs.lemmas.Slice.{between_is}
-use Rattle.hir_core.specs.Program.{way}
+use Rattle.hir_program.specs.Program.{way}
 use Rattle.hir_core.specs.Trails.{Stop}
 use Rattle.hir_core.specs.Rows.{stop_in, LiesIn, AllLieIn}
 use Rattle.hir_core.specs.declared.thread_list.Row.{Row}

@@ -3,7 +3,7 @@ use Rattle.std.proofs.Common.{◌≡◌, ℕ, List, [], ◌∷◌, ◌++◌, fal
 use Rattle.std.specs.Prelude.{is_some, drop, reverse, slice_index_or, slice_set}
 use Rattle.std.specs.Option.{option_to_list}
 use Rattle.std.proofs.lemmas.List.{set-set, set-get_or, reverse-append}
-use Rattle.hir_core.specs.Program.{way}
+use Rattle.hir_program.specs.Program.{way}
 use Rattle.hir_core.specs.Trails.{Stop, put_back, alternatives, stops_of, stops_on}
 use Rattle.hir_core.specs.declared.trail.Frame.{Frame}
 use Rattle.hir_core.specs.declared.trail.Frame.TheVariants as frame

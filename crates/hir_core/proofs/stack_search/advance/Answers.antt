@@ -2,7 +2,7 @@ use Rattle.std.proofs.Common.{◌≡◌, false, ◌∷◌, sym, ap, ◌∙◌}
 use Rattle.std.specs.Prelude.{◌||◌, ◌==◌}
 use Rattle.hir_tree.specs.Runs.{is_seen}
 use Rattle.hir_core.specs.StackSearch.{members, place_of, places_of}
-use Rattle.hir_core.specs.declared.spot.Spot.TheVariants as spot
+use Rattle.hir_program.specs.declared.spot.Spot.TheVariants as spot
 use Rattle.hir_core.proofs.stack_search.StackLemmas.{SameSeen, seen-members, unmarked_unless, advance-match, advance-past, advance-seen, advance-close, advance-marked}
 use Rattle.hir_core.proofs.stack_search.advance.Goals as goal
 

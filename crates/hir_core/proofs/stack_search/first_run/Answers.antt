@@ -2,7 +2,7 @@ use Rattle.std.proofs.Common.{◌≡◌, [], ◌∷◌, ◌++◌, ◌+◌, lengt
 use Rattle.std.proofs.lemmas.List.{nil_from_length}
 use Rattle.std.specs.List.{AllByRecursion}
 use Rattle.hir_tree.specs.Runs.{Run, begin, first}
-use Rattle.hir_core.specs.Program.{way}
+use Rattle.hir_program.specs.Program.{way}
 use Rattle.hir_core.specs.StackSearch.{Place, LiesBefore, IsSound, places_of, gives_at, pending, run_of}
 use Rattle.hir_core.proofs.stack_search.StackLemmas.{sound-begin, pending-one, popped-gives, popped-weight, popped-sound}
 use Rattle.hir_core.proofs.stack_search.first_run.Goals as goal

@@ -1,6 +1,6 @@
 use Rattle.std.proofs.Common.{◌≡◌, ◌+◌, []}
 use Rattle.hir_tree.specs.Runs.{begin}
-use Rattle.hir_core.specs.Program.{way}
+use Rattle.hir_program.specs.Program.{way}
 use Rattle.hir_core.specs.StackSearch.{places_of, gives_at, pending, weight, AllSound}
 use Rattle.hir_core.proofs.stack_search.first_run.Given as goal
 

@@ -1,7 +1,7 @@
 use Rattle.std.proofs.Common.{List, ◌∷◌, ◌++◌, Some, refl, sym, ap₂, ◌∙◌, subst, arith}
 use Rattle.std.specs.Option.{option_or}
 use Rattle.hir_core.specs.Blocks.{KeepsMarks}
-use Rattle.hir_core.specs.Program.{Way}
+use Rattle.hir_program.specs.Program.{Way}
 use Rattle.hir_core.specs.Trails.{Stop, way_of, stops_of, stops_on}
 use Rattle.hir_core.specs.Pass.{first_of, stop_gives, stops_give}
 use Rattle.hir_core.proofs.block.FollowLemmas.{HasRoom, FollowsIn, FollowsIn-begin, FollowsIn-kept, FollowsIn-kept_falls, FollowsIn-match, FollowsIn-turn, FollowsIn-falls, FollowsIn-end, keeps-trying}

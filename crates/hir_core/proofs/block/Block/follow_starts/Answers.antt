@@ -1,6 +1,6 @@
 use Rattle.std.proofs.Common.{true, None, ap, ◌∙◌, arith}
 use Rattle.hir_core.specs.Pass.{match_of}
-use Rattle.hir_core.specs.Program.{Way}
+use Rattle.hir_program.specs.Program.{Way}
 use Rattle.hir_core.specs.Trails.{way_of}
 use Rattle.hir_core.proofs.block.MarkLemmas.{KeepsMarks-then}
 use Rattle.hir_core.proofs.block.ThreadsLemmas.{answer-begun}

@@ -1,7 +1,8 @@
 use Rattle.std.proofs.Common.{◌≡◌, ◌+◌, ◌-◌, ◌≤◌, None, length}
 use Rattle.hir_core.specs.Blocks.{AreSpent, KeepsMarks}
 use Rattle.hir_core.specs.Tries.{CountsTries}
-use Rattle.hir_core.specs.Pass.{answer, some_run, stops_give, AllFrom}
+use Rattle.hir_core.specs.Pass.{answer, stops_give, AllFrom}
+use Rattle.hir_program.specs.Program.{some_run}
 use Rattle.hir_core.proofs.block.Block.follow_starts.Given as goal
 
 -- nothing was found, and the answer is the one that is sought

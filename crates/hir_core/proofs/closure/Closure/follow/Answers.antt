@@ -1,6 +1,6 @@
 use Rattle.std.proofs.Common.{◌≡◌, List, ◌∷◌, length, Some, None, refl, ap, ap₂, ◌∙◌, arith}
 use Rattle.std.specs.Option.{option_or}
-use Rattle.hir_core.specs.Program.{Way}
+use Rattle.hir_program.specs.Program.{Way}
 use Rattle.hir_core.specs.Trails.{Stop, way_of, stops_of, stops_on}
 use Rattle.hir_core.specs.Pass.{first_of, stops_give}
 use Rattle.hir_core.proofs.closure.TurnLemmas.{Follows-begin, Follows-at, Follows-match, Follows-turn, Follows-falls, Follows-end, length-visiting}

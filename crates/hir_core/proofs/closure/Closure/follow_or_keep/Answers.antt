@@ -1,5 +1,6 @@
 use Rattle.std.proofs.Common.{◌≡◌, subst, arith}
-use Rattle.hir_core.specs.Pass.{some_run, stops_give, Spent, AllLater}
+use Rattle.hir_core.specs.Pass.{stops_give, Spent, AllLater}
+use Rattle.hir_program.specs.Program.{some_run}
 use Rattle.hir_core.proofs.closure.Closure.follow_or_keep.Goals as goal
 
 pub follow-requires-clause-later : goal.follow-requires-clause-later

@@ -1,5 +1,5 @@
 use Rattle.std.proofs.Common.{◌+◌, length, IfSome, refl, subst, arith}
-use Rattle.hir_core.specs.Scan.{IsFilterOf}
+use Rattle.hir_program.specs.Scan.{IsFilterOf}
 use Rattle.hir_core.specs.Pass.{best_in}
 use Rattle.hir_core.proofs.pass.SkipLemmas.{answer-skip}
 use Rattle.hir_core.proofs.pass.Pass.next_place.Goals as goal

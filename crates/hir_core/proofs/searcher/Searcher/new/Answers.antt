@@ -2,7 +2,7 @@ use Rattle.std.proofs.Common.{◌≤◌, IfSome, rules, arith}
 use Rattle.hir_tree.specs.Spots.{spots_of}
 use Rattle.hir_tree.specs.Tree.{tree_of}
 use Rattle.hir_core.specs.Pass.{counted}
-use Rattle.hir_core.specs.Scan.{IsFilterOf}
+use Rattle.hir_program.specs.Scan.{IsFilterOf}
 use Rattle.hir_tree.proofs.CoreSpotsLemmas.{core_within}
 use Rattle.hir_core.proofs.searcher.ProgramVisitsLemmas.{counted-core}
 use Rattle.hir_core.proofs.searcher.Searcher.new.Goals as goal

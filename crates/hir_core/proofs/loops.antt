@@ -1,2 +1,0 @@
-mod SureLemmas
-pub mod OverLemmas

@@ -1,6 +1,0 @@
-use Rattle.hir_core.proofs.scan.bits.MaskLemmas.{Joins}
-use Rattle.hir_core.proofs.scan.bits.joined.Given as goal
-
--- the rows so far were joined
-abbrev pub invariant-loop-row : goal.invariant-loop-row
-invariant-loop-row l = Joins l.rows l.live l.row l.rest l.joined

@@ -1,6 +1,0 @@
-use Rattle.std.proofs.Common.{◌≡◌, ℕ, ◌<◌, false, true, slice_index_or}
-use Rattle.hir_core.proofs.scan.prefilter.is_alone.Given as goal
-
--- the table holds for no other byte so far
-abbrev pub invariant-loop-other : goal.invariant-loop-other
-invariant-loop-other l = (b : ℕ) → b < l.other → (b ≡ l.byte → ⊥) → slice_index_or l.table b true ≡ false

@@ -1,6 +1,0 @@
-use Rattle.hir_core.specs.Scan.{IsRequiredOf}
-use Rattle.hir_core.proofs.scan.required.Required.rarest.Given as goal
-
--- it is a cut
-abbrev pub invariant-loop-bit : goal.invariant-loop-bit
-invariant-loop-bit l = IsRequiredOf l.after l.start l.rarest

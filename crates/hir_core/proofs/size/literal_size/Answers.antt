@@ -1,6 +1,0 @@
-use Rattle.std.proofs.Common.{arith}
-use Rattle.hir_core.proofs.size.SizeLemmas.{literal_numbers}
-use Rattle.hir_core.proofs.size.literal_size.Goals as goal
-
-pub returns : goal.returns
-returns c = omega (arith, literal_numbers c.args.bytes.now)

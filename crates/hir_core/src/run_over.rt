@@ -1,0 +1,53 @@
+//! Bytes of a loop of one set, as `[a-z]+` has one, which the search of a block runs over in one go.
+
+ghost use Rattle.std.specs.Prelude.{◌≡◌, ◌-◌, ◌*◌, ◌≤◌, length};
+ghost use Rattle.hir_core.specs.RunsOver.{RunsOver};
+ghost use Rattle.hir_core.specs.Trails.{placed_at, stops_of, way_of};
+ghost use Rattle.hir_core.specs.Tries.{CountsTries};
+ghost use Rattle.hir_program.specs.Loops.{AreLoops};
+
+use crate::block::{Places, mark_of};
+use crate::trail::Trail;
+use crate::visited::Visited;
+use hir_program::{Loops, Spot};
+use sd_base::{Ledger, Steps};
+
+/// Runs over bytes of a block by which the loop at a spot only goes round, from the place of the trail on, up to where the spot was
+/// tried. It is tried, and counted, at each of them then.
+pub fn run_over<L: Ledger>(
+    spots: &[Spot],
+    loops: &Loops,
+    text: &[u8],
+    places: Places,
+    spot: usize,
+    trail: &mut Trail,
+    marks: &mut Visited,
+    steps: &mut Steps<L>,
+)
+    requires loops { AreLoops spots.now loops.now }
+    requires room { length spots.now * (places.end - places.begin) ≤ length marks.old }
+    requires few { length marks.old ≤ 65536 }
+    requires begin { places.begin ≤ trail.old.at }
+    requires at { trail.old.at ≤ length text.now }
+    ensures over { RunsOver text.now spots.now places.begin places.end spot (trail.new.at - trail.old.at) trail.old.at marks.old marks.new }
+    ensures room { length marks.new ≡ length marks.old }
+    ensures way { way_of trail.new ≡ placed_at trail.new.at (way_of trail.old) }
+    ensures stops { stops_of trail.new ≡ stops_of trail.old }
+    ensures forward { trail.old.at ≤ trail.new.at }
+    ensures within { trail.new.at ≤ length text.now }
+    ensures ticks { CountsTries L.noted spots.now places.begin places.end marks.old marks.new steps.old steps.new }
+{
+    let Some(row) = loops.row(spot) else {
+        return;
+    };
+    let end = places.end.min(text.len());
+    while trail.at < end && row[text[trail.at] as usize] {
+        let mark = mark_of(spots.len(), places, trail.at, spot);
+        if marks.has(mark) {
+            return;
+        }
+        marks.add(mark);
+        steps.tick();
+        trail.move_on(1);
+    }
+}

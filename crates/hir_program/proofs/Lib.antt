@@ -1,0 +1,3 @@
+pub mod PlacedLemmas
+pub mod ProgramLemmas
+pub use Rattle.hir_program.proofs.scan.ScanLemmas

@@ -1,0 +1,2 @@
+mod RowsLemmas
+mod SureLemmas

@@ -1,0 +1,5 @@
+pub mod Laid
+pub mod Loops
+pub mod Masks
+pub mod Program
+pub mod Scan

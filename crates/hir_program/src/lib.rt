@@ -1,0 +1,19 @@
+//! The program of a pattern, and its filter.
+//!
+//! A pattern's tree is laid as a program of [`Spot`]s, which the search follows. A [`Scan`] tells the next place where a match may
+//! begin, and what may go on at a place. What a pattern is, and what it matches, says the crate `hir_tree`.
+#![tactic(auto)]
+
+mod compile;
+mod loops;
+mod push;
+mod scan;
+mod size;
+mod spot;
+mod starts;
+
+pub use compile::program;
+pub use loops::{Loops, Row, Ways};
+pub use scan::{Candidate, SPOTS, Scan};
+pub use spot::Spot;
+pub use starts::Starts;
