@@ -1,5 +1,5 @@
 -- What a search finds, and how slots hold it.
-use Rattle.std.specs.Prelude.{◌≡◌, ⊤, ℕ, ◌+◌, ◌<◌, ◌≤◌, Bool, true, false, List, length, map, replicate, Option, Some, None, if◌then◌else◌}
+use Rattle.std.specs.Prelude.{◌≡◌, ⊤, ℕ, ◌+◌, ◌<◌, ◌≤◌, Bool, true, false, List, length, map, replicate, Option, Some, None, Result, IfOk, IfErr, if◌then◌else◌}
 use Rattle.grep_matcher.specs.Span.{Span}
 use Rattle.hir_tree.specs.Groups.{ends_of}
 use Rattle.hir_tree.specs.PlainText.{stands_at}
@@ -25,6 +25,12 @@ abbrev pub IsFound : (ℕ → Option (List (Option (ℕ × ℕ)))) → ℕ → �
 IsFound each from to true slots =
     (groups : List (Option (ℕ × ℕ))) × IsOfLeast each from to (Some groups) × (slots ≡ map span_of groups)
 IsFound each from to false slots = IsOfLeast each from to None × (slots ≡ replicate (length slots) None)
+
+-- A search of these places finds the groups of the least one that has any. As many slots stay, and where it refuses they are unset.
+pub record Searches {E : Type 0} (each : ℕ → Option (List (Option (ℕ × ℕ)))) (from to : ℕ) (result : Result Bool E) (old new : List (Option Span)) : Type 0 where
+  pub found : IfOk result (λ found. IsFound each from to found new)
+  pub kept : length new ≡ length old
+  pub refused : IfErr result (λ _. new ≡ replicate (length old) None)
 
 -- the place, where the bytes stand there
 abbrev pub place_found : List ℕ → List ℕ → ℕ → Option ℕ

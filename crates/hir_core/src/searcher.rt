@@ -1,8 +1,8 @@
 //! Searching texts for a pattern.
 
-ghost use Rattle.std.specs.Prelude.{◌≡◌, ◌+◌, ◌-◌, ◌*◌, ◌≤◌, length, replicate, None, is_some, IfOk, IfErr, IfSome};
+ghost use Rattle.std.specs.Prelude.{◌≡◌, ◌+◌, ◌-◌, ◌*◌, ◌≤◌, length, is_some, IfOk, IfSome};
 ghost use Rattle.hir_tree.specs.Cores.{core_of};
-ghost use Rattle.hir_core.specs.Found.{IsFound, IsOfLeast, whole_span};
+ghost use Rattle.hir_core.specs.Found.{IsOfLeast, Searches, whole_span};
 ghost use Rattle.hir_tree.specs.PlainText.{text_of};
 ghost use Rattle.hir_tree.specs.Runs.{preferred};
 ghost use Rattle.hir_tree.specs.Spots.{groups_of, spots_of};
@@ -95,10 +95,7 @@ impl Searcher {
     pub fn search_at(&self, text: &[u8], at: usize, slots: &mut Slots) -> Result<bool, NoMemory>
         requires within { at ≤ length text.now }
         requires slots { length slots.old ≡ groups_of self.now + 1 }
-        ensures found { IfOk result (λ found.
-            IsFound (preferred (core_of self.now) (groups_of self.now) text.now) at (length text.now) found slots.new) }
-        ensures kept { length slots.new ≡ length slots.old }
-        ensures refused { IfErr result (λ _. slots.new ≡ replicate (length slots.old) None) }
+        ensures searched { Searches (preferred (core_of self.now) (groups_of self.now) text.now) at (length text.now) result slots.old slots.new }
     {
         self.search_at_steps(text, at, slots, &mut Steps::new(Silent))
     }
@@ -115,10 +112,7 @@ impl Searcher {
     ) -> Result<bool, NoMemory>
         requires within { at ≤ length text.now }
         requires slots { length slots.old ≡ groups_of self.now + 1 }
-        ensures found { IfOk result (λ found.
-            IsFound (preferred (core_of self.now) (groups_of self.now) text.now) at (length text.now) found slots.new) }
-        ensures kept { length slots.new ≡ length slots.old }
-        ensures refused { IfErr result (λ _. slots.new ≡ replicate (length slots.old) None) }
+        ensures searched { Searches (preferred (core_of self.now) (groups_of self.now) text.now) at (length text.now) result slots.old slots.new }
         ensures ticks { TicksAtMost L.noted ((length text.now + 1 - at) * spots_of self.now) steps.old steps.new }
     {
         if let Some(finder) = &self.text {
@@ -138,10 +132,7 @@ impl Searcher {
     ) -> Result<bool, NoMemory>
         requires within { at ≤ length text.now }
         requires slots { length slots.old ≡ groups_of self.now + 1 }
-        ensures found { IfOk result (λ found.
-            IsFound (preferred (core_of self.now) (groups_of self.now) text.now) at (length text.now) found slots.new) }
-        ensures kept { length slots.new ≡ length slots.old }
-        ensures refused { IfErr result (λ _. slots.new ≡ replicate (length slots.old) None) }
+        ensures searched { Searches (preferred (core_of self.now) (groups_of self.now) text.now) at (length text.now) result slots.old slots.new }
     {
         self.search_places(text, at, slots, places, &mut Steps::new(Silent))
     }
@@ -158,10 +149,7 @@ impl Searcher {
     ) -> Result<bool, NoMemory>
         requires within { at ≤ length text.now }
         requires slots { length slots.old ≡ groups_of self.now + 1 }
-        ensures found { IfOk result (λ found.
-            IsFound (preferred (core_of self.now) (groups_of self.now) text.now) at (length text.now) found slots.new) }
-        ensures kept { length slots.new ≡ length slots.old }
-        ensures refused { IfErr result (λ _. slots.new ≡ replicate (length slots.old) None) }
+        ensures searched { Searches (preferred (core_of self.now) (groups_of self.now) text.now) at (length text.now) result slots.old slots.new }
         ensures ticks { TicksAtMost L.noted ((length text.now + 1 - at) * spots_of self.now) steps.old steps.new }
     {
         match &self.filter {
@@ -188,10 +176,7 @@ impl Searcher {
     ) -> Result<bool, NoMemory>
         requires within { at ≤ length text.now }
         requires slots { length slots.old ≡ groups_of self.now + 1 }
-        ensures found { IfOk result (λ found.
-            IsFound (preferred (core_of self.now) (groups_of self.now) text.now) at (length text.now) found slots.new) }
-        ensures kept { length slots.new ≡ length slots.old }
-        ensures refused { IfErr result (λ _. slots.new ≡ replicate (length slots.old) None) }
+        ensures searched { Searches (preferred (core_of self.now) (groups_of self.now) text.now) at (length text.now) result slots.old slots.new }
     {
         stack_search::search_at(self.alloc, &self.spots, text, at, slots)
     }

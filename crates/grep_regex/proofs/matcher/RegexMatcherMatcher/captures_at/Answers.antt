@@ -20,5 +20,5 @@ returns-clause-found c =
     (λ (p : Pattern). IfOk found (HasFirst (prefers (captured true (end_at (tree_of p.searcher) text))) at (length text) (spans_at (tree_of p.searcher) text) slots))
     c.self.view_is (
     IfOk-weaker found (λ there. IsFound (match_at tree text) at (length text) there slots) _
-    (λ there is. captures-found tree c.self.inside.pattern.whole text at c.requires.place there slots is) c.search_at.ensures.found
+    (λ there is. captures-found tree c.self.inside.pattern.whole text at c.requires.place there slots is) c.search_at.ensures.searched.found
     )

@@ -10,7 +10,7 @@ pub returns-clause-found : goal.returns-clause-found
 returns-clause-found c =
     let text = c.args.haystack.now in
     let pattern = c.self.inside.pattern in
-    let first = match-found (tree_of pattern.searcher) pattern.whole text c.args.at c.requires.place c.in_ok-search_at.field-0 c.search_at.new.slots c.in_ok-search_at.ensures.found in
+    let first = match-found (tree_of pattern.searcher) pattern.whole text c.args.at c.requires.place c.in_ok-search_at.field-0 c.search_at.new.slots c.in_ok-search_at.ensures.searched.found in
     subst (λ (p : Pattern). IsFirst (prefers (end_at (tree_of p.searcher) text)) c.args.at (length text) c.get-found.result) c.self.view_is
     (subst (IsFirst (prefers (end_at (tree_of pattern.searcher) text)) c.args.at (length text)) (sym c.get-found.ensures) first)
 
