@@ -41,7 +41,7 @@ append_nothing (x ∷ xs) ys e = absurd (cons_not_nil x (xs ++ ys) e)
 
 module _ (text : List ℕ) (spots : List Spot) (falls : ClosesFall spots) where
   -- what a spot gives that marks itself
-  gives_seen : (q : ℕ) (s : Spot) (t : Way) → spot_at spots q ≡ s → is_unmarked s ≡ false → is_seen q t.run.seen ≡ true → gives text spots q t ≡ []
+  pub gives_seen : (q : ℕ) (s : Spot) (t : Way) → spot_at spots q ≡ s → is_unmarked s ≡ false → is_seen q t.run.seen ≡ true → gives text spots q t ≡ []
   gives_seen q s t e plain seen = gives-at text spots falls q s t e ∙ cond-false _ _ _ plain ∙ cond-true _ _ _ seen
 
   gives_new : (q : ℕ) (s : Spot) (t : Way) → spot_at spots q ≡ s → is_unmarked s ≡ false → is_seen q t.run.seen ≡ false

@@ -1,6 +1,7 @@
 mod LevelLemmas
 mod BlockLemmas
 mod MarkLemmas
+mod BlockEndLemmas
 mod BlockTurnLemmas
 mod FollowLemmas
 mod LoopLemmas

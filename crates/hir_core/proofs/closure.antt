@@ -1,3 +1,4 @@
 pub mod ClosureLemmas
+pub mod EndLemmas
 pub mod TurnLemmas
 pub mod VisitLemmas

@@ -1,5 +1,5 @@
 -- The pass of a search over a text: what its threads give, and what it answers.
-use Rattle.std.specs.Prelude.{◌≡◌, ℕ, zero, suc, ◌+◌, ◌-◌, ◌<◌, ◌≤◌, Bool, true, false, not, ◌&&◌, ◌⊎◌, List, [], ◌∷◌, ◌++◌, length, map, Option, Some, None, if◌then◌else◌, slice_index_or, slice_set, option_map}
+use Rattle.std.specs.Prelude.{◌≡◌, ℕ, zero, suc, ◌+◌, ◌-◌, ◌<◌, ◌≤◌, Bool, true, false, not, ◌&&◌, nat_lt, ◌⊎◌, List, [], ◌∷◌, ◌++◌, length, map, Option, Some, None, if◌then◌else◌, slice_index_or, slice_set, option_map}
 use Rattle.std.specs.Option.{option_or}
 use Rattle.std.specs.List.{flat_map, sum_by, AllByRecursion}
 use Rattle.sd_base.specs.Steps.{IsTicked}
@@ -7,7 +7,7 @@ use Rattle.sd_base.specs.declared.steps.Steps.{Steps}
 use Rattle.hir_tree.specs.Looks.{holds}
 use Rattle.hir_tree.specs.Runs.{Run, begin, moved, byte_size, char_size, first}
 use Rattle.hir_tree.specs.RunsLaws.{forget}
-use Rattle.hir_program.specs.Program.{spot_at, is_unmarked, some_run, Way, way, opened, closed, gives}
+use Rattle.hir_program.specs.Program.{spot_at, some_run, Way, way, opened, closed, gives}
 use Rattle.hir_program.specs.declared.spot.Spot.{Spot}
 use Rattle.hir_program.specs.declared.spot.Spot.TheVariants as spot
 use Rattle.hir_core.specs.Trails.{Stop, way_of, stops_on}
@@ -30,6 +30,7 @@ leads text (spot.Look l q) w = if holds l text w.run.at then (q, w) ∷ [] else 
 leads text (spot.Jump q) w = (q, w) ∷ []
 leads text (spot.Split p q) w = (p, w) ∷ (q, w) ∷ []
 leads text (spot.Open q) w = (q, opened w) ∷ []
+leads text (spot.Close i q) w = (q, closed i w) ∷ []
 leads text _ w = []
 
 -- on by bytes to another spot, if any are taken
@@ -44,9 +45,8 @@ leads_on text (spot.Chars set q) w = taken (char_size set text w.run.at) q w
 leads_on text _ w = []
 
 -- What a thread leads to at a place, where the spot was visited or not: what comes onto the stack, and what is kept for
--- later places. The end of a group isn't marked.
+-- later places.
 abbrev pub comes : List ℕ → Spot → Bool → Way → List Stop
-comes text (spot.Close i q) visited w = (q, closed i w) ∷ []
 comes text s visited w = if visited then [] else leads text s w
 
 abbrev pub keeps : List ℕ → Spot → Bool → Way → List Stop
@@ -56,16 +56,22 @@ keeps text s visited w = if visited then [] else leads_on text s w
 abbrev pub was_visited : List Bool → ℕ → Bool
 was_visited visited q = slice_index_or visited q false
 
--- with this spot visited, if it leaves a mark
-abbrev pub visiting : Spot → ℕ → List Bool → List Bool
-visiting s q visited = if is_unmarked s then visited else slice_set visited q true
+-- the spot ends a match
+abbrev pub ends_match : Spot → Bool
+ends_match spot.Match = true
+ends_match _ = false
 
--- a visit of the spot is counted
+-- with this spot visited, unless it ends a match
+abbrev pub visiting : Spot → ℕ → List Bool → List Bool
+visiting s q visited = if ends_match s then visited else slice_set visited q true
+
+-- A visit of the spot is counted: it takes bytes, looks, goes on both ways, or ends a group other than the whole match.
 abbrev pub is_counted : Spot → Bool
 is_counted (spot.Bytes set q) = true
 is_counted (spot.Chars set q) = true
 is_counted (spot.Look l q) = true
 is_counted (spot.Split p q) = true
+is_counted (spot.Close i q) = nat_lt 0 i
 is_counted _ = false
 
 -- the ticks of a visit, where the spot was visited or not

@@ -1,5 +1,4 @@
-//! The search of a block of places: bounded backtracking, depth first, which tries each spot at each place once at most, but for the
-//! ends of groups.
+//! The search of a block of places: bounded backtracking, depth first, which tries each spot at each place once at most.
 
 ghost use Rattle.std.specs.Prelude.{◌≡◌, ℕ, List, ◌+◌, ◌-◌, ◌*◌, ◌^◌, ◌≤◌, ◌<◌, [], ◌++◌, false, length, replicate, None, IfOk, IfSome};
 ghost use Rattle.hir_core.specs.Blocks.{AreSpent, IsFollowed, KeepsMarks, TurnedAt, mark_of};
@@ -135,10 +134,6 @@ impl Block {
         };
         if let Spot::Match = here {
             return Ok(Turn::Match);
-        }
-        if let Spot::Close { index, next } = here {
-            self.trail.close(*index)?;
-            return Ok(Turn::On(Some(*next)));
         }
         let mark = mark_of(spots.len(), places, self.trail.at, spot);
         if self.marks.has(mark) {

@@ -1,4 +1,4 @@
-//! The search of one place, as in Pike's virtual machine: it visits each spot once at most, but for the ends of groups.
+//! The search of one place, as in Pike's virtual machine: it visits each spot once at most.
 
 ghost use Rattle.std.specs.Prelude.{◌≡◌, ◌+◌, ◌^◌, ◌≤◌, ◌<◌, [], ◌++◌, false, length, IfOk, IfSome};
 ghost use Rattle.hir_program.specs.Program.{ClosesFall, spot_at, some_run};
@@ -48,6 +48,10 @@ pub fn lead(spot: &Spot, text: &[u8], trail: &mut Trail) -> Result<Option<usize>
             trail.open()?;
             Ok(Some(*next))
         }
+        Spot::Close { index, next } => {
+            trail.close(*index)?;
+            Ok(Some(*next))
+        }
         _ => Ok(None),
     }
 }
@@ -73,10 +77,11 @@ fn keep(
 fn is_counted(spot: &Spot) -> bool
     ensures { result ≡ is_counted spot.now }
 {
-    matches!(
-        spot,
-        Spot::Bytes { .. } | Spot::Chars { .. } | Spot::Look { .. } | Spot::Split { .. }
-    )
+    match spot {
+        Spot::Bytes { .. } | Spot::Chars { .. } | Spot::Look { .. } | Spot::Split { .. } => true,
+        Spot::Close { index, .. } => *index > 0,
+        _ => false,
+    }
 }
 
 /// Counts a visit of a spot.
@@ -133,10 +138,6 @@ impl Closure {
         };
         if let Spot::Match = here {
             return Ok(Turn::Match);
-        }
-        if let Spot::Close { index, next } = here {
-            self.trail.close(*index)?;
-            return Ok(Turn::On(Some(*next)));
         }
         if self.visited.has(spot) {
             return Ok(Turn::On(None));

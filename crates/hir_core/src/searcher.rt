@@ -101,7 +101,7 @@ impl Searcher {
     }
 
     /// [`search_at`](Searcher::search_at) with counted steps: one for each visit of a spot that takes a byte or a character,
-    /// looks, or goes on both ways. At a place of the text each of them is visited once at most; ends of groups aren't counted.
+    /// looks, goes on both ways, or ends a group other than the whole match. At a place of the text each spot is visited once at most.
     /// Where the pattern is one text, or the filter passes over a place, nothing is visited.
     pub fn search_at_steps<L: Ledger>(
         &self,

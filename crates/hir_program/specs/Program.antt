@@ -16,7 +16,7 @@ abbrev pub is_close : Spot → Bool
 is_close (spot.Close i next) = true
 is_close _ = false
 
--- The spot leaves no mark: it ends a group, which has no number of its own, or the match.
+-- The spot leaves no mark in a run: it ends a group, which has no number of its own, or the match.
 abbrev pub is_unmarked : Spot → Bool
 is_unmarked (spot.Close i next) = true
 is_unmarked spot.Match = true

@@ -27,13 +27,13 @@ abbrev mutual
 abbrev pub core_of : Hir → Core
 core_of hir = core_of_tree (tree_of hir)
 
--- the spots of a core: one for a byte, a look and a choice, one to go on with a plus, and four for the bytes of a character
+-- the spots of a core: one for a byte, a look, a choice and the end of a group, one to go on with a plus, and four for the bytes of a character
 abbrev pub core_spots : Core → ℕ
 core_spots core.empty = 0
 core_spots (core.byte_in ranges) = 1
 core_spots (core.char_in ranges) = 4
 core_spots (core.look kind) = 1
-core_spots (core.group index a) = core_spots a
+core_spots (core.group index a) = 1 + core_spots a
 core_spots (core.pair a b) = core_spots a + core_spots b
 core_spots (core.choice a b) = 1 + core_spots a + core_spots b
 core_spots core.none = 0

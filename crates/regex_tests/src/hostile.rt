@@ -89,3 +89,14 @@ fn more_spots_that_take_characters_than_a_filter_has(rt: HostRuntime) -> Result<
 fn more_spots_than_a_block_has(rt: HostRuntime) -> Result<(), Fail> {
     check(&rt, r"(?:\w|\w\w|a(?:\b|\B){90})*\bz")
 }
+
+// Each of the twenty alternatives is one visit, and so is the end of each of the ten groups, though twenty ways come to them; then the `z`,
+// and behind it the look, which fails.
+#[test]
+fn groups_that_end_together(rt: HostRuntime) -> Result<(), Fail> {
+    let searcher = searcher_of(rt.alloc(), r"((((((((((?:|||||||||||||||||||))))))))))z\by")?;
+    let noted = noted_steps(rt.alloc(), &searcher, b"zy");
+    drop(searcher);
+    assert_eq!(rt; noted?, (false, 20 + 10 + 1 + 1));
+    Ok(())
+}

@@ -1,6 +1,6 @@
 -- One turn of the search of a block.
-use Rattle.std.proofs.Common.{◌≡◌, ℕ, ◌<◌, ◌≤◌, Bool, true, false, cond, inl, inr, List, [], ◌∷◌, ◌++◌, length, map, Option, Some, None, if◌then◌else◌, refl, sym, ap, ap₂, ◌∙◌, subst, true≢false, append-nil, arith}
-use Rattle.std.specs.Prelude.{◌==◌, ◌||◌, slice_set}
+use Rattle.std.proofs.Common.{◌≡◌, ℕ, ◌<◌, ◌≤◌, Bool, true, false, cond, ◌⊎◌, inl, inr, List, [], ◌∷◌, ◌++◌, length, map, Option, Some, None, if◌then◌else◌, refl, sym, ap, ap₂, ◌∙◌, subst, true≢false, append-nil, arith}
+use Rattle.std.specs.Prelude.{◌==◌, ◌||◌, ◌&&◌, not, slice_set}
 use Rattle.std.specs.Option.{option_or}
 use Rattle.std.specs.List.{flat_map, AllByRecursion}
 use Rattle.std.proofs.lemmas.Bool.{cases_lt, cond-false, eqb-true, le-ltb, lt-ltb}
@@ -11,21 +11,24 @@ use Rattle.hir_tree.specs.Runs.{Run, moved, is_seen, byte_size, char_size, first
 use Rattle.hir_tree.specs.RunsLaws.{forget}
 use Rattle.hir_tree.proofs.ListLemmas.{All-append}
 use Rattle.hir_tree.proofs.RunsLemmas.{TakesWithin, byte_size-within, char_size-within}
-use Rattle.hir_core.specs.Blocks.{mark_of, trying, AreSpent}
+use Rattle.hir_core.specs.Blocks.{mark_of, trying, was_tried, AreSpent}
 use Rattle.hir_program.specs.Masks.{IsDead, is_taker}
-use Rattle.hir_core.specs.Pass.{first_of, taken, leads, leads_on, comes, keeps, was_visited, visiting, stop_gives, stops_give, fresh}
-use Rattle.hir_program.specs.Program.{spot_at, is_unmarked, way, marked, closed, follow, gives, ClosesFall, some_run}
+use Rattle.hir_core.specs.Pass.{first_of, taken, leads, leads_on, comes, keeps, was_visited, visiting, stop_gives, stops_give}
+use Rattle.hir_program.specs.Program.{spot_at, is_close, is_unmarked, way, marked, closed, follow, gives, ClosesFall, some_run}
 use Rattle.hir_core.specs.Trails.{Stop}
 use Rattle.hir_program.specs.declared.spot.Spot.{Spot}
 use Rattle.hir_program.specs.declared.spot.Spot.TheVariants as spot
 use Rattle.hir_program.proofs.PlacedLemmas.{gives-at, gives-close}
 use Rattle.hir_core.proofs.closure.ClosureLemmas.{Entry, entry, seen_by, nonempty, pend, Children, Covers, Covers-seen}
+use Rattle.hir_program.proofs.ProgramLemmas.{not_fail}
+use Rattle.hir_core.proofs.closure.EndLemmas.{Ends, ended-all, ended-entry, own_of, own_plain, was_own}
 use Rattle.hir_core.proofs.closure.TurnLemmas.{led_to, bare, cons_not_nil, cons_head, cons_tail, led_bare, led_children, taken_gives, gives_fail, some_run-nonempty, visited_again}
 use Rattle.hir_core.proofs.pass.PassLemmas.{Stands-dropped, Stands-led, Stands-kept, Stands-closed, gives_fresh, nowhere}
 use Rattle.hir_program.proofs.ScanLemmas.{gives-dead}
 use Rattle.hir_core.proofs.block.LevelLemmas.{place, level, AllAt}
 use Rattle.hir_core.proofs.block.BlockLemmas.{Blocking, top-level, replaced, dropped-done, dropped-second, kept-later, moved-on, blocking-match, blocking-begin, blocking-end}
-use Rattle.hir_core.proofs.block.MarkLemmas.{adding, adding-here, adding-elsewhere, AreMarks, AreMarks-adding, AreMarks-tried, tried_by, tried-is}
+use Rattle.hir_core.proofs.block.BlockEndLemmas.{EndsBy, GivesAllWayTo, IsNext}
+use Rattle.hir_core.proofs.block.MarkLemmas.{adding, adding-here, adding-elsewhere, AreMarks, AreMarks-adding, AreMarks-ended, AreMarks-tried, tried_by, tried-is}
 
 module _ (text : List ℕ) (spots : List Spot) (falls : ClosesFall spots) (begin end : ℕ) where
   -- no spot that takes bytes is among these
@@ -46,20 +49,11 @@ module _ (text : List ℕ) (spots : List Spot) (falls : ClosesFall spots) (begin
   abbrev pub Outside : List Entry → Type 0
   Outside es = AllByRecursion (λ (e : Entry). (end ≤ place e → seen_by e ≡ []) × NoTaker (seen_by e)) es
 
-  -- others come in the place of a stop, all of them
-  abbrev pub GivesAllWayTo : Stop → List Bool → List Bool → List Stop → List Stop → Type 0
-  GivesAllWayTo p marks marks' stack stack' =
-      let s = spot_at spots p.0 in
-      let tried = was_visited marks (mark_of (length spots) begin p.1.run.at p.0) in
-      (stack' ≡ (comes text s tried p.1 ++ keeps text s tried p.1) ++ stack)
-      × (marks' ≡ trying text spots begin p.1.run.at p.0 marks)
-      × ((s ≡ spot.Match) → ⊥)
-
   -- What the search of a block keeps true.
   pub record Searching (goal : Option Run) (marks : List Bool) (kept stack : List Stop) : Type 0 where
     pub tried : ℕ → List ℕ
     pub entries : List Entry
-    pub are_marks : AreMarks (length spots) begin marks tried
+    pub are_marks : AreMarks spots begin marks tried
     pub are_stack : map bare entries ≡ stack
     pub outside : Outside entries
     pub blocking : Blocking text spots falls goal tried (stops_give text spots kept) entries
@@ -83,7 +77,7 @@ module _ (text : List ℕ) (spots : List Spot) (falls : ClosesFall spots) (begin
           (((λ past. absurd (omega (arith, past, to, k.0.0))), subst NoTaker (sym k.0.1) (NoTaker-more e.spot (seen_by e) calm h)), only cs k.1)
 
   module _ (goal : Option Run) (marks : List Bool) (kept : List Stop) (tried : ℕ → List ℕ) (e : Entry) (es : List Entry)
-      (are : AreMarks (length spots) begin marks tried) (calm : NoTaker (seen_by e)) (out : Outside es) (h : Blocking text spots falls goal tried (stops_give text spots kept) (e ∷ es)) where
+      (are : AreMarks spots begin marks tried) (calm : NoTaker (seen_by e)) (out : Outside es) (h : Blocking text spots falls goal tried (stops_give text spots kept) (e ∷ es)) where
     abbrev pub others : List Entry
     others = level (place e) es ++ nowhere text spots falls (place e) ∷ []
 
@@ -98,16 +92,19 @@ module _ (text : List ℕ) (spots : List Spot) (falls : ClosesFall spots) (begin
         (Stands-dropped text spots falls (place e) stands_goal (tried (place e)) (stops_give text spots kept) e others nothing
         (top-level text spots falls goal tried (stops_give text spots kept) e es h, refl)).0
 
+    -- so is one that gives nothing unless something was kept
+    drop_answered : (nonempty (stops_give text spots kept) ≡ true) ⊎ (gives text spots e.spot e.way ≡ [])
+        → Blocking text spots falls goal tried (stops_give text spots kept) es
+    drop_answered (inl some) = dropped-done text spots falls goal tried (stops_give text spots kept) e es some h
+    drop_answered (inr nothing) = drop_entry nothing
+
     -- so is one at a spot that was tried at its place
     drop_tried : (s : Spot) → spot_at spots e.spot ≡ s → is_unmarked s ≡ false → is_seen e.spot (tried (place e)) ≡ true
         → Blocking text spots falls goal tried (stops_give text spots kept) es
     drop_tried s k plain seen =
-        elim (Covers-seen text spots falls (place e) e (tried (place e)) others (nonempty (stops_give text spots kept))
+        drop_answered (Covers-seen text spots falls (place e) e (tried (place e)) others (nonempty (stops_give text spots kept))
         (top-level text spots falls goal tried (stops_give text spots kept) e es h) seen
-        (λ before. gives-at text spots falls e.spot s e.way k ∙ cond-false _ _ _ plain ∙ shut before)) [
-          | inl some ↦ dropped-done text spots falls goal tried (stops_give text spots kept) e es some h
-          | inr nothing ↦ drop_entry nothing
-        ]
+        (λ before. gives-at text spots falls e.spot s e.way k ∙ cond-false _ _ _ plain ∙ shut before))
       where
         shut : is_seen e.spot (seen_by e) ≡ true
             → cond (is_seen e.spot (seen_by e)) [] (follow text spots (gives text spots) s (marked e.spot e.way)) ≡ []
@@ -158,7 +155,7 @@ module _ (text : List ℕ) (spots : List Spot) (falls : ClosesFall spots) (begin
         (top-level text spots falls goal tried (stops_give text spots kept) e es h, refl)).0
 
     -- what a turn leaves, where the mark isn't set
-    leave : (marks' : List Bool) (tried' : ℕ → List ℕ) (cs : List Entry) (stops : List Stop) → AreMarks (length spots) begin marks' tried' → map bare cs ≡ stops
+    leave : (marks' : List Bool) (tried' : ℕ → List ℕ) (cs : List Entry) (stops : List Stop) → AreMarks spots begin marks' tried' → map bare cs ≡ stops
         → Outside cs → Blocking text spots falls goal tried' (stops_give text spots kept) (cs ++ es)
         → Searching goal marks' kept (stops ++ map bare es)
     leave marks' tried' cs stops are' same fresh b = record {
@@ -177,17 +174,20 @@ module _ (text : List ℕ) (spots : List Spot) (falls : ClosesFall spots) (begin
       mark = mark_of (length spots) begin (place e) e.spot
 
       unseen : is_seen e.spot (tried (place e)) ≡ false
-      unseen = are (place e) e.spot ∙ tried-is (length spots) begin marks (place e) e.spot from few ∙ new
+      unseen =
+          are (place e) e.spot
+          ∙ ap (λ (b : Bool). b && not (is_close (spot_at spots e.spot))) (tried-is (length spots) begin marks (place e) e.spot from few ∙ new)
 
-      are_more : AreMarks (length spots) begin (slice_set marks mark true) (adding (place e) e.spot tried)
-      are_more = AreMarks-adding (length spots) begin marks (place e) e.spot from few room tried are
+      are_more : (s : Spot) → spot_at spots e.spot ≡ s → is_unmarked s ≡ false → AreMarks spots begin (slice_set marks mark true) (adding (place e) e.spot tried)
+      are_more s k plain =
+          AreMarks-adding spots begin marks (place e) e.spot from few room tried (ap is_close k ∙ own_plain text spots falls (place e) s plain) are
 
       lead : (s : Spot) → spot_at spots e.spot ≡ s → is_unmarked s ≡ false → is_taker s ≡ false → leads_on text s (bare e).1 ≡ []
           → follow text spots (gives text spots) s (marked e.spot e.way) ≡ pend text spots falls (place e) (led_to text s (marked e.spot e.way))
           → Searching goal (slice_set marks mark true) kept ((leads text s (bare e).1 ++ leads_on text s (bare e).1) ++ map bare es)
       lead s k plain still none_on same =
           leave (slice_set marks mark true) (adding (place e) e.spot tried) (led_to text s (marked e.spot e.way)) (leads text s (bare e).1 ++ leads_on text s (bare e).1)
-          are_more
+          (are_more s k plain)
           (led_bare text spots falls (place e) s e ∙ sym (append-nil (leads text s (bare e).1)) ∙ ap (λ xs. leads text s (bare e).1 ++ xs) (sym none_on))
           (led_outside s e to (ap is_taker k ∙ still) calm)
           (lead_entry s k plain unseen same)
@@ -197,7 +197,7 @@ module _ (text : List ℕ) (spots : List Spot) (falls : ClosesFall spots) (begin
           ≡ flat_map (stop_gives text spots) (taken o f (way e.way.starts (forget e.way.run)))
           → Searching goal (slice_set marks mark true) kept (taken o f (bare e).1 ++ map bare es)
       take s None f k plain some same =
-          leave (slice_set marks mark true) (adding (place e) e.spot tried) [] [] are_more refl tt
+          leave (slice_set marks mark true) (adding (place e) e.spot tried) [] [] (are_more s k plain) refl tt
           (replaced text spots falls goal tried (adding (place e) e.spot tried) (stops_give text spots kept) e es [] h
           (fresh_gives s k plain unseen ∙ same) tt (adding-elsewhere (place e) e.spot tried)
           (subst (λ v. Covers text spots falls (place e) v (nonempty (stops_give text spots kept)) v others) (sym (adding-here (place e) e.spot tried))
@@ -205,7 +205,7 @@ module _ (text : List ℕ) (spots : List Spot) (falls : ClosesFall spots) (begin
           (top-level text spots falls goal tried (stops_give text spots kept) e es h, refl)).0))
       take s (Some bytes) f k plain some same =
           leave (slice_set marks mark true) (adding (place e) e.spot tried) (entry f (way e.way.starts (moved bytes (forget e.way.run))) ∷ [])
-          (taken (Some bytes) f (bare e).1) are_more refl (((λ past. refl), NoTaker-none), tt)
+          (taken (Some bytes) f (bare e).1) (are_more s k plain) refl (((λ past. refl), NoTaker-none), tt)
           (take_entry s k plain unseen f bytes (some bytes refl) same)
 
       look_same : (f : ℕ) (b : Bool) → cond b (gives text spots f (marked e.spot e.way)) []
@@ -233,8 +233,21 @@ module _ (text : List ℕ) (spots : List Spot) (falls : ClosesFall spots) (begin
       turn_new spot.Fail k plain = lead spot.Fail k plain refl refl refl
       turn_new spot.Match k plain = absurd (true≢false plain)
 
+    -- an end of a group that was tried gives nothing more
+    over : (next : ℕ → Type 0)
+        → Ends text spots falls (place e) (was_tried (length spots) begin marks (place e)) (nonempty (stops_give text spots kept)) next
+        → ((q : ℕ) → next q → e.spot ≡ q) → begin ≤ place e → (i f : ℕ) → spot_at spots e.spot ≡ spot.Close i f
+        → was_visited marks (mark_of (length spots) begin (place e) e.spot) ≡ true
+        → (nonempty (stops_give text spots kept) ≡ true) ⊎ (gives text spots e.spot e.way ≡ [])
+    over next ends first from i f k v =
+        ended-entry text spots falls (place e) (was_tried (length spots) begin marks (place e)) (tried (place e)) (nonempty (stops_give text spots kept)) next e i f
+        refl (are (place e)) (top-level text spots falls goal tried (stops_give text spots kept) e es h).2 ends first k
+        (tried-is (length spots) begin marks (place e) e.spot from (not_fail spots e.spot (spot.Close i f) k (λ x. cc)) ∙ v)
+
     -- an entry gives way to what its spot leads to
-    module _ (from : begin ≤ place e) (to : place e < end) (room : e.spot < length spots → mark_of (length spots) begin (place e) e.spot < length marks) where
+    module _ (from : begin ≤ place e) (to : place e < end) (room : e.spot < length spots → mark_of (length spots) begin (place e) e.spot < length marks)
+        (is_over : (i f : ℕ) → spot_at spots e.spot ≡ spot.Close i f → was_visited marks (mark_of (length spots) begin (place e) e.spot) ≡ true
+        → (nonempty (stops_give text spots kept) ≡ true) ⊎ (gives text spots e.spot e.way ≡ [])) where
       abbrev after : Spot → Bool → List Stop
       after s seen = (comes text s seen (bare e).1 ++ keeps text s seen (bare e).1) ++ map bare es
 
@@ -245,7 +258,9 @@ module _ (text : List ℕ) (spots : List Spot) (falls : ClosesFall spots) (begin
       inside s k few plain true v =
           subst (λ bs. Searching goal bs kept (map bare es)) (sym (visited_again marks (mark_of (length spots) begin (place e) e.spot) v))
           (leave marks tried [] [] are refl tt
-          (drop_tried s k plain (are (place e) e.spot ∙ tried-is (length spots) begin marks (place e) e.spot from few ∙ v)))
+          (drop_tried s k plain
+          (own_of spots (was_tried (length spots) begin marks (place e)) (tried (place e)) (are (place e)) e.spot
+          (tried-is (length spots) begin marks (place e) e.spot from few ∙ v) (ap is_close k ∙ own_plain text spots falls (place e) s plain))))
       inside s k few plain false v = turn_new from to few (room few) v s k plain
 
       past : (seen : Bool) → spot_at spots e.spot ≡ spot.Fail → Searching goal marks kept ((cond seen [] [] ++ cond seen [] []) ++ map bare es)
@@ -255,11 +270,20 @@ module _ (text : List ℕ) (spots : List Spot) (falls : ClosesFall spots) (begin
       at_spot : (seen : Bool) → was_visited marks (mark_of (length spots) begin (place e) e.spot) ≡ seen
           → (s : Spot) → spot_at spots e.spot ≡ s → (s ≡ spot.Match → ⊥) → e.spot < length spots
           → Searching goal (visiting s (mark_of (length spots) begin (place e) e.spot) marks) kept (after s seen)
-      at_spot seen v (spot.Close i f) k live few = ended seen
+      at_spot seen v (spot.Close i f) k live few = ended seen v
         where
-          ended : (seen : Bool) → Searching goal marks kept (((f, closed i (bare e).1) ∷ keeps text (spot.Close i f) seen (bare e).1) ++ map bare es)
-          ended true = leave marks tried (entry f (closed i e.way) ∷ []) ((f, closed i (bare e).1) ∷ []) are refl (((λ past. absurd (omega (arith, past, to))), calm), tt) (close_entry i f k)
-          ended false = leave marks tried (entry f (closed i e.way) ∷ []) ((f, closed i (bare e).1) ∷ []) are refl (((λ past. absurd (omega (arith, past, to))), calm), tt) (close_entry i f k)
+          mark : ℕ
+          mark = mark_of (length spots) begin (place e) e.spot
+
+          ended : (seen : Bool) → was_visited marks mark ≡ seen
+              → Searching goal (slice_set marks mark true) kept ((cond seen [] ((f, closed i (bare e).1) ∷ []) ++ cond seen [] []) ++ map bare es)
+          ended true v =
+              subst (λ bs. Searching goal bs kept (map bare es)) (sym (visited_again marks mark v))
+              (leave marks tried [] [] are refl tt (drop_answered (is_over i f k v)))
+          ended false v =
+              leave (slice_set marks mark true) tried (entry f (closed i e.way) ∷ []) ((f, closed i (bare e).1) ∷ [])
+              (AreMarks-ended spots begin marks (place e) e.spot from few (room few) tried (ap is_close k) are) refl
+              (((λ past. absurd (omega (arith, past, to))), calm), tt) (close_entry i f k)
       at_spot seen v spot.Match k live few = absurd (live refl)
       at_spot seen v spot.Fail k live few = inside spot.Fail k few refl seen v
       at_spot seen v (spot.Bytes set f) k live few = inside (spot.Bytes set f) k few refl seen v
@@ -288,7 +312,7 @@ module _ (text : List ℕ) (spots : List Spot) (falls : ClosesFall spots) (begin
   -- the first of the stack apart
   module _ (goal : Option Run) (marks : List Bool) (kept rest : List Stop) (p : Stop) where
     abbrev pub At : Type 0
-    At = (tried : ℕ → List ℕ) × (e : Entry) × (es : List Entry) × AreMarks (length spots) begin marks tried × (bare e ≡ p) × (map bare es ≡ rest)
+    At = (tried : ℕ → List ℕ) × (e : Entry) × (es : List Entry) × AreMarks spots begin marks tried × (bare e ≡ p) × (map bare es ≡ rest)
         × Outside (e ∷ es) × Blocking text spots falls goal tried (stops_give text spots kept) (e ∷ es)
 
     pub apart : Searching goal marks kept (p ∷ rest) → At
@@ -302,17 +326,21 @@ module _ (text : List ℕ) (spots : List Spot) (falls : ClosesFall spots) (begin
     -- one turn
     pub Searching-turn : (marks' : List Bool) (stack' : List Stop) → begin ≤ p.1.run.at → p.1.run.at < end
         → (p.0 < length spots → mark_of (length spots) begin p.1.run.at p.0 < length marks)
-        → Searching goal marks kept (p ∷ rest) → GivesAllWayTo p marks marks' rest stack' → Searching goal marks' kept stack'
-    Searching-turn marks' stack' from to room c turned =
+        → EndsBy text spots falls begin end marks kept (p ∷ rest)
+        → Searching goal marks kept (p ∷ rest) → GivesAllWayTo text spots falls begin end p marks marks' rest stack' → Searching goal marks' kept stack'
+    Searching-turn marks' stack' from to room ends c turned =
         let a = apart c in
         let e = a.1 in
-        let now : GivesAllWayTo (bare e) marks marks' (map bare a.2) stack' =
-        subst (λ r. GivesAllWayTo (bare e) marks marks' r stack') (sym a.5) (subst (λ q. GivesAllWayTo q marks marks' rest stack') (sym a.4) turned) in
+        let now : GivesAllWayTo text spots falls begin end (bare e) marks marks' (map bare a.2) stack' =
+        subst (λ r. GivesAllWayTo text spots falls begin end (bare e) marks marks' r stack') (sym a.5)
+        (subst (λ q. GivesAllWayTo text spots falls begin end q marks marks' rest stack') (sym a.4) turned) in
         subst (λ bs. Searching goal bs kept stack') (sym now.1)
         (subst (λ st. Searching goal (trying text spots begin (place e) e.spot marks) kept st) (sym now.0)
         (turn_entry goal marks kept a.0 e a.2 a.3 a.6.0.1 a.6.1 a.7 (subst (λ (q : Stop). begin ≤ q.1.run.at) (sym a.4) from)
         (subst (λ (q : Stop). q.1.run.at < end) (sym a.4) to)
         (subst (λ (q : Stop). q.0 < length spots → mark_of (length spots) begin q.1.run.at q.0 < length marks) (sym a.4) room)
+        (over goal marks kept a.0 e a.2 a.3 a.6.0.1 a.6.1 a.7 (IsNext text spots falls begin end (place e) (p ∷ rest)) (ends (place e)) (λ q n. ap (λ (x : Stop). x.0) a.4 ∙ n.0)
+        (subst (λ (q : Stop). begin ≤ q.1.run.at) (sym a.4) from))
         (was_visited marks (mark_of (length spots) begin (place e) e.spot)) refl now.2))
 
     -- one at a dead spot is left out
@@ -336,7 +364,7 @@ module _ (text : List ℕ) (spots : List Spot) (falls : ClosesFall spots) (begin
     Searching-dead_second more q is here dead c =
         let a = apart c in cases a.0 a.1 a.2 a.3 a.4 (a.5 ∙ is) a.6 a.7
       where
-        cases : (tried : ℕ → List ℕ) (e : Entry) (es : List Entry) → AreMarks (length spots) begin marks tried → bare e ≡ p → map bare es ≡ q ∷ more
+        cases : (tried : ℕ → List ℕ) (e : Entry) (es : List Entry) → AreMarks spots begin marks tried → bare e ≡ p → map bare es ≡ q ∷ more
             → Outside (e ∷ es) → Blocking text spots falls goal tried (stops_give text spots kept) (e ∷ es) → Searching goal marks kept (p ∷ more)
         cases tried e [] are first same out b = absurd (cons_not_nil q more (sym same))
         cases tried e (f ∷ es) are first same out b =
@@ -383,29 +411,33 @@ module _ (text : List ℕ) (spots : List Spot) (falls : ClosesFall spots) (begin
       → AreSpent text spots begin marks (some_run (stops_give text spots kept))
       → Searching (first_of (stops_give text spots kept ++ stop_gives text spots p)) marks kept (p ∷ [])
   Searching-begin marks kept p new spent = record {
-    tried = tried_by (length spots) begin marks;
+    tried = tried_by spots begin marks;
     entries = entry p.0 p.1 ∷ [];
-    are_marks = AreMarks-tried (length spots) begin marks;
+    are_marks = AreMarks-tried spots begin marks;
     are_stack = ap (λ xs. (p.0, way p.1.starts (record { at = p.1.run.at; groups = p.1.run.groups; seen = xs })) ∷ []) (sym new);
     outside = (((λ past. new), subst NoTaker (sym new) NoTaker-none), tt);
     blocking =
-        blocking-begin text spots falls (tried_by (length spots) begin marks) (stops_give text spots kept) (entry p.0 p.1) new
-        (λ at m k. elim (spent at m (sym (AreMarks-tried (length spots) begin marks at m) ∙ k)) [
+        blocking-begin text spots falls (tried_by spots begin marks) (stops_give text spots kept) (entry p.0 p.1) new
+        (λ at m k. elim (spent at m (was_own spots (was_tried (length spots) begin marks at) (tried_by spots begin marks at) (AreMarks-tried spots begin marks at) m k)) [
           | inl some ↦ inl (sym (some_run-nonempty _) ∙ some)
           | inr dead ↦ inr dead
         ]);
   }
 
   -- when none is left
-  pub Searching-end : (goal : Option Run) (marks : List Bool) (kept : List Stop) → Searching goal marks kept []
+  pub Searching-end : (goal : Option Run) (marks : List Bool) (kept : List Stop) → EndsBy text spots falls begin end marks kept [] → Searching goal marks kept []
       → AreSpent text spots begin marks (some_run (stops_give text spots kept)) × (first_of (stops_give text spots kept) ≡ goal)
-  Searching-end goal marks kept c = cases c.entries c.are_stack c.blocking
+  Searching-end goal marks kept ends c = cases c.entries c.are_stack c.blocking
     where
       cases : (entries : List Entry) → map bare entries ≡ [] → Blocking text spots falls goal c.tried (stops_give text spots kept) entries
           → AreSpent text spots begin marks (some_run (stops_give text spots kept)) × (first_of (stops_give text spots kept) ≡ goal)
       cases (e ∷ es) same b = absurd (cons_not_nil (bare e) (map bare es) same)
       cases [] same b =
           let over = blocking-end text spots falls goal c.tried (stops_give text spots kept) b in (
-            (λ at m k. elim (over.0 at m (c.are_marks at m ∙ k)) [ inl some ↦ inl (some_run-nonempty _ ∙ some) | inr dead ↦ inr dead ]),
+            (λ at m k. elim (ended-all text spots falls at (was_tried (length spots) begin marks at) (c.tried at) (nonempty (stops_give text spots kept))
+                (IsNext text spots falls begin end at []) (c.are_marks at) (ends at) (λ q n. n) (over.0 at) m k) [
+                  | inl some ↦ inl (some_run-nonempty _ ∙ some)
+                  | inr dead ↦ inr dead
+                ]),
             over.1,
           )

@@ -1,10 +1,9 @@
 -- Bytes that the search of a block runs over.
-use Rattle.std.proofs.Common.{◌≡◌, ℕ, zero, suc, ◌+◌, ◌-◌, ◌*◌, ◌<◌, ◌≤◌, Bool, true, false, ◌⊎◌, inl, inr, List, [], ◌∷◌, ◌++◌, length, drop, map, slice_index, Option, Some, None, if◌then◌else◌, refl, sym, ap, ap₂, ◌∙◌, subst, true≢false, append-nil, append_assoc, arith, get_or-drop, length-drop}
-use Rattle.std.specs.Prelude.{◌&&◌, option_map, slice_set}
+use Rattle.std.proofs.Common.{◌≡◌, ℕ, zero, suc, ◌+◌, ◌-◌, ◌<◌, ◌≤◌, Bool, true, false, ◌⊎◌, inl, inr, List, [], ◌∷◌, ◌++◌, length, drop, map, slice_index, Option, Some, None, if◌then◌else◌, refl, sym, ap, ap₂, ◌∙◌, subst, true≢false, append-nil, append_assoc, arith, get_or-drop, length-drop}
+use Rattle.std.specs.Prelude.{◌&&◌, not, option_map}
 use Rattle.std.specs.List.{flat_map}
 use Rattle.std.proofs.Math.ListN.{length-set}
 use Rattle.std.proofs.lemmas.Bool.{cond-false, or_right}
-use Rattle.std.proofs.lemmas.List.Sums.{sum_by-set}
 use Rattle.std.proofs.lemmas.Option.{slice_get-get_or}
 use Rattle.bstr.specs.Utf8.{Decoded}
 use Rattle.bstr.proofs.lemmas.PieceLemmas.{value-1}
@@ -15,22 +14,24 @@ use Rattle.hir_core.specs.RunsOver.{StepsOver, RunsOver}
 use Rattle.hir_program.specs.Loops.{LeadsTo, AreWays, IsRunOver}
 use Rattle.hir_program.specs.Masks.{is_taker, takes_byte}
 use Rattle.hir_core.specs.Pass.{stops_give, was_visited}
-use Rattle.hir_program.specs.Program.{spot_at, is_unmarked, Way, way, marked, follow, gives, ClosesFall}
+use Rattle.hir_program.specs.Program.{spot_at, is_close, is_unmarked, Way, way, marked, follow, gives, ClosesFall}
 use Rattle.hir_core.specs.Trails.{Stop, placed_at}
 use Rattle.hir_program.specs.declared.loops.Ways.{Ways}
 use Rattle.hir_program.specs.declared.spot.Spot.{Spot}
 use Rattle.hir_program.specs.declared.spot.Spot.TheVariants as spot
 use Rattle.hir_program.proofs.PlacedLemmas.{gives-at}
 use Rattle.hir_core.proofs.closure.ClosureLemmas.{Entry, entry, seen_by, nonempty, nonempty-append, Covers}
-use Rattle.hir_core.proofs.closure.TurnLemmas.{bare, some_run-nonempty, unset_bits, turn_weight}
-use Rattle.hir_core.proofs.run_over.OverLemmas.{loop-within}
+use Rattle.hir_core.proofs.closure.EndLemmas.{own_plain}
+use Rattle.hir_core.proofs.closure.TurnLemmas.{bare, set_stays, some_run-nonempty, fewer_unset, unset_bits, turn_weight}
+use Rattle.hir_core.proofs.run_over.OverLemmas.{loop-live, loop-plain, loop-within}
 use Rattle.hir_core.proofs.pass.PassLemmas.{Covers-above, Stands-kept, first_before, gives_fresh, nowhere}
 use Rattle.hir_program.proofs.ScanLemmas.{gives-dead}
 use Rattle.hir_core.proofs.block.LevelLemmas.{place, level}
 use Rattle.hir_core.proofs.block.BlockLemmas.{Blocking, runs_of, top-level, moved-as}
 use Rattle.hir_core.proofs.block.BlockTurnLemmas.{NoTaker, NoTaker-none, NoTaker-more, Outside, Searching, apart, stands_goal}
+use Rattle.hir_core.proofs.block.BlockEndLemmas.{EndsBy, EndsBy-set}
 use Rattle.hir_core.proofs.block.FollowLemmas.{FollowsIn, HasRoom}
-use Rattle.hir_core.proofs.block.MarkLemmas.{adding, adding-here, adding-elsewhere, AreMarks, AreMarks-adding, KeepsMarks-none, KeepsMarks-then, mark-within, set_stays, tried-is}
+use Rattle.hir_core.proofs.block.MarkLemmas.{adding, adding-here, adding-elsewhere, AreMarks, AreMarks-adding, KeepsMarks-none, KeepsMarks-then, mark-within, tried-is}
 
 -- ---- bytes that are taken
 
@@ -164,7 +165,7 @@ module _ (text : List ℕ) (spots : List Spot) (falls : ClosesFall spots) where
         ]
 
   module _ (begin end : ℕ) (goal : Option Run) (marks : List Bool) (kept : List Stop) where
-    module _ (tried : ℕ → List ℕ) (e : Entry) (es : List Entry) (are : AreMarks (length spots) begin marks tried)
+    module _ (tried : ℕ → List ℕ) (e : Entry) (es : List Entry) (are : AreMarks spots begin marks tried)
         (calm : NoTaker text spots falls begin end (seen_by e)) (out : Outside text spots falls begin end es)
         (h : Blocking text spots falls goal tried (stops_give text spots kept) (e ∷ es)) (new : List Bool) (room : HasRoom spots begin end marks)
         (from : begin ≤ place e) (step : StepsOver text spots begin end e.spot (place e) marks new) where
@@ -184,7 +185,9 @@ module _ (text : List ℕ) (spots : List Spot) (falls : ClosesFall spots) where
       plain = elim step.are_ways.sides [ inl split ↦ ap is_unmarked split | inr split ↦ ap is_unmarked split.0 ]
 
       untried : is_seen e.spot (tried (place e)) ≡ false
-      untried = are (place e) e.spot ∙ tried-is (length spots) begin marks (place e) e.spot from few ∙ step.new_here
+      untried =
+          are (place e) e.spot
+          ∙ ap (λ (b : Bool). b && not (is_close (spot_at spots e.spot))) (tried-is (length spots) begin marks (place e) e.spot from few ∙ step.new_here)
 
       top : Covers text spots falls (place e) (tried (place e)) (nonempty (stops_give text spots kept)) (tried (place e)) (e ∷ below)
       top = top-level text spots falls goal tried (stops_give text spots kept) e es h
@@ -212,8 +215,8 @@ module _ (text : List ℕ) (spots : List Spot) (falls : ClosesFall spots) where
         tried = adding (place e) e.spot tried;
         entries = on ∷ es;
         are_marks =
-            subst (λ (bs : List Bool). AreMarks (length spots) begin bs (adding (place e) e.spot tried)) (sym step.marks)
-            (AreMarks-adding (length spots) begin marks (place e) e.spot from few inside tried are);
+            subst (λ (bs : List Bool). AreMarks spots begin bs (adding (place e) e.spot tried)) (sym step.marks)
+            (AreMarks-adding spots begin marks (place e) e.spot from few inside tried (own_plain text spots falls (place e) (spot_at spots e.spot) plain) are);
         are_stack = refl;
         outside = (((λ past. refl), NoTaker-none text spots falls begin end), out);
         blocking =
@@ -237,23 +240,19 @@ module _ (text : List ℕ) (spots : List Spot) (falls : ClosesFall spots) where
         (entry-over a.0 a.1 a.2 a.3 a.6.0.1 a.6.1 a.7 new room (subst (λ (x : Stop). begin ≤ x.1.run.at) (sym a.4) from)
         (subst (λ (x : Stop). StepsOver text spots begin end x.0 x.1.run.at marks new) (sym a.4) step))
 
--- what running over bytes keeps: the marks that were set, and what the stack weighs
-pub record Lightly (text : List ℕ) (spots : List Spot) (q : ℕ) (rest : List Stop) (old new : List Bool) : Type 0 where
+-- what running over bytes keeps: the marks that were set
+pub record MarksMore (old new : List Bool) : Type 0 where
   pub keeps : KeepsMarks old new
-  pub lighter : (v w : Way) → turn_weight text spots new ((q, w) ∷ rest) ≤ turn_weight text spots old ((q, v) ∷ rest)
-
-fewer_times : (u v k : ℕ) → u + 1 ≡ v → u * k ≤ v * k
-fewer_times u v k e = rw (sym e) (omega arith)
+  pub fewer : unset_bits new ≤ unset_bits old
 
 module _ (text : List ℕ) (spots : List Spot) (begin end : ℕ) (q : ℕ) where
-  Lightly-step : (rest : List Stop) (at : ℕ) (old new : List Bool) → HasRoom spots begin end old → begin ≤ at → StepsOver text spots begin end q at old new
-      → Lightly text spots q rest old new
-  Lightly-step rest at old new room from step = record {
+  MarksMore-step : (at : ℕ) (old new : List Bool) → HasRoom spots begin end old → begin ≤ at → StepsOver text spots begin end q at old new → MarksMore old new
+  MarksMore-step at old new room from step = record {
     keeps = record {
       room = ap length step.marks ∙ length-set _ _ _;
       stay = λ m is. ap (λ (bs : List Bool). was_visited bs m) step.marks ∙ set_stays old mark m is;
     };
-    lighter = λ v w. lighter v w;
+    fewer = let one = fewer_unset old mark inside step.new_here in rw step.marks (omega arith);
   }
     where
       mark : ℕ
@@ -262,40 +261,34 @@ module _ (text : List ℕ) (spots : List Spot) (begin end : ℕ) (q : ℕ) where
       inside : mark < length old
       inside = mark-within (length spots) begin end at q (length old) room from step.inside (loop-within spots q step.ways step.are_ways)
 
-      lighter : (v w : Way) → turn_weight text spots new ((q, w) ∷ rest) ≤ turn_weight text spots old ((q, v) ∷ rest)
-      lighter v w =
-          let one : unset_bits (slice_set old mark true) + (if was_visited old mark then 0 else 1) ≡ unset_bits old + 0 =
-          sum_by-set (λ (b : Bool). if b then 0 else 1) old mark true false inside in
-          let bit : ℕ = if was_visited old mark then 0 else 1 in
-          let is_one : bit ≡ 1 = ap (λ (b : Bool). if b then 0 else 1) step.new_here in
-          let fewer : unset_bits (slice_set old mark true) + 1 ≡ unset_bits old = omega arith in
-          let less : unset_bits (slice_set old mark true) * (2 * (length spots + 2)) ≤ unset_bits old * (2 * (length spots + 2)) =
-          fewer_times (unset_bits (slice_set old mark true)) (unset_bits old) (2 * (length spots + 2)) fewer in
-          rw step.marks (omega arith)
-
   -- bytes are run over at the first of the stack
   pub FollowsIn-over : (rest : List Stop) (n at : ℕ) (goal : Option Run) (kept : List Stop) (w : Way) (old new : List Bool) → HasRoom spots begin end old
       → RunsOver text spots begin end q n at old new → FollowsIn text spots begin end goal old kept ((q, placed_at at w) ∷ rest)
-      → FollowsIn text spots begin end goal new kept ((q, placed_at (at + n) w) ∷ rest) × Lightly text spots q rest old new
+      → FollowsIn text spots begin end goal new kept ((q, placed_at (at + n) w) ∷ rest) × MarksMore old new
   FollowsIn-over rest zero at goal kept w old new room same h = (
     subst (λ (bs : List Bool). FollowsIn text spots begin end goal bs kept ((q, placed_at (at + 0) w) ∷ rest)) (sym same)
         (subst (λ (i : ℕ). FollowsIn text spots begin end goal old kept ((q, placed_at i w) ∷ rest)) (let k : at ≡ at + 0 = omega arith in k) h),
-    subst (λ (bs : List Bool). Lightly text spots q rest old bs) (sym same) (record { keeps = KeepsMarks-none old; lighter = λ v w. omega arith }),
+    subst (λ (bs : List Bool). MarksMore old bs) (sym same) (record { keeps = KeepsMarks-none old; fewer = omega arith }),
   )
   FollowsIn-over rest (suc n) at goal kept w old new room (now, over, step) h =
       let before = FollowsIn-over rest n at goal kept w old now room over h in
       let room_now : HasRoom spots begin end now = omega (arith, room, before.1.keeps.room) in
       let from : begin ≤ at + n = before.0.2.0.0 in
-      let light = Lightly-step rest (at + n) now new room_now from step in (
+      let more = MarksMore-step (at + n) now new room_now from step in (
         subst (λ (i : ℕ). FollowsIn text spots begin end goal new kept ((q, placed_at i w) ∷ rest)) (let k : at + n + 1 ≡ at + suc n = omega arith in k) (
           before.0.0,
           Searching-over text spots before.0.0 begin end goal now kept rest (q, placed_at (at + n) w) new room_now from step before.0.1,
           ((omega (arith, from), omega (arith, step.within)), before.0.2.1),
           before.0.3,
+          subst (λ (bs : List Bool). EndsBy text spots before.0.0 begin end bs kept ((q, placed_at (at + n + 1) w) ∷ rest)) (sym step.marks)
+              (EndsBy-set text spots before.0.0 begin end now kept rest ((q, placed_at (at + n + 1) w) ∷ rest) (q, placed_at (at + n) w) from
+              (loop-within spots q step.ways step.are_ways)
+              (mark-within (length spots) begin end (at + n) q (length now) room_now from step.inside (loop-within spots q step.ways step.are_ways))
+              (loop-live spots q step.ways step.are_ways) (λ i f k unset. absurd (loop-plain spots q step.ways i f step.are_ways k)) before.0.4),
         ),
         record {
-          keeps = KeepsMarks-then before.1.keeps light.keeps;
-          lighter = λ v u. omega (arith, before.1.lighter v w, light.lighter w u);
+          keeps = KeepsMarks-then before.1.keeps more.keeps;
+          fewer = omega (arith, before.1.fewer, more.fewer);
         },
       )
 
@@ -304,7 +297,7 @@ module _ (text : List ℕ) (spots : List Spot) (begin end : ℕ) (q : ℕ) where
       → w ≡ placed_at w.run.at w → stack ≡ (q, w) ∷ others → v ≡ placed_at at w → below ≡ others → w.run.at ≤ at
       → RunsOver text spots begin end q (at - w.run.at) w.run.at old new → FollowsIn text spots begin end goal old kept stack
       → FollowsIn text spots begin end goal new kept ((q, v) ∷ below) × KeepsMarks old new
-      × (turn_weight text spots new ((q, v) ∷ below) ≤ turn_weight text spots old stack)
+      × (turn_weight new ((q, v) ∷ below) ≤ turn_weight old stack)
   FollowsIn-run at goal kept stack others below w v old new room whole is there same forward over h =
       let here : FollowsIn text spots begin end goal old kept ((q, placed_at w.run.at w) ∷ others) =
       subst (λ (u : Way). FollowsIn text spots begin end goal old kept ((q, u) ∷ others)) whole
@@ -315,5 +308,5 @@ module _ (text : List ℕ) (spots : List Spot) (begin end : ℕ) (q : ℕ) where
       (ap (λ (i : ℕ). placed_at i w) (let k : w.run.at + (at - w.run.at) ≡ at = omega arith in k) ∙ sym there) (sym same) in (
         subst (λ (ps : List Stop). FollowsIn text spots begin end goal new kept ps) stop done.0,
         done.1.keeps,
-        rw (is, same) (done.1.lighter w v),
+        rw (is, same) (let fewer = done.1.fewer in omega arith),
       )

@@ -1,13 +1,17 @@
 -- The marks of a block, in rows.
-use Rattle.std.proofs.Common.{◌≡◌, ℕ, zero, suc, ◌+◌, ◌-◌, ◌*◌, ◌<◌, ◌≤◌, Bool, true, false, inl, inr, List, [], ◌∷◌, length, if◌then◌else◌, refl, sym, ap, ◌∙◌, subst, true≢false, eq-eqb, arith}
-use Rattle.std.specs.Prelude.{◌||◌, ◌==◌, ◌&&◌, nat_le, nat_lt, replicate, slice_set}
+use Rattle.std.proofs.Common.{◌≡◌, ℕ, zero, suc, ◌+◌, ◌-◌, ◌*◌, ◌<◌, ◌≤◌, Bool, true, false, inl, inr, List, ◌∷◌, length, if◌then◌else◌, refl, sym, ap, ◌∙◌, subst, true≢false, eq-eqb, arith}
+use Rattle.std.specs.Prelude.{◌||◌, ◌==◌, ◌&&◌, not, nat_le, nat_lt, replicate, slice_set}
+use Rattle.std.proofs.Math.Bool.{and-false}
 use Rattle.std.proofs.Math.Nat.{mul-le-mul_left}
 use Rattle.std.proofs.lemmas.Bool.{cases_lt, cases_eq, or_left, ne_eqb, lt-ltb, ltb-true, le-ltb, le-leb, leb-true}
 use Rattle.std.proofs.lemmas.List.{get_or-set_same, get_or-set_other, get_or_past}
 use Rattle.hir_tree.specs.Runs.{is_seen}
 use Rattle.hir_core.specs.Pass.{was_visited}
 use Rattle.hir_core.specs.Blocks.{mark_of, was_tried, KeepsMarks}
-use Rattle.hir_core.proofs.closure.TurnLemmas.{visited_again}
+use Rattle.hir_program.specs.Program.{spot_at, is_close}
+use Rattle.hir_program.specs.declared.spot.Spot.{Spot}
+use Rattle.hir_core.proofs.closure.EndLemmas.{AreOwn, AreOwn-below, is_own, own_below}
+use Rattle.hir_core.proofs.closure.TurnLemmas.{set_stays}
 
 -- ---- marks that stay
 
@@ -16,13 +20,6 @@ KeepsMarks-none marks = record { room = refl; stay = λ mark is. is }
 
 pub KeepsMarks-then : {old now new : List Bool} → KeepsMarks old now → KeepsMarks now new → KeepsMarks old new
 KeepsMarks-then first more = record { room = more.room ∙ first.room; stay = λ mark is. more.stay mark (first.stay mark is) }
-
--- a mark that is set stays so where one is set
-pub set_stays : (marks : List Bool) (q mark : ℕ) → was_visited marks mark ≡ true → was_visited (slice_set marks q true) mark ≡ true
-set_stays marks q mark is = elim (cases_eq mark q) [
-  | inl same ↦ ap (λ bits. was_visited bits mark) (visited_again marks q (ap (was_visited marks) (sym same) ∙ is)) ∙ is
-  | inr another ↦ get_or-set_other marks q mark true false another ∙ is
-]
 
 -- ---- rows of marks
 
@@ -83,16 +80,22 @@ adding-here at q tried = ap (λ (b : Bool). if b then q ∷ tried at else tried 
 pub adding-elsewhere : (at q : ℕ) (tried : ℕ → List ℕ) (p : ℕ) → (at ≡ p → ⊥) → adding at q tried p ≡ tried p
 adding-elsewhere at q tried p other = ap (λ (b : Bool). if b then q ∷ tried p else tried p) (ne_eqb at p other)
 
--- so the marks say
-abbrev pub AreMarks : ℕ → ℕ → List Bool → (ℕ → List ℕ) → Type 0
-AreMarks n begin marks tried = (at q : ℕ) → is_seen q (tried at) ≡ was_tried n begin marks at q
+-- so the marks say, but for ends of groups
+abbrev pub AreMarks : List Spot → ℕ → List Bool → (ℕ → List ℕ) → Type 0
+AreMarks spots begin marks tried = (at : ℕ) → AreOwn spots (was_tried (length spots) begin marks at) (tried at)
 
-module _ (n begin : ℕ) (marks : List Bool) (at q : ℕ) (from : begin ≤ at) (few : q < n) (room : mark_of n begin at q < length marks) where
-  -- the mark that is set
-  set_here : was_tried n begin (slice_set marks (mark_of n begin at q) true) at q ≡ true
-  set_here = tried-is n begin (slice_set marks (mark_of n begin at q) true) at q from few ∙ get_or-set_same marks (mark_of n begin at q) true false room
+-- what was tried stays so
+pub tried-stays : (n begin : ℕ) (marks : List Bool) (mark at q : ℕ) → was_tried n begin marks at q ≡ true → was_tried n begin (slice_set marks mark true) at q ≡ true
+tried-stays n begin marks mark at q = parts (nat_le begin at) (nat_lt q n)
+  where
+    parts : (a b : Bool) → (a && (b && was_visited marks (mark_of n begin at q))) ≡ true
+        → (a && (b && was_visited (slice_set marks mark true) (mark_of n begin at q))) ≡ true
+    parts true true is = set_stays marks mark (mark_of n begin at q) is
+    parts true false is = is
+    parts false b is = is
 
-  -- others stay
+module _ (n begin : ℕ) (marks : List Bool) (at q : ℕ) (from : begin ≤ at) (few : q < n) where
+  -- spots that were tried and have other marks stay as they are
   set_elsewhere : (p r : ℕ) → (begin ≤ p → r < n → mark_of n begin p r ≡ mark_of n begin at q → ⊥)
       → was_tried n begin (slice_set marks (mark_of n begin at q) true) p r ≡ was_tried n begin marks p r
   set_elsewhere p r other = parts (nat_le begin p) refl (nat_lt r n) refl
@@ -105,66 +108,79 @@ module _ (n begin : ℕ) (marks : List Bool) (at q : ℕ) (from : begin ≤ at) 
       parts true h true k =
           get_or-set_other marks (mark_of n begin at q) (mark_of n begin p r) true false (other (le_from begin p h) (ltb-true r n k))
 
-  pub AreMarks-adding : (tried : ℕ → List ℕ) → AreMarks n begin marks tried → AreMarks n begin (slice_set marks (mark_of n begin at q) true) (adding at q tried)
-  AreMarks-adding tried are p r =
+  -- so does every spot but one, at its place
+  set_another : (p r : ℕ) → ((at ≡ p) × (q ≡ r) → ⊥) → was_tried n begin (slice_set marks (mark_of n begin at q) true) p r ≡ was_tried n begin marks p r
+  set_another p r other = set_elsewhere p r (λ after less same. other (same_mark after less same))
+    where
+      same_mark : begin ≤ p → r < n → mark_of n begin p r ≡ mark_of n begin at q → (at ≡ p) × (q ≡ r)
+      same_mark after less same =
+          let row : p - begin ≡ at - begin = same_row (p - begin) (at - begin) n r q less few same in
+          let rows : (p - begin) * n ≡ (at - begin) * n = ap (λ (i : ℕ). i * n) row in (omega (arith, row, from, after), omega (arith, rows, same))
+
+  -- what is newly tried is that spot
+  pub tried-new : (p r : ℕ) → was_tried n begin (slice_set marks (mark_of n begin at q) true) p r ≡ true → was_tried n begin marks p r ≡ false
+      → (at ≡ p) × (q ≡ r)
+  tried-new p r now before = elim (cases_eq at p) [
+    | inl here ↦ elim (cases_eq q r) [
+      | inl same ↦ (here, same)
+      | inr other ↦ absurd (true≢false (sym now ∙ set_another p r (λ both. other both.1) ∙ before))
+    ]
+    | inr there ↦ absurd (true≢false (sym now ∙ set_another p r (λ both. there both.0) ∙ before))
+  ]
+
+module _ (spots : List Spot) (begin : ℕ) (marks : List Bool) (at q : ℕ) (from : begin ≤ at) (few : q < length spots)
+    (room : mark_of (length spots) begin at q < length marks) where
+  abbrev pub with_mark : List Bool
+  with_mark = slice_set marks (mark_of (length spots) begin at q) true
+
+  -- another spot, or at another place
+  own_another : (p r : ℕ) → ((at ≡ p) × (q ≡ r) → ⊥)
+      → is_own spots (was_tried (length spots) begin with_mark p) r ≡ is_own spots (was_tried (length spots) begin marks p) r
+  own_another p r other = ap (λ (b : Bool). b && not (is_close (spot_at spots r))) (set_another (length spots) begin marks at q from few p r other)
+
+  pub AreMarks-adding : (tried : ℕ → List ℕ) → is_close (spot_at spots q) ≡ false → AreMarks spots begin marks tried → AreMarks spots begin with_mark (adding at q tried)
+  AreMarks-adding tried plain are p r =
       elim (cases_eq at p) [
-        | inl here ↦ subst (λ i. is_seen r (adding at q tried i) ≡ was_tried n begin (slice_set marks (mark_of n begin at q) true) i r) here this_row
-        | inr there ↦ ap (is_seen r) (adding-elsewhere at q tried p there) ∙ are p r
-            ∙ sym (set_elsewhere p r (λ after less same. there (sym (let k = same_row (p - begin) (at - begin) n r q less few same in same_place p after k))))
+        | inl here ↦ subst (λ (i : ℕ). is_seen r (adding at q tried i) ≡ is_own spots (was_tried (length spots) begin with_mark i) r) here this_row
+        | inr there ↦ ap (is_seen r) (adding-elsewhere at q tried p there) ∙ are p r ∙ sym (own_another p r (λ both. there both.0))
       ]
     where
-      same_place : (p : ℕ) → begin ≤ p → p - begin ≡ at - begin → p ≡ at
-      same_place p after k = omega (arith, k, from, after)
+      set_here : was_tried (length spots) begin with_mark at q ≡ true
+      set_here = tried-is (length spots) begin with_mark at q from few ∙ get_or-set_same marks (mark_of (length spots) begin at q) true false room
 
-      this_row : is_seen r (adding at q tried at) ≡ was_tried n begin (slice_set marks (mark_of n begin at q) true) at r
+      this_row : is_seen r (adding at q tried at) ≡ is_own spots (was_tried (length spots) begin with_mark at) r
       this_row =
           ap (is_seen r) (adding-here at q tried)
           ∙ elim (cases_eq q r) [
             | inl same ↦ or_left _ _ (eq-eqb q r same)
-                ∙ sym (ap (was_tried n begin (slice_set marks (mark_of n begin at q) true) at) (sym same) ∙ set_here)
-            | inr other ↦ ap (λ b. b || is_seen r (tried at)) (ne_eqb q r other) ∙ are at r
-                ∙ sym (set_elsewhere at r (λ after less same. other (let k : r ≡ q = omega (arith, same) in sym k)))
+                ∙ sym (ap (is_own spots (was_tried (length spots) begin with_mark at)) (sym same)
+                ∙ ap (λ (b : Bool). b && not (is_close (spot_at spots q))) set_here ∙ ap not plain)
+            | inr other ↦ ap (λ b. b || is_seen r (tried at)) (ne_eqb q r other) ∙ are at r ∙ sym (own_another at r (λ both. other both.1))
           ]
 
--- the spots below n that a test holds of
-abbrev members_of : (ℕ → Bool) → ℕ → List ℕ
-members_of test zero = []
-members_of test (suc n) = if test n then n ∷ members_of test n else members_of test n
+  -- the end of a group is none of them
+  pub AreMarks-ended : (tried : ℕ → List ℕ) → is_close (spot_at spots q) ≡ true → AreMarks spots begin marks tried → AreMarks spots begin with_mark tried
+  AreMarks-ended tried close are p r =
+      elim (cases_eq q r) [
+        | inl same ↦ are p r ∙ not_own (was_tried (length spots) begin marks p) same ∙ sym (not_own (was_tried (length spots) begin with_mark p) same)
+        | inr other ↦ are p r ∙ sym (own_another p r (λ both. other both.1))
+      ]
+    where
+      not_own : (test : ℕ → Bool) → q ≡ r → is_own spots test r ≡ false
+      not_own test same =
+          ap (λ (i : ℕ). test r && not (is_close (spot_at spots i))) (sym same) ∙ ap (λ (b : Bool). test r && not b) close ∙ and-false (test r)
 
-members_past : (test : ℕ → Bool) (n m : ℕ) → n ≤ m → is_seen m (members_of test n) ≡ false
-members_past test zero m h = refl
-members_past test (suc n) m h = cases (members_past test n m (omega arith)) (test n)
+-- the spots that were tried at each place, by the marks, but for ends of groups
+abbrev pub tried_by : List Spot → ℕ → List Bool → ℕ → List ℕ
+tried_by spots begin marks at = own_below spots (was_tried (length spots) begin marks at) (length spots)
+
+pub AreMarks-tried : (spots : List Spot) (begin : ℕ) (marks : List Bool) → AreMarks spots begin marks (tried_by spots begin marks)
+AreMarks-tried spots begin marks at = AreOwn-below spots (was_tried (length spots) begin marks at) (length spots) none
   where
-    cases : is_seen m (members_of test n) ≡ false → (b : Bool) → is_seen m (if b then n ∷ members_of test n else members_of test n) ≡ false
-    cases rest true = ap (λ b. b || is_seen m (members_of test n)) (ne_eqb n m (λ e. omega (arith, e))) ∙ rest
-    cases rest false = rest
+    past : (q : ℕ) (a b : Bool) → b ≡ false → (a && (b && was_visited marks (mark_of (length spots) begin at q))) ≡ false
+    past q true true e = absurd (true≢false e)
+    past q true false e = refl
+    past q false b e = refl
 
-members_are : (test : ℕ → Bool) (n m : ℕ) → m < n → is_seen m (members_of test n) ≡ test m
-members_are test zero m h = absurd (omega arith)
-members_are test (suc n) m h =
-    elim (cases_lt m n) [ inl less ↦ below less (members_are test n m less) (test n) | inr more ↦ here (omega arith) (test n) refl ]
-  where
-    below : m < n → is_seen m (members_of test n) ≡ test m → (b : Bool) → is_seen m (if b then n ∷ members_of test n else members_of test n) ≡ test m
-    below less rest true = ap (λ b. b || is_seen m (members_of test n)) (ne_eqb n m (λ e. omega (arith, e))) ∙ rest
-    below less rest false = rest
-
-    here : n ≡ m → (b : Bool) → test n ≡ b → is_seen m (if b then n ∷ members_of test n else members_of test n) ≡ test m
-    here same true v = or_left _ _ (eq-eqb n m same) ∙ sym (ap test (sym same) ∙ v)
-    here same false v = members_past test n m (omega (arith, same)) ∙ sym (ap test (sym same) ∙ v)
-
--- the spots that were tried at each place, by the marks
-abbrev pub tried_by : ℕ → ℕ → List Bool → ℕ → List ℕ
-tried_by n begin marks at = members_of (was_tried n begin marks at) n
-
-pub AreMarks-tried : (n begin : ℕ) (marks : List Bool) → AreMarks n begin marks (tried_by n begin marks)
-AreMarks-tried n begin marks at q =
-    elim (cases_lt q n) [
-      | inl few ↦ members_are (was_tried n begin marks at) n q few
-      | inr many ↦ members_past (was_tried n begin marks at) n q many
-          ∙ sym (past (nat_le begin at) (nat_lt q n) (le-ltb q n many))
-    ]
-  where
-    past : (a b : Bool) → b ≡ false → (a && (b && was_visited marks (mark_of n begin at q))) ≡ false
-    past true true e = absurd (true≢false e)
-    past true false e = refl
-    past false b e = refl
+    none : (q : ℕ) → length spots ≤ q → was_tried (length spots) begin marks at q ≡ false
+    none q many = past q (nat_le begin at) (nat_lt q (length spots)) (le-ltb q (length spots) many)

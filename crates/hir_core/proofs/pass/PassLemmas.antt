@@ -55,20 +55,23 @@ module _ (text : List ℕ) (spots : List Spot) (falls : ClosesFall spots) (at : 
     ap (λ xs. first (map forget (kept ++ (xs ++ pend text spots falls at es)))) (sym nothing) ∙ h.1,
   )
 
+  -- so is one that gives nothing unless something was kept
+  pub Stands-answered : (goal : Option Run) (visited : List ℕ) (kept : List Run) (e : Entry) (es : List Entry)
+      → (nonempty kept ≡ true) ⊎ (gives text spots e.spot e.way ≡ []) → Stands goal visited kept (e ∷ es) → Stands goal visited kept es
+  Stands-answered goal visited kept e es (inl some) h = (
+    Covers-above visited es (nonempty kept || nonempty (gives text spots e.spot e.way)) (nonempty kept) (seen_by e) visited (λ _. some) h.0.1 h.0.3,
+    first_before kept _ _ some ∙ h.1,
+  )
+  Stands-answered goal visited kept e es (inr nothing) h = Stands-dropped goal visited kept e es nothing h
+
   -- an entry that was visited is dropped
   pub Stands-seen : (goal : Option Run) (visited : List ℕ) (kept : List Run) (e : Entry) (es : List Entry) (s : Spot)
       → spot_at spots e.spot ≡ s → is_unmarked s ≡ false → is_seen e.spot visited ≡ true
       → Stands goal visited kept (e ∷ es) → Stands goal visited kept es
   Stands-seen goal visited kept e es s k plain seen h =
-      cases (Covers-seen text spots falls at e visited es (nonempty kept) h.0 seen
-      (λ before. gives-at text spots falls e.spot s e.way k ∙ cond-false _ _ _ plain ∙ cond-true _ _ _ before))
-    where
-      cases : (nonempty kept ≡ true) ⊎ (gives text spots e.spot e.way ≡ []) → Stands goal visited kept es
-      cases (inl some) = (
-        Covers-above visited es (nonempty kept || nonempty (gives text spots e.spot e.way)) (nonempty kept) (seen_by e) visited (λ _. some) h.0.1 h.0.3,
-        first_before kept _ _ some ∙ h.1,
-      )
-      cases (inr nothing) = Stands-dropped goal visited kept e es nothing h
+      Stands-answered goal visited kept e es
+      (Covers-seen text spots falls at e visited es (nonempty kept) h.0 seen
+      (λ before. gives-at text spots falls e.spot s e.way k ∙ cond-false _ _ _ plain ∙ cond-true _ _ _ before)) h
 
   -- what an entry gives that was not visited
   pub gives_fresh : (visited : List ℕ) (done : Bool) (e : Entry) (es : List Entry) (s : Spot) → spot_at spots e.spot ≡ s → is_unmarked s ≡ false

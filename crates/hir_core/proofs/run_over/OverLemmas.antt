@@ -1,5 +1,5 @@
 -- Bytes that are run over at a loop of a program.
-use Rattle.std.proofs.Common.{◌≡◌, ℕ, suc, ◌+◌, ◌-◌, ◌<◌, ◌≤◌, Bool, false, inl, inr, List, length, ap, ◌∙◌, subst, arith}
+use Rattle.std.proofs.Common.{◌≡◌, ℕ, suc, ◌+◌, ◌-◌, ◌<◌, ◌≤◌, Bool, false, inl, inr, List, length, ap, subst, arith}
 use Rattle.std.proofs.lemmas.Bool.{cases_lt}
 use Rattle.std.proofs.lemmas.List.{get_or_past}
 use Rattle.hir_core.specs.RunsOver.{RunsOver, StepsOver}
@@ -18,6 +18,14 @@ loop-within spots q w are = elim (cases_lt q (length spots)) [
       let fail : spot_at spots q ≡ spot.Fail = get_or_past spots q spot.Fail many in
       absurd (elim are.sides [ inl split ↦ cc | inr split ↦ let k = split.0 in cc ])
 ]
+
+-- it ends no match
+pub loop-live : (spots : List Spot) (q : ℕ) (w : Ways) → AreWays spots q w → (spot_at spots q ≡ spot.Match) → ⊥
+loop-live spots q w are ends = elim are.sides [ inl split ↦ cc | inr split ↦ let k = split.0 in cc ]
+
+-- nor a group
+pub loop-plain : (spots : List Spot) (q : ℕ) (w : Ways) (i f : ℕ) → AreWays spots q w → (spot_at spots q ≡ spot.Close i f) → ⊥
+loop-plain spots q w i f are ends = elim are.sides [ inl split ↦ cc | inr split ↦ let k = split.0 in cc ]
 
 -- its visits are counted
 pub loop-counted : (spots : List Spot) (q : ℕ) (w : Ways) → AreWays spots q w → visit_ticks (spot_at spots q) false ≡ 1

@@ -1,5 +1,5 @@
 -- A program has no more spots with counted visits than its core takes.
-use Rattle.std.proofs.Common.{◌≡◌, ℕ, zero, suc, ◌+◌, ◌≤◌, true, false, List, [], ◌∷◌, length, if◌then◌else◌, refl, ap, ◌∙◌, sym, arith}
+use Rattle.std.proofs.Common.{◌≡◌, ℕ, zero, suc, ◌+◌, ◌≤◌, Bool, true, false, List, [], ◌∷◌, length, if◌then◌else◌, refl, ap, ◌∙◌, sym, arith}
 use Rattle.std.proofs.lemmas.List.Sums.{sum_by-cons}
 use Rattle.hir_tree.specs.Core.{Core, empty, byte_in, char_in, look, group, pair, choice, none, plus, numbers}
 use Rattle.hir_program.specs.Laid.{IsProgram}
@@ -36,6 +36,24 @@ module _ (spots : List Spot) where
       let there : tally (suc n + a) b ≡ tally (n + suc a) b = ap (λ m. tally m b) (let k : suc n + a ≡ n + suc a = omega arith in k) in
       omega (arith, rest, inner, there)
 
+  -- a spot counts one at most
+  at_most_one : (s : Spot) → one_if s ≤ 1
+  at_most_one s = cases (is_counted s)
+    where
+      cases : (b : Bool) → (if b then 1 else 0) ≤ 1
+      cases true = omega arith
+      cases false = omega arith
+
+  -- the spots of a group: those of its body, and its end
+  group_tally : (i n f m : ℕ) (a : Core) → Placed spots n f (group i a) → tally (n + 2) (numbers a) ≤ m
+      → tally n (2 + numbers a) ≤ one_if (spot.Close i f) + m
+  group_tally i n f m a p body =
+      let one : tally n (2 + numbers a) ≡ 0 + tally (n + 1) (numbers a + 1) = tally_first n (numbers a + 1) (2 + numbers a) (spot.Open (n + 2)) p.0 (omega arith) in
+      let two : tally (n + 1) (numbers a + 1) ≡ one_if (spot.Close i f) + tally (n + 1 + 1) (numbers a) =
+      tally_first (n + 1) (numbers a) (numbers a + 1) (spot.Close i f) p.1 refl in
+      let here : tally (n + 1 + 1) (numbers a) ≡ tally (n + 2) (numbers a) = ap (λ m. tally m (numbers a)) (let k : n + 1 + 1 ≡ n + 2 = omega arith in k) in
+      omega (arith, one, two, here, body)
+
   -- the spots of a core that is placed in the program
   placed_tally : (core : Core) (n f : ℕ) → Placed spots n f core → tally n (numbers core) ≤ core_spots core
   placed_tally empty n f p = let one = tally_first n 0 1 (spot.Jump f) p refl in omega (arith, one)
@@ -43,11 +61,8 @@ module _ (spots : List Spot) where
   placed_tally (char_in ranges) n f p = let one = tally_first n 0 1 (spot.Chars ranges f) p refl in omega (arith, one)
   placed_tally (look l) n f p = let one = tally_first n 0 1 (spot.Look l f) p refl in omega (arith, one)
   placed_tally (group i a) n f p =
-      let one : tally n (2 + numbers a) ≡ 0 + tally (n + 1) (numbers a + 1) = tally_first n (numbers a + 1) (2 + numbers a) (spot.Open (n + 2)) p.0 (omega arith) in
-      let two : tally (n + 1) (numbers a + 1) ≡ 0 + tally (n + 1 + 1) (numbers a) = tally_first (n + 1) (numbers a) (numbers a + 1) (spot.Close i f) p.1 refl in
-      let here : tally (n + 1 + 1) (numbers a) ≡ tally (n + 2) (numbers a) = ap (λ m. tally m (numbers a)) (let k : n + 1 + 1 ≡ n + 2 = omega arith in k) in
-      let body = placed_tally a (n + 2) (n + 1) p.2 in
-      omega (arith, one, two, here, body)
+      let whole = group_tally i n f (core_spots a) a p (placed_tally a (n + 2) (n + 1) p.2) in
+      omega (arith, whole, at_most_one (spot.Close i f))
   placed_tally (pair a b) n f p =
       let one : tally n (1 + numbers a + numbers b) ≡ 0 + tally (n + 1) (numbers a + numbers b) =
       tally_first n (numbers a + numbers b) (1 + numbers a + numbers b) (spot.Jump (n + 1)) p.0 (omega arith) in
@@ -84,7 +99,7 @@ counted_tally [] = refl
 counted_tally (s ∷ rest) =
     sum_by-cons one_if s rest ∙ ap (λ m. one_if s + m) (counted_tally rest ∙ sym (tally_shift s rest 0 (length rest)))
 
--- the counted visits of a program are at most the spots of its core
+-- The counted visits of a program are at most the spots of its core: its end as the whole match counts none.
 pub counted-core : (core : Core) (spots : List Spot) → IsProgram core spots → counted spots ≤ core_spots core
 counted-core core spots h =
     let size = numbers (group 0 core) in
@@ -92,5 +107,5 @@ counted-core core spots h =
     let parts = tally_join spots 0 size 1 (length spots) h.size in
     let start : tally spots (0 + size) 1 ≡ tally spots size 1 = ap (λ m. tally spots m 1) (let k : 0 + size ≡ size = omega arith in k) in
     let end : tally spots size 1 ≡ 0 + tally spots (size + 1) 0 = tally_first spots size 0 1 spot.Match h.ends refl in
-    let body = placed_tally spots (group 0 core) 0 size h.placed in
+    let body : tally spots 0 size ≤ 0 + core_spots core = group_tally spots 0 0 size (core_spots core) core h.placed (placed_tally spots core 2 1 h.placed.2) in
     omega (arith, whole, parts, start, end, body)

@@ -19,4 +19,4 @@ invariant-loop-here g l = record {
 }
 
 abbrev pub decreases-loop-here : goal.decreases-loop-here
-decreases-loop-here g l = turn_weight l.text l.spots l.self.marks (stops_on l.on l.self.trail)
+decreases-loop-here g l = turn_weight l.self.marks (stops_on l.on l.self.trail)

@@ -52,7 +52,7 @@ loop-here-smaller g c =
     let step = rw c.in-On.is at c.in_ok-turn.ensures.turned in
     Follows-falls c.args.text.now c.args.spots.now c.args.self.now.trail.at None c.loop-here.self.visited c.loop-here.self.later (stops_of c.next.new.self) _
     (c.in-Some.here, way_of c.next.new.self) back c.turn.new.self.visited c.turn.new.self.later (stops_on c.in-On.next c.turn.new.self.trail)
-    (omega (arith, c.loop-here.invariant.room, c.requires.room)) c.requires.falls step
+    (omega (arith, c.loop-here.invariant.room, c.requires.room)) step
 
 pub loop-here-preserved : goal.loop-here-preserved
 loop-here-preserved g c =

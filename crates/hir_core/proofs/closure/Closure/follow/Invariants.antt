@@ -15,4 +15,4 @@ invariant-loop-here g l = record {
 }
 
 abbrev pub decreases-loop-here : goal.decreases-loop-here
-decreases-loop-here g l = turn_weight l.text l.spots l.self.visited (stops_on l.on l.self.trail)
+decreases-loop-here g l = turn_weight l.self.visited (stops_on l.on l.self.trail)
