@@ -1,5 +1,5 @@
 -- How the text of a glob is read: characters into symbols, symbols into tokens, tokens into pieces.
-use Rattle.std.specs.Prelude.{◌==◌, ◌||◌, ◌&&◌, ◌+◌, ◌*◌, ℕ, zero, suc, Bool, true, false, not, List, [], ◌∷◌, take, drop, Option, Some, None, if◌then◌else◌}
+use Rattle.std.specs.Prelude.{◌==◌, ◌||◌, ◌&&◌, ◌+◌, ◌*◌, ℕ, zero, suc, Bool, true, false, not, List, [], ◌∷◌, take, drop, Option, Some, None, option_and_then, option_map, if◌then◌else◌}
 use Rattle.std.specs.List.{position}
 use Rattle.glob_match.specs.declared.piece.Symbol.{Symbol}
 use Rattle.glob_match.specs.declared.piece.Symbol.TheVariants.{Plain, Escaped}
@@ -16,8 +16,7 @@ use Rattle.glob_match.specs.Pieces.Options.{no_options, option}
 
 -- an element before a list, where there is a list
 abbrev pub before : {A : Type 0} → A → Option (List A) → Option (List A)
-before x None = None
-before x (Some xs) = Some (x ∷ xs)
+before x list = option_map (λ xs. x ∷ xs) list
 
 -- ---- symbols
 
@@ -105,28 +104,19 @@ mark t = Some (record { token = t; more = 0 })
 abbrev pub token_at : Bool → Symbol → List Symbol → Option Found
 token_at starts (Escaped c) text = found (One (Character c)) 0
 token_at starts (Plain c) text =
-    elim (c == 91) [
-      | true ↦ class_at text
-      | false ↦
-          elim (c == 42) [
-            | true ↦ star_at starts text
-            | false ↦
-                if c == 63 then found (One AnyCharacter) 0 else
-                if c == 123 then mark token.Open else
-                if c == 44 then mark token.Comma else
-                if c == 125 then mark token.Close else
-                found (One (Character c)) 0
-          ]
-    ]
+    if c == 91 then class_at text else
+    if c == 42 then star_at starts text else
+    if c == 63 then found (One AnyCharacter) 0 else
+    if c == 123 then mark token.Open else
+    if c == 44 then mark token.Comma else
+    if c == 125 then mark token.Close else
+    found (One (Character c)) 0
 
 -- The tokens of a text, of which the first symbols belong to the token before. `starts` says that it stands at the glob's start or just after `/`.
 abbrev pub tokens_from : ℕ → Bool → List Symbol → Option (List Token)
 tokens_from more starts [] = Some []
 tokens_from (suc more) starts (s ∷ text) = tokens_from more (character_of s == 47) text
-tokens_from zero starts (s ∷ text) = elim (token_at starts s text) [
-  | None ↦ None
-  | Some one ↦ before one.token (tokens_from one.more (character_of s == 47) text)
-]
+tokens_from zero starts (s ∷ text) = option_and_then (λ (one : Found). before one.token (tokens_from one.more (character_of s == 47) text)) (token_at starts s text)
 
 -- ---- pieces
 
@@ -147,8 +137,7 @@ brace_before all (outside left) = outside (brace all left)
 brace_before all (inside left others rest) = inside (brace all left) others rest
 
 abbrev pub with_piece : Piece → Option Rest → Option Rest
-with_piece p None = None
-with_piece p (Some rest) = Some (piece_before p rest)
+with_piece p rest = option_map (piece_before p) rest
 
 -- a brace's first option begins
 abbrev pub opened : Option Rest → Option Rest
@@ -164,8 +153,7 @@ parted (Some (inside left others rest)) = Some (inside no_pieces (option left ot
 
 -- the last option ends
 abbrev pub closed : Option Rest → Option Rest
-closed None = None
-closed (Some rest) = Some (inside no_pieces no_options rest)
+closed rest = option_map (inside no_pieces no_options) rest
 
 -- Tokens as pieces, within so many open braces, at most ten. Each brace is closed. Outside braces `,` and `}` are characters.
 abbrev pub rest_of : ℕ → List Token → Option Rest
@@ -184,12 +172,10 @@ all_outside (Some (outside left)) = Some left
 all_outside (Some (inside left others rest)) = None
 
 abbrev pub pieces_of_tokens : Option (List Token) → Option Pieces
-pieces_of_tokens None = None
-pieces_of_tokens (Some tokens) = all_outside (rest_of 0 tokens)
+pieces_of_tokens tokens = option_and_then (λ read. all_outside (rest_of 0 read)) tokens
 
 abbrev pub pieces_of_symbols : Option (List Symbol) → Option Pieces
-pieces_of_symbols None = None
-pieces_of_symbols (Some symbols) = pieces_of_tokens (tokens_from 0 true symbols)
+pieces_of_symbols symbols = option_and_then (λ read. pieces_of_tokens (tokens_from 0 true read)) symbols
 
 -- the pieces of a glob after its `!`s, or none where it is invalid
 abbrev pub pieces_of : List ℕ → Option Pieces
