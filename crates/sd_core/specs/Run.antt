@@ -1,13 +1,11 @@
 -- How a run of the program ends, and what it calls.
-use Rattle.std.specs.Prelude.{◌≡◌, ◌⊎◌, ℕ, List, Some, Result, Ok, Err}
+use Rattle.std.specs.Prelude.{◌≡◌, ◌⊎◌, ℕ, Result, Ok, Err}
 use Rattle.sd_change.specs.Change.{Change}
-use Rattle.sd_words.specs.Order.{order_of}
 use Rattle.sd_words.specs.declared.options.Options.{Options}
 use Rattle.sd_words.specs.declared.fault.OptionsFault.{OptionsFault}
 use Rattle.sd_words.specs.declared.fault.OptionsFault.TheVariants as words_fault
 use Rattle.sd_replace.specs.Replacement.{Replacement, Changes}
 use Rattle.sd_core.specs.Asked.{IsReplacerOf, RefusesReplacer}
-use Rattle.sd_core.specs.Mode.{Mode, mode_of}
 use Rattle.sd_core.specs.Outside.{Outside, Untouched}
 use Rattle.sd_core.specs.declared.error.Error.{Error}
 use Rattle.sd_core.specs.declared.error.Error.TheVariants as error
@@ -33,10 +31,6 @@ of_words words_fault.NoMemory = why.Fault error.NoMemory
 -- want of memory comes in place of any refusal
 abbrev pub IsOrMemory : Why → Why → Type 0
 IsOrMemory expected ended = (ended ≡ expected) ⊎ (ended ≡ why.Fault error.NoMemory)
-
--- the words are a command of this mode
-abbrev pub Asks : List (List ℕ) → Options → Mode → Type 0
-Asks words options m = (order_of words ≡ Some options) × (mode_of options ≡ m)
 
 -- it is refused by its texts or for want of memory, before it begins
 abbrev pub IsRefusedFirst : Options → Why → Type 0

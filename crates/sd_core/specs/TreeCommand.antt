@@ -1,27 +1,36 @@
 -- What a command on a tree promises.
-use Rattle.std.specs.Prelude.{◌≡◌, ◌⊎◌, IsTrue, ◌++◌, Some, Result}
+use Rattle.std.specs.Prelude.{◌≡◌, ◌⊎◌, ℕ, true, IsTrue, List, ◌++◌, Some, Result}
 use Rattle.sd_io.specs.Tree.{NameList, Content, Tree}
+use Rattle.sd_io.specs.Paths.{reached}
 use Rattle.sd_io.specs.Outcomes.{Leaves, content_at}
 use Rattle.sd_io.specs.Disk.{DiskState, outcomes_now, MayLeaveSince}
 use Rattle.sd_io.specs.Streams.{SinkState}
 use Rattle.sd_change.specs.Change.{Change}
 use Rattle.sd_course.specs.Course.{Course}
+use Rattle.chosen_files.specs.Chosen.{Chosen}
+use Rattle.many_files.specs.Counts.{RewritesFiles}
 use Rattle.many_files.specs.Files.{IsFreeBeside}
 use Rattle.many_files.specs.Rewritten.{IsNewOne}
 use Rattle.many_files.specs.declared.report.Report.{Report}
 use Rattle.sd_core.specs.Printing.{EndsBy}
 use Rattle.sd_core.specs.Report.{line_of}
 use Rattle.sd_core.specs.Selection.{Selection}
-use Rattle.sd_core.specs.Sweep.{RewritesTree, Sweeps, sweep_cap}
+use Rattle.sd_core.specs.Sweep.{Sweeps, sweep_cap}
 use Rattle.sd_core.specs.declared.error.Error.{Error}
 use Rattle.sd_core.specs.declared.ended.Why.{Why}
 
 -- ---- the headline
 
--- Each selected file is rewritten and nothing else changed, and a sink that tells its bytes grew by the line of the report that counts exactly that.
-pub record DoesTreeCommand (change : Change) (selection : Selection) (old new : DiskState) (out : Course SinkState) : Type 0 where
+-- these are the places of the chosen files below the node that a root leads to, links followed
+abbrev pub AreChosenBelow : Tree → List ℕ → List (List ℕ) → List NameList → Type 0
+AreChosenBelow tree root globs places = (top : NameList) × (reached tree root true ≡ Some top) × Chosen tree top globs places
+
+-- Each chosen file is rewritten and nothing else changed, and a sink that tells its bytes grew by the line of the report that counts exactly that.
+pub record DoesTreeCommand (change : Change) (root : List ℕ) (globs : List (List ℕ)) (old new : DiskState) (out : Course SinkState) : Type 0 where
   pub report : Report
-  pub rewrites : RewritesTree change selection report old new
+  pub places : List NameList
+  pub chosen : AreChosenBelow old.tree root globs places
+  pub rewrites : RewritesFiles change places report old new
   pub printed : IsTrue out.tells → out.new.held ≡ out.old.held ++ line_of report
 
 -- ---- a crash

@@ -2,20 +2,18 @@
 
 ghost use Rattle.std.specs.Prelude.{◌≡◌, ◌≢◌, ◌≤◌, ℕ, List, IsTrue, None, Some};
 ghost use Rattle.sd_course.specs.Course.{course};
-ghost use Rattle.sd_words.specs.Order.{order_of};
+ghost use Rattle.sd_words.specs.Order.{IsTreeCommand, order_of};
 ghost use Rattle.sd_words.specs.Refusal.{refusal_text};
 ghost use Rattle.sd_words.specs.declared.options.Options.{Options};
 ghost use Rattle.sd_replace.specs.Replacement.{Replacement, Changes};
 ghost use Rattle.sd_replace.specs.Replacer.{replacement_of};
 ghost use Rattle.sd_core.specs.Asked.{IsReplacerOf};
 ghost use Rattle.sd_core.specs.Command.{CarriesOut, Command};
-ghost use Rattle.sd_core.specs.Mode as mode;
 ghost use Rattle.sd_core.specs.Mode.{mode_of};
 ghost use Rattle.sd_core.specs.Outside.{outside};
 ghost use Rattle.sd_core.specs.Printing.{TellsText, TellsWhy};
 ghost use Rattle.sd_core.specs.Run as form;
-ghost use Rattle.sd_core.specs.Run.{Asks, IsOrMemory};
-ghost use Rattle.sd_core.specs.Selection.{by_globs};
+ghost use Rattle.sd_core.specs.Run.{IsOrMemory};
 ghost use Rattle.sd_core.specs.TreeCommand.{DoesTreeCommand};
 
 use crate::asking::replacer_of;
@@ -49,9 +47,9 @@ pub fn run<D: Disk, S: Source, O: Sink, E: Sink>(
     out: &mut O,
     err: &mut E,
 ) -> Ended
-    ensures headline { IsTrue D.tells → (order : Options) (root : List ℕ) → Asks words.now order (mode.tree root) → result.status ≡ 0
+    ensures headline { IsTrue D.tells → (order : Options) (root : List ℕ) → order_of words.now ≡ Some order → IsTreeCommand order root → result.status ≡ 0
         → (replacement : Replacement) × IsReplacerOf order replacement
-        × DoesTreeCommand (Changes replacement) (by_globs root order.words) (D.state disk.old) (D.state disk.new) (course O.tells (O.state out.old) (O.state out.new)) }
+        × DoesTreeCommand (Changes replacement) root order.words (D.state disk.old) (D.state disk.new) (course O.tells (O.state out.old) (O.state out.new)) }
     ensures status { result.status ≡ form.status_of result.why }
     ensures usage { result.why ≡ Why.Usage → order_of words.now ≡ None }
     ensures no_order { order_of words.now ≡ None → IsOrMemory Why.Usage result.why × (disk.new ≡ disk.old) × (input.new ≡ input.old) × (out.new ≡ out.old) }

@@ -1,10 +1,11 @@
 -- How a run of the program ends.
-use Rattle.std.specs.Prelude.{◌≡◌, ◌⊎◌, ℕ, List, [], ◌∷◌, codes, Result}
+use Rattle.std.specs.Prelude.{◌≡◌, ◌⊎◌, ℕ, List, [], ◌∷◌, codes, Some, Result}
 use Rattle.sd_io.specs.Disk.{DiskState}
 use Rattle.sd_io.specs.Streams.{SinkState}
 use Rattle.sd_change.specs.Change.{Change}
 use Rattle.sd_course.specs.Course.{Course}
 use Rattle.many_files.specs.declared.report.Report.{Report}
+use Rattle.sd_words.specs.Order.{IsTreeCommand, order_of}
 use Rattle.sd_words.specs.declared.fault.OptionsFault.{OptionsFault}
 use Rattle.sd_words.specs.declared.fault.OptionsFault.TheVariants as words_fault
 use Rattle.sd_words.specs.declared.options.Options.{Options}
@@ -13,10 +14,7 @@ use Rattle.sd_replace.specs.Making.{IsReplacerRefused}
 use Rattle.sd_replace.specs.declared.error.ReplacerFault.{ReplacerFault}
 use Rattle.sd_replace.specs.declared.error.ReplacerFault.TheVariants as replacer_fault
 use Rattle.sd_core.specs.Asked.{IsReplacerOf, asked_of}
-use Rattle.sd_core.specs.Mode as mode
-use Rattle.sd_core.specs.Mode.{mode_of}
 use Rattle.sd_core.specs.Report.{line_of}
-use Rattle.sd_core.specs.Run.{Asks}
 use Rattle.sd_journal.specs.Printing.{EndsBy, recovered_text}
 use Rattle.sd_journal.specs.Recover.{Recovers}
 use Rattle.sd_journal.specs.Sweep.{SweepsJournalled}
@@ -52,10 +50,14 @@ of_replacer replacer_fault.NoMemory = why.Journal error.NoMemory
 abbrev pub AsksRecovery : List (List ℕ) → List ℕ → Type 0
 AsksRecovery words root = words ≡ codes "--recover" ∷ root ∷ []
 
+-- the words are a command on the tree of this root, with these options
+abbrev pub AsksSweep : List (List ℕ) → Options → List ℕ → Type 0
+AsksSweep words order root = (order_of words ≡ Some order) × IsTreeCommand order root
+
 -- the words are neither that nor a command on a tree
 pub record IsNoCommand (words : List (List ℕ)) : Type 0 where
   pub no_recovery : (root : List ℕ) → AsksRecovery words root → ⊥
-  pub no_sweep : (order : Options) (root : List ℕ) → Asks words order (mode.tree root) → ⊥
+  pub no_sweep : (order : Options) (root : List ℕ) → AsksSweep words order root → ⊥
 
 -- ---- the commands
 
@@ -92,20 +94,16 @@ pub record IsRefusedWords (same_disk same_out : Type 0) (ended : JournalWhy) : T
   pub same_out_is : same_out
   pub ended_is : (ended ≡ why.Usage) ⊎ (ended ≡ why.Journal error.NoMemory)
 
--- the options are those of a command on the tree of this root
-abbrev pub SweepsBelow : Options → List ℕ → Type 0
-SweepsBelow options root = mode_of options ≡ mode.tree root
-
 -- What is promised of options that were read: the command on their tree, or that they are refused as no command.
 pub record CarriesOut (options : Options) (same_disk same_out : Type 0) (d : Course DiskState) (out : Course SinkState) (ended : JournalWhy) : Type 0 where
-  pub sweeps : (root : List ℕ) → SweepsBelow options root → SweepsByOptions options root same_disk same_out d out ended
-  pub usage : ended ≡ why.Usage → (root : List ℕ) → SweepsBelow options root → ⊥
-  pub no_command : ((root : List ℕ) → SweepsBelow options root → ⊥) → IsRefusedWords same_disk same_out ended
+  pub sweeps : (root : List ℕ) → IsTreeCommand options root → SweepsByOptions options root same_disk same_out d out ended
+  pub usage : ended ≡ why.Usage → (root : List ℕ) → IsTreeCommand options root → ⊥
+  pub no_command : ((root : List ℕ) → IsTreeCommand options root → ⊥) → IsRefusedWords same_disk same_out ended
 
 -- What a run promises of its words: the recovery or the command on a tree that they ask for; `Usage` exactly where they ask for neither, but for want of memory.
 pub record RunsJournal (words : List (List ℕ)) (same_disk same_out : Type 0) (d : Course DiskState) (out : Course SinkState) (ended : JournalWhy) : Type 0 where
   pub recovers : (root : List ℕ) → AsksRecovery words root → RecoverCommand root same_out d out ended
-  pub sweeps : ((root : List ℕ) → AsksRecovery words root → ⊥) → (order : Options) (root : List ℕ) → Asks words order (mode.tree root)
+  pub sweeps : ((root : List ℕ) → AsksRecovery words root → ⊥) → (order : Options) (root : List ℕ) → AsksSweep words order root
       → SweepsByOptions order root same_disk same_out d out ended
   pub usage : ended ≡ why.Usage → IsNoCommand words
   pub no_command : IsNoCommand words → IsRefusedWords same_disk same_out ended

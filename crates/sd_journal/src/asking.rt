@@ -1,8 +1,7 @@
 //! What the words ask for.
 
 ghost use Rattle.std.specs.Prelude.{◌≡◌, ◌∷◌, [], ℕ, List, IsTrue, IfSome, IfNone, Some, None};
-ghost use Rattle.sd_core.specs.Mode as mode;
-ghost use Rattle.sd_core.specs.Mode.{mode_of};
+ghost use Rattle.sd_words.specs.Order.{IsTreeCommand};
 ghost use Rattle.sd_journal.specs.Run.{AsksRecovery};
 
 use sd_base::Words;
@@ -21,8 +20,8 @@ pub fn asks_recovery(words: &Words) -> bool
 
 /// Whether options with a root are those of a command on its tree: no plan is written, and there are no rules to ignore by.
 pub fn is_plain(options: &Options) -> bool
-    ensures plain { IsTrue result → (root : List ℕ) → options.now.root ≡ Some root → mode_of options.now ≡ mode.tree root }
-    ensures only { (root : List ℕ) → mode_of options.now ≡ mode.tree root → IsTrue result }
+    ensures plain { IsTrue result → (root : List ℕ) → options.now.root ≡ Some root → IsTreeCommand options.now root }
+    ensures only { (root : List ℕ) → IsTreeCommand options.now root → IsTrue result }
 {
     !options.preview && options.ignore.is_none()
 }

@@ -1,5 +1,5 @@
 -- What the words of a command line ask for.
-use Rattle.std.specs.Prelude.{◌&&◌, ◌||◌, ℕ, Bool, not, List, Option, Some, None, is_none, is_some, if◌then◌else◌, nat_le, option_and_then, option_map}
+use Rattle.std.specs.Prelude.{◌≡◌, ◌&&◌, ◌||◌, ℕ, Bool, false, not, List, Option, Some, None, is_none, is_some, if◌then◌else◌, nat_le, option_and_then, option_map}
 use Rattle.std.specs.Option.{option_map_or}
 use Rattle.clap.specs.Walk.{is_empty}
 use Rattle.clap.specs.Words.{Text}
@@ -67,6 +67,6 @@ order_by t =
 unfoldable pub order_of : List Text → Option Options
 order_of words = option_and_then order_by (texts_of words)
 
--- a tree command: an order with a root, without preview, without a plan to apply, and without rules to ignore by
-abbrev pub is_tree_command : Options → Bool
-is_tree_command order = is_some order.root && not order.preview && is_none order.apply && is_none order.ignore
+-- a command on the tree of this root: an order with the root, without preview, and without rules to ignore by; a plan to apply never stands with a root
+abbrev pub IsTreeCommand : Options → Text → Type 0
+IsTreeCommand order root = (order.root ≡ Some root) × (order.preview ≡ false) × (order.ignore ≡ None)

@@ -1,9 +1,10 @@
 //! Worked examples of command lines.
 
-ghost use Rattle.std.specs.Prelude.{◌≡◌, ◌∷◌, [], codes, false, true, None, Some};
+ghost use Rattle.std.specs.Prelude.{◌≡◌, ◌∷◌, [], codes, true, None, Some};
+ghost use Rattle.clap.specs.Words.{Text};
 ghost use Rattle.sd_words.specs.Examples.{AsksFor, AsksForNothing, a_by_b};
 ghost use Rattle.sd_words.specs.Number.{number_of};
-ghost use Rattle.sd_words.specs.Order.{is_tree_command, order_of};
+ghost use Rattle.sd_words.specs.Order.{IsTreeCommand, order_of};
 ghost use Rattle.sd_words.specs.Plain.{options_of};
 ghost use Rattle.sd_words.specs.Refusal.{mistake_shown};
 
@@ -154,12 +155,12 @@ pub fn ignore_rules_are_as_in_the_examples()
 
 /// Which orders are tree commands.
 pub fn tree_commands_are_as_in_the_examples()
-    ensures root { is_tree_command (options_of (Some (codes "/t")) (codes "a") (codes "b") []) ≡ true }
-    ensures empty_root { is_tree_command (options_of (Some []) (codes "a") (codes "b") []) ≡ true }
-    ensures no_root { is_tree_command (a_by_b []) ≡ false }
-    ensures preview { is_tree_command (record (a_by_b []) { preview = true; root = Some (codes "/t") }) ≡ false }
-    ensures apply { is_tree_command (record (a_by_b []) { apply = Some (codes "/p"); root = Some (codes "/t") }) ≡ false }
-    ensures ignore { is_tree_command (record (a_by_b []) { ignore = Some (codes "/r"); root = Some (codes "/t") }) ≡ false }
+    ensures root { IsTreeCommand (options_of (Some (codes "/t")) (codes "a") (codes "b") []) (codes "/t") }
+    ensures empty_root { IsTreeCommand (options_of (Some []) (codes "a") (codes "b") []) [] }
+    ensures other_root { ¬ IsTreeCommand (options_of (Some (codes "/t")) (codes "a") (codes "b") []) (codes "/u") }
+    ensures no_root { (root : Text) → ¬ IsTreeCommand (a_by_b []) root }
+    ensures preview { (root : Text) → ¬ IsTreeCommand (record (a_by_b []) { preview = true; root = Some (codes "/t") }) root }
+    ensures ignore { (root : Text) → ¬ IsTreeCommand (record (a_by_b []) { ignore = Some (codes "/r"); root = Some (codes "/t") }) root }
 {}
 
 /// What is shown of the text of a mistake.

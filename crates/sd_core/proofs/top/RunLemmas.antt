@@ -1,10 +1,12 @@
 -- How a run answers, from what its words ask for.
 use Rattle.std.proofs.Common.{◌≡◌, ◌≢◌, ◌∙◌, ℕ, ap, subst, sym, refl, inl, inr, List, arith}
-use Rattle.std.specs.Prelude.{Some, None, IsTrue, Result, Ok, Err}
+use Rattle.std.specs.Prelude.{Bool, Option, Some, None, IsTrue, Result, Ok, Err}
 use Rattle.std.proofs.lemmas.Option.{same_Some, none-some}
+use Rattle.sd_io.specs.Tree.{NameList, Tree}
+use Rattle.chosen_files.specs.Chosen.{Chosen}
 use Rattle.sd_change.specs.Change.{Change}
 use Rattle.many_files.specs.declared.report.Report.{Report}
-use Rattle.sd_words.specs.Order.{order_of}
+use Rattle.sd_words.specs.Order.{IsTreeCommand, order_of}
 use Rattle.sd_words.specs.OrderRead.{Refuses}
 use Rattle.sd_words.specs.declared.options.Options.{Options}
 use Rattle.sd_words.specs.declared.fault.OptionsFault.{OptionsFault}
@@ -13,14 +15,14 @@ use Rattle.sd_replace.specs.Replacement.{Replacement, Changes}
 use Rattle.sd_core.specs.Asked.{IsReplacerOf}
 use Rattle.sd_core.specs.Command.{CarriesOut, Command}
 use Rattle.sd_core.specs.Mode as mode
-use Rattle.sd_core.specs.Mode.{Mode, mode_of}
+use Rattle.sd_core.specs.Mode.{Mode, mode_by, mode_of, tree_mode}
 use Rattle.sd_core.specs.Outside.{Outside, Untouched}
 use Rattle.sd_core.specs.Run.{Begins, IsOrMemory, IsRefusedFirst, of_words, status_of}
 use Rattle.sd_core.specs.Printing.{EndsBy, Prints}
 use Rattle.sd_core.specs.Report.{line_of}
-use Rattle.sd_core.specs.Selection.{Selection, by_globs}
+use Rattle.sd_core.specs.Selection.{ListsChosenAt, by_globs}
 use Rattle.sd_core.specs.Sweep.{Sweeps, sweep_cap}
-use Rattle.sd_core.specs.TreeCommand.{DoesTreeCommand}
+use Rattle.sd_core.specs.TreeCommand.{AreChosenBelow, DoesTreeCommand}
 use Rattle.sd_core.specs.declared.error.Error.{Error}
 use Rattle.sd_core.specs.declared.ended.Why.{Why}
 use Rattle.sd_core.specs.declared.ended.Why.TheVariants as why
@@ -106,23 +108,40 @@ first_fails : (order : Options) (ended : Why) → IsRefusedFirst order ended →
 first_fails order ended (inl memory) done = let f : 1 ≡ 0 = ap status_of (sym memory ∙ done) in omega (arith, f)
 first_fails order ended (inr (failed, fails, why_so)) done = let f : 1 ≡ 0 = ap status_of (sym fails ∙ done) in omega (arith, f)
 
+-- the mode of a command on a tree
+pub of_tree : (order : Options) (root : List ℕ) → IsTreeCommand order root → mode_of order ≡ mode.tree root
+of_tree order root (rooted, shown, ruled) =
+    ap (λ (r : Option (List ℕ)). mode_by r order.ignore order.apply order.demo order.preview order.words) rooted
+    ∙ ap (λ (rules : Option (List ℕ)). tree_mode order.preview rules root) ruled ∙ ap (λ (previews : Bool). tree_mode previews None root) shown
+
+-- the chosen files by their places alone
+chosen_below : (tree : Tree) (root : List ℕ) (globs : List (List ℕ)) (paths : List (List ℕ)) (places : List NameList) → ListsChosenAt tree root globs paths places
+    → AreChosenBelow tree root globs places
+chosen_below tree root globs paths places (listed, same) =
+    (listed.top, listed.leads, subst (λ (these : List NameList). Chosen tree listed.top globs these) (sym same) listed.chosen)
+
 -- a sweep that is done, and whose report is printed
-does : (change : Change) (selection : Selection) (o : Outside) (result : Result Report Error) (ended : Why) → Sweeps change selection sweep_cap o.same_disk result o.disk
-    → EndsBy line_of result o.same_out o.out ended → ended ≡ why.Done → IsTrue o.disk.tells → DoesTreeCommand change selection o.disk.old o.disk.new o.out
-does change selection o (Ok report) ended sweeps prints done told = record {
-  report = report;
-  rewrites = sweeps.rewritten told;
-  printed = subst (λ (w : Why). Prints (line_of report) o.out w) done prints;
-}
-does change selection o (Err failed) ended sweeps (is, kept) done told = let f : 1 ≡ 0 = ap status_of (sym is ∙ done) in absurd (omega (arith, f))
+does : (change : Change) (root : List ℕ) (globs : List (List ℕ)) (o : Outside) (result : Result Report Error) (ended : Why)
+    → Sweeps change (by_globs root globs) sweep_cap o.same_disk result o.disk
+    → EndsBy line_of result o.same_out o.out ended → ended ≡ why.Done → IsTrue o.disk.tells → DoesTreeCommand change root globs o.disk.old o.disk.new o.out
+does change root globs o (Ok report) ended sweeps prints done told =
+    let rewritten = sweeps.rewritten told in
+    record {
+      report = report;
+      places = rewritten.places;
+      chosen = chosen_below o.disk.old.tree root globs rewritten.paths rewritten.places rewritten.selected;
+      rewrites = rewritten.files;
+      printed = subst (λ (w : Why). Prints (line_of report) o.out w) done prints;
+    }
+does change root globs o (Err failed) ended sweeps (is, kept) done told = let f : 1 ≡ 0 = ap status_of (sym is ∙ done) in absurd (omega (arith, f))
 
 pub headline_so : (o : Outside) (order : Options) (root : List ℕ) (ended : Why) → CarriesOut order o ended → mode_of order ≡ mode.tree root → ended ≡ why.Done → IsTrue o.disk.tells
-    → (replacement : Replacement) × IsReplacerOf order replacement × DoesTreeCommand (Changes replacement) (by_globs root order.words) o.disk.old o.disk.new o.out
+    → (replacement : Replacement) × IsReplacerOf order replacement × DoesTreeCommand (Changes replacement) root order.words o.disk.old o.disk.new o.out
 headline_so o order root ended carried e done told = by carried.command
   where
     by : Begins order o ended (λ change. Command (mode_of order) change order.words o ended)
-        → (replacement : Replacement) × IsReplacerOf order replacement × DoesTreeCommand (Changes replacement) (by_globs root order.words) o.disk.old o.disk.new o.out
+        → (replacement : Replacement) × IsReplacerOf order replacement × DoesTreeCommand (Changes replacement) root order.words o.disk.old o.disk.new o.out
     by (inl (untouched, first)) = absurd (first_fails order ended first done)
     by (inr (replacement, asked, command)) =
         let tree = subst (λ (m : Mode). Command m (Changes replacement) order.words o ended) e command in
-        (replacement, asked, does (Changes replacement) (by_globs root order.words) o tree.0.result ended tree.0.sweeps tree.0.prints done told)
+        (replacement, asked, does (Changes replacement) root order.words o tree.0.result ended tree.0.sweeps tree.0.prints done told)

@@ -5,9 +5,9 @@ use Rattle.std.proofs.lemmas.Option.{same_Some}
 use Rattle.sd_io.specs.Disk.{DiskState}
 use Rattle.sd_io.specs.Streams.{SinkState}
 use Rattle.sd_course.specs.Course.{Course}
-use Rattle.sd_words.specs.Order.{order_of}
+use Rattle.sd_words.specs.Order.{IsTreeCommand, order_of}
 use Rattle.sd_words.specs.declared.options.Options.{Options}
-use Rattle.sd_journal.specs.Run.{AsksRecovery, SweepsByOptions, SweepsBelow, CarriesOut, RunsJournal}
+use Rattle.sd_journal.specs.Run.{AsksRecovery, SweepsByOptions, CarriesOut, RunsJournal}
 use Rattle.sd_journal.specs.declared.ended.JournalWhy.{JournalWhy}
 
 -- a test that failed doesn't hold
@@ -21,10 +21,10 @@ carried words same_disk same_out d out no_recovery options read ended told is do
   recovers = λ root asks. absurd (no_recovery root asks);
   sweeps = λ no order root asks.
       let same : options ≡ order = same_Some options order (sym read ∙ asks.0) in
-      subst (λ (o : Options). SweepsByOptions o root same_disk same_out d out ended) same (does.sweeps root (subst (λ (o : Options). SweepsBelow o root) (sym same) asks.1));
+      subst (λ (o : Options). SweepsByOptions o root same_disk same_out d out ended) same (does.sweeps root (subst (λ (o : Options). IsTreeCommand o root) (sym same) asks.1));
   usage = λ e. record {
     no_recovery = no_recovery;
-    no_sweep = λ order root asks. does.usage e root (subst (λ (o : Options). SweepsBelow o root) (sym (same_Some options order (sym read ∙ asks.0))) asks.1);
+    no_sweep = λ order root asks. does.usage e root (subst (λ (o : Options). IsTreeCommand o root) (sym (same_Some options order (sym read ∙ asks.0))) asks.1);
   };
   no_command = λ no. does.no_command (λ root is_tree. no.no_sweep options root (read, is_tree));
 })

@@ -1,13 +1,13 @@
 use Rattle.std.proofs.Common.{◌∙◌, ap, refl, sym}
 use Rattle.sd_core.specs.Run.{status_of}
-use Rattle.sd_core.proofs.top.RunLemmas.{none_carries, is_usage, usage_asks_nothing, none_done, not_done, done, carries_so, none_unordered, usage_so, headline_so}
+use Rattle.sd_core.proofs.top.RunLemmas.{none_carries, is_usage, usage_asks_nothing, none_done, not_done, done, carries_so, none_unordered, usage_so, of_tree, headline_so}
 use Rattle.sd_core.proofs.top.TellLemmas.{words_told, end_told}
 use Rattle.sd_core.proofs.top.run.Goals as goal
 
 -- ---- the words ask for nothing that can be done
 
 pub returns-in-Err-clause-headline : goal.returns-in-Err-clause-headline
-returns-in-Err-clause-headline g c = λ told order root asks zero. absurd (none_done _ _ c.in-Err.ensures.read _ c.refuse.ensures.why _ c.refuse.ensures.status zero)
+returns-in-Err-clause-headline g c = λ told order root asks on_tree zero. absurd (none_done _ _ c.in-Err.ensures.read _ c.refuse.ensures.why _ c.refuse.ensures.status zero)
 
 pub returns-in-Err-clause-status : goal.returns-in-Err-clause-status
 returns-in-Err-clause-status g c = c.refuse.ensures.status
@@ -33,8 +33,8 @@ pub returns-in-Ok-clause-carries : goal.returns-in-Ok-clause-carries
 returns-in-Ok-clause-carries g c = carries_so _ c.in-Ok.options c.in-Ok.ensures.read c.carry_out-why.result _ c.end_with.ensures.why _ c.carry_out-why.ensures
 
 pub returns-in-Ok-clause-headline : goal.returns-in-Ok-clause-headline
-returns-in-Ok-clause-headline g c = λ told order root asks zero.
-    headline_so _ order root _ (returns-in-Ok-clause-carries g c order asks.0) asks.1
+returns-in-Ok-clause-headline g c = λ told order root asks on_tree zero.
+    headline_so _ order root _ (returns-in-Ok-clause-carries g c order asks) (of_tree order root on_tree)
     (c.end_with.ensures.why ∙ done _ c.in-Ok.options c.in-Ok.ensures.read c.carry_out-why.result _ c.end_with.ensures.why _ c.end_with.ensures.status zero) told
 
 pub returns-in-Ok-clause-status : goal.returns-in-Ok-clause-status
