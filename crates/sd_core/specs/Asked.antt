@@ -1,7 +1,7 @@
 -- What the options of a command mean for bytes.
-use Rattle.std.specs.Prelude.{Bool, true, false}
+use Rattle.std.specs.Prelude.{Bool, if◌then◌else◌}
 use Rattle.sd_words.specs.declared.options.Options.{Options}
-use Rattle.sd_replace.specs.Making.{Asked, asked, IsAskedFor, IsReplacerRefused}
+use Rattle.sd_replace.specs.Making.{Asked, IsAskedFor, IsReplacerRefused}
 use Rattle.sd_replace.specs.Replacement.{Replacement}
 use Rattle.sd_replace.specs.declared.error.ReplacerFault.TheVariants as fault
 use Rattle.sd_replace.specs.declared.replacer.Counted.{Counted}
@@ -11,13 +11,12 @@ use Rattle.sd_core.specs.declared.error.Error.TheVariants as error
 
 -- in line mode matches are counted in each line
 abbrev pub counted_of : Bool → Counted
-counted_of false = OverAll
-counted_of true = InEachLine
+counted_of by_line = if by_line then InEachLine else OverAll
 
 -- what a replacer is asked for with
 abbrev pub asked_of : Options → Asked
 asked_of options =
-    asked options.find options.replace_with options.literal_mode options.flags options.replacements (counted_of options.line_mode)
+    record { find = options.find; replace_with = options.replace_with; is_literal = options.literal_mode; flags = options.flags; limit = options.replacements; counted = counted_of options.line_mode }
 
 -- it is the replacement that these options ask for
 abbrev pub IsReplacerOf : Options → Replacement → Type 0

@@ -52,6 +52,10 @@ begins_with_digit (first ∷ name) = is_ascii_digit first
 abbrev pub is_ambiguous : List ℕ → Bool
 is_ambiguous name = begins_with_digit name && list_any (λ b. not (is_ascii_digit b)) name
 
+-- the first ambiguous reference of a text
+abbrev pub ambiguous_reference : List ℕ → Option Bare
+ambiguous_reference text = find (λ (reference : Bare). is_ambiguous reference.name) (bare_references text)
+
 -- where the name of a reference starts and ends in the text, and how many digits it begins with
 abbrev pub place_of : Bare → NamePlace
 place_of reference = record {
@@ -60,9 +64,9 @@ place_of reference = record {
   digits = prefix_len is_ascii_digit reference.name;
 }
 
--- the place of the first ambiguous reference of a text
+-- the place of that reference
 abbrev pub first_ambiguous : List ℕ → Option NamePlace
-first_ambiguous text = option_map place_of (find (λ (reference : Bare). is_ambiguous reference.name) (bare_references text))
+first_ambiguous text = option_map place_of (ambiguous_reference text)
 
 -- what is told of a text with an ambiguous reference there
 abbrev pub told_of : List ℕ → NamePlace → InvalidReplaceCapture

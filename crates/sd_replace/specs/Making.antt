@@ -4,7 +4,7 @@ use Rattle.grep_regex.specs.Building.{IsBuilt, IsRefused}
 use Rattle.grep_regex.specs.declared.error.ErrorKind.{ErrorKind}
 use Rattle.grep_regex.specs.declared.error.ErrorKind.TheVariants as kind
 use Rattle.grep_regex.specs.declared.options.Options.{Options}
-use Rattle.sd_replace.specs.Ambiguous.{ambiguity}
+use Rattle.sd_replace.specs.Ambiguous.{ambiguity, ambiguous_reference}
 use Rattle.sd_replace.specs.Flags.{line_options_of, options_of}
 use Rattle.sd_replace.specs.Replacement.{Replacement}
 use Rattle.sd_replace.specs.Replacer.{replacement_of}
@@ -53,7 +53,7 @@ substitute_for false text = Expanded (unwrap_or (unescaped text) text)
 
 -- A literal text may hold any reference, and any other none that is ambiguous.
 abbrev pub IsUnambiguous : Bool → List ℕ → Type 0
-IsUnambiguous is_literal text = is_literal ≡ false → ambiguity text ≡ None
+IsUnambiguous is_literal text = is_literal ≡ false → ambiguous_reference text ≡ None
 
 -- WHAT IS ASKED FOR
 pub record IsAskedFor (a : Asked) (replacement : Replacement) : Type 0 where

@@ -1,9 +1,12 @@
 -- Escapes of a replacement text.
-use Rattle.std.specs.Prelude.{ℕ, zero, suc, ◌+◌, ◌*◌, ◌&&◌, ◌==◌, nat_le, nat_lt, Bool, List, []}
-use Rattle.std.specs.Prelude.{◌∷◌, length, drop, take, fold, Option, Some, None, option_map, option_and_then, encode_utf8_all, if◌then◌else◌}
+use Rattle.std.specs.Prelude.{ℕ, zero, suc, ◌&&◌, ◌==◌, nat_le, nat_lt, Bool, List, []}
+use Rattle.std.specs.Prelude.{◌∷◌, length, drop, take, Option, Some, None, option_map, option_and_then, encode_utf8_all, if◌then◌else◌}
 use Rattle.std.specs.List.{list_all}
-use Rattle.std.specs.Char.{digit_value, is_digit}
+use Rattle.std.specs.Char.{is_digit}
+use Rattle.std.specs.Map.{lookup}
+use Rattle.std.specs.Option.{option_map_or, option_or}
 use Rattle.std.specs.Str.{chars}
+use Rattle.std.specs.Str.Parse.{digits_value}
 use Rattle.sd_replace.specs.declared.unescaping.Escape.{Escape}
 use lib.Utf8.{scalar}
 
@@ -11,31 +14,17 @@ use lib.Utf8.{scalar}
 abbrev pub read_as : ℕ → Option ℕ → Option Escape
 read_as width character = option_map (λ c. record { character = c; width = width }) character
 
--- the first, where it is there, or else the second
-abbrev pub or_else : Option Escape → Option Escape → Option Escape
-or_else None second = second
-or_else (Some first) second = Some first
+-- the letters of `\b`, `\f`, `\n`, `\r`, `\t`, `\'`, `\"` and `\\`, and what they stand for
+abbrev pub letters : List (ℕ × ℕ)
+letters = (98, 8) ∷ (102, 12) ∷ (110, 10) ∷ (114, 13) ∷ (116, 9) ∷ (39, 39) ∷ (34, 34) ∷ (92, 92) ∷ []
 
--- the character of a letter: `\b`, `\f`, `\n`, `\r`, `\t`, `\'`, `\"` and `\\`
+-- the character of a letter
 abbrev pub lettered : ℕ → Option ℕ
-lettered letter =
-    if letter == 98 then Some 8
-    else (if letter == 102 then Some 12
-    else (if letter == 110 then Some 10
-    else (if letter == 114 then Some 13
-    else (if letter == 116 then Some 9
-    else (if letter == 39 then Some 39
-    else (if letter == 34 then Some 34
-    else (if letter == 92 then Some 92
-    else None)))))))
-
--- one digit more in a base
-abbrev pub next_number : ℕ → ℕ → ℕ → ℕ
-next_number base high digit = high * base + digit_value digit
+lettered letter = lookup (λ other. letter == other) letters
 
 -- the number that digits spell in a base, if all are digits in it
 abbrev pub number : ℕ → List ℕ → Option ℕ
-number base digits = if list_all (λ digit. is_digit digit base) digits then Some (fold (next_number base) 0 digits) else None
+number base digits = if list_all (λ digit. is_digit digit base) digits then Some (digits_value base digits) else None
 
 -- the character of a number, if it has one
 abbrev pub character_of : ℕ → Option ℕ
@@ -51,7 +40,7 @@ three_octal first text = if nat_lt 51 first then None else read_as 3 (spelled 8 
 
 -- three octal digits that begin with 0 to 3, or else two
 abbrev pub octal : ℕ → List ℕ → Option Escape
-octal first text = or_else (three_octal first text) (read_as 2 (spelled 8 2 text))
+octal first text = option_or (three_octal first text) (read_as 2 (spelled 8 2 text))
 
 abbrev pub is_octal_digit : ℕ → Bool
 is_octal_digit c = nat_le 48 c && nat_le c 55
@@ -74,8 +63,7 @@ read_at first text = if first == 92 then escape_at text else Some (record { char
 
 -- how many characters are read behind the first
 abbrev pub width_of : Option Escape → ℕ
-width_of None = 0
-width_of (Some read) = read.width
+width_of read = option_map_or (λ (e : Escape). e.width) read 0
 
 abbrev pub character_in : Option Escape → Option ℕ
 character_in read = option_map (λ (e : Escape). e.character) read

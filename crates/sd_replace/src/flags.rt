@@ -2,6 +2,7 @@
 
 ghost use Rattle.std.specs.Prelude.{◌≡◌};
 ghost use Rattle.std.specs.Option.{option_map_or};
+ghost use Rattle.pattern_syntax.specs.Flags.{has};
 ghost use Rattle.sd_replace.specs.Flags as form;
 
 use grep_regex::RegexMatcherBuilder;
@@ -53,7 +54,7 @@ fn is_multi_line(letters: &[u8]) -> bool
 
 /// Whether a letter stands among the flags.
 fn has_letter(letters: &[u8], letter: u8) -> bool
-    ensures { result ≡ form.has_letter letters.now letter }
+    ensures { result ≡ has letter letters.now }
 {
     letters.contains(&letter)
 }

@@ -1,5 +1,5 @@
 -- Which replacer is asked for, and why none is made.
-use Rattle.std.proofs.Common.{◌≡◌, ℕ, ◌<◌, ◌≤◌, ◌^◌, Bool, true, false, cond, List, [], ◌∷◌, ◌++◌, length, Contains, Some, None, IfSome, refl, sym, ap, ◌∙◌, subst, arith, length-append}
+use Rattle.std.proofs.Common.{◌≡◌, ℕ, ◌<◌, ◌≤◌, ◌^◌, Bool, true, false, cond, List, [], ◌∷◌, ◌++◌, length, Contains, Option, Some, None, IfSome, option_map, refl, sym, ap, ◌∙◌, subst, arith, length-append}
 use Rattle.std.proofs.lemmas.List.Elements.{All-contains, Contains-append_right}
 use Rattle.std.proofs.lemmas.Str.{encodes-chars}
 use Rattle.std.proofs.Math.Utf8.{encode, encodes}
@@ -16,11 +16,19 @@ use Rattle.grep_regex.specs.declared.error.ErrorKind.{ErrorKind}
 use Rattle.grep_regex.specs.declared.error.ErrorKind.TheVariants as kind
 use Rattle.grep_regex.specs.declared.error.RegexFault.TheVariants as regex_fault
 use Rattle.grep_regex.specs.declared.options.Options.{Options}
-use Rattle.sd_replace.specs.Ambiguous.{ambiguity}
+use Rattle.sd_replace.specs.Ambiguous.{Bare, ambiguity, ambiguous_reference, place_of, told_of}
 use Rattle.sd_replace.specs.Flags.{line_options_of}
 use Rattle.sd_replace.specs.Making.{AnAskedReplacementIsReadable, IsUnreadable, OneReplacement, asked_options}
 use Rattle.sd_replace.specs.declared.error.ReplacerFault.TheVariants as fault
 use Rattle.sd_replace.proofs.making.TreeLemmas.{OneReading, OneListOfChars, OneListOfBytes, one_list_of_trees}
+
+-- a text of which nothing is told has no ambiguous reference
+pub none_told : (text : List ℕ) → ambiguity text ≡ None → ambiguous_reference text ≡ None
+none_told text = none (ambiguous_reference text)
+  where
+    none : (found : Option Bare) → option_map (told_of text) (option_map place_of found) ≡ None → found ≡ None
+    none None e = refl
+    none (Some reference) e = absurd (cc)
 
 -- ---- what is asked for
 
@@ -108,7 +116,7 @@ module _ (one_reading : OneReading) (of_chars : OneListOfChars) (of_bytes : OneL
 
   pub readable : AnAskedReplacementIsReadable
   readable a replacement (fault.InvalidReplaceCapture told) asked h =
-      let none : ambiguity a.replace_with ≡ None = asked.unambiguous h.0 in
+      let none : ambiguity a.replace_with ≡ None = ap (λ (found : Option Bare). option_map (told_of a.replace_with) (option_map place_of found)) (asked.unambiguous h.0) in
       let some : ambiguity a.replace_with ≡ Some told = h.1 in
       absurd (cc)
   readable a replacement (fault.Regex error) asked h = absurd (built_is_read (asked_options a) a.find replacement.pattern error.kind asked.built h.1)

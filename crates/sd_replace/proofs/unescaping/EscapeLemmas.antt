@@ -4,17 +4,19 @@ use Rattle.std.proofs.Math.Utf8.{encode, encodes}
 use Rattle.std.proofs.Math.Nat.{pow-suc}
 use Rattle.std.proofs.lemmas.Bool.Decides.{nat_tests}
 use Rattle.std.proofs.lemmas.List.{drop_more, drop-drop, drop_all, take_rest}
-use Rattle.std.specs.List.{fold, list_all}
+use Rattle.std.specs.List.{list_all}
 use Rattle.std.specs.Char.{digit_value, is_digit}
-use Rattle.sd_replace.specs.Unescaped.{next_number, number, character_of, read_as, or_else, lettered, spelled, three_octal, octal, is_octal_digit, escape_of, escape_at, read_at, width_of, character_in, characters_after, all_there, unescaped_characters}
+use Rattle.std.specs.Option.{option_or}
+use Rattle.std.specs.Str.Parse.{digits_value, digits_value_after}
+use Rattle.sd_replace.specs.Unescaped.{number, character_of, read_as, lettered, spelled, three_octal, octal, is_octal_digit, escape_of, escape_at, read_at, width_of, character_in, characters_after, all_there, unescaped_characters}
 use Rattle.sd_replace.specs.declared.unescaping.Escape.{Escape}
 
 -- ---- numbers
 
 pub number_on : (base : ℕ) (digits : List ℕ) (i d high next : ℕ) → i < length digits → next ≡ high * base + digit_value (get_or digits i d)
-    → fold (next_number base) high (drop i digits) ≡ fold (next_number base) 0 digits → fold (next_number base) next (drop (i + 1) digits) ≡ fold (next_number base) 0 digits
+    → digits_value_after base high (drop i digits) ≡ digits_value base digits → digits_value_after base next (drop (i + 1) digits) ≡ digits_value base digits
 number_on base digits i d high next h e known =
-    ap (λ (n : ℕ). fold (next_number base) n (drop (i + 1) digits)) e ∙ ap (fold (next_number base) high) (sym (drop_more digits i d h)) ∙ known
+    ap (λ (n : ℕ). digits_value_after base n (drop (i + 1) digits)) e ∙ ap (digits_value_after base high) (sym (drop_more digits i d h)) ∙ known
 
 cons_all : (p : ℕ → Bool) (digits : List ℕ) (i d : ℕ) → i < length digits → list_all p (drop i digits) ≡ (p (get_or digits i d) && list_all p (drop (i + 1) digits))
 cons_all p digits i d h = ap (list_all p) (drop_more digits i d h)
@@ -49,16 +51,16 @@ pub product_small : (n r i : ℕ) → r ≤ 16 → i < 4 → n < 16 ^ i → n * 
 product_small n r i b f s = let t = times n r b in let k = few i f in omega arith
 
 -- the number that was read to the end
-pub number_read : (base : ℕ) (digits : List ℕ) (i high : ℕ) → length digits ≤ i → fold (next_number base) high (drop i digits) ≡ fold (next_number base) 0 digits
+pub number_read : (base : ℕ) (digits : List ℕ) (i high : ℕ) → length digits ≤ i → digits_value_after base high (drop i digits) ≡ digits_value base digits
     → list_all (λ d. is_digit d base) (drop i digits) ≡ list_all (λ d. is_digit d base) digits → Some high ≡ number base digits
 number_read base digits i high end n d =
     let nothing : drop i digits ≡ [] = drop_all i digits end in
     let all : list_all (λ x. is_digit x base) digits ≡ true = sym d ∙ ap (list_all (λ x. is_digit x base)) nothing in
-    let same : high ≡ fold (next_number base) 0 digits = sym (ap (fold (next_number base) high) nothing) ∙ n in
-    ap Some same ∙ sym (ap (λ (b : Bool). cond b (Some (fold (next_number base) 0 digits)) None) all)
+    let same : high ≡ digits_value base digits = sym (ap (digits_value_after base high) nothing) ∙ n in
+    ap Some same ∙ sym (ap (λ (b : Bool). cond b (Some (digits_value base digits)) None) all)
 
 pub number_unread : (base : ℕ) (digits : List ℕ) → list_all (λ d. is_digit d base) digits ≡ false → None ≡ number base digits
-number_unread base digits e = sym (ap (λ (b : Bool). cond b (Some (fold (next_number base) 0 digits)) None) e)
+number_unread base digits e = sym (ap (λ (b : Bool). cond b (Some (digits_value base digits)) None) e)
 
 -- ---- texts
 
@@ -129,7 +131,7 @@ as_within : (n width : ℕ) (c : Option ℕ) → width ≤ n → IsWithin n (rea
 as_within n width None h = tt
 as_within n width (Some c) h = h
 
-or_within : (n : ℕ) (a b : Option Escape) → IsWithin n a → IsWithin n b → IsWithin n (or_else a b)
+or_within : (n : ℕ) (a b : Option Escape) → IsWithin n a → IsWithin n b → IsWithin n (option_or a b)
 or_within n None b p q = q
 or_within n (Some e) b p q = p
 
