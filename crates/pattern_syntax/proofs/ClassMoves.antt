@@ -1,9 +1,9 @@
 -- How a class goes on is decided by what stands there.
+use Rattle.std.specs.Prelude.{is_some}
 use Rattle.std.proofs.Common.{◌≡◌, ℕ, Bool, true, false, not, ◌&&◌, ◌||◌, ◌==◌, ◌⊎◌, inl, inr, ⊎_elim, List, [], ◌∷◌, ◌++◌, codes, refl, sym, ap, ap₂, ◌∙◌, subst, eqb-true, true≢false}
 use Rattle.unicode.specs.Binary.{is_white_space}
 use Rattle.pattern_syntax.specs.declared.flags.Flags.{Flags}
 use Rattle.pattern_syntax.specs.Flags.{Blank, white, comment, write_blanks, FineBlanks, has, begins, rest, seen}
-use Rattle.pattern_syntax.specs.Sets.{is_some}
 use Rattle.pattern_syntax.specs.Atom.{Atom, character, escaped, control, coded, braced, octal, perl, category, category_braced, write_atom, single_of}
 use Rattle.pattern_syntax.specs.Class.{close, Operation, both, minus, either, write_name, write_operation, FineMember, FineSecond, is_member, is_second, is_blank_start, makes_range}
 use Rattle.pattern_syntax.specs.ClassProgress.{ClassLevel, whole_class, with_operation, AfterClass, RestClass}

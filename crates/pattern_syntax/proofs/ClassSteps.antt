@@ -1,4 +1,5 @@
 -- One step of a reading of a class, both ways.
+use Rattle.std.specs.Prelude.{is_some}
 use Rattle.std.proofs.Common.{◌≡◌, ℕ, ◌+◌, max, Bool, true, false, ◌&&◌, ◌||◌, not, List, [], ◌∷◌, ◌++◌, codes, refl, sym, ap, ap₂, ◌∙◌, subst, arith}
 use Rattle.std.specs.List.{list_any}
 use Rattle.unicode.specs.Binary.{is_uppercase}
@@ -6,7 +7,7 @@ use Rattle.regex_class.proofs.RangesLemmas.{or_assoc}
 use Rattle.pattern_syntax.specs.declared.readings.Literals.{Literals}
 use Rattle.pattern_syntax.specs.declared.flags.Flags.{Flags}
 use Rattle.pattern_syntax.specs.Flags.{Blank, write_blanks, FineBlanks, is_nil}
-use Rattle.pattern_syntax.specs.Sets.{Set, negated_if, ascii_names, ascii_set, value_of, is_some}
+use Rattle.pattern_syntax.specs.Sets.{Set, negated_if, ascii_names, ascii_set, value_of}
 use Rattle.pattern_syntax.specs.Atom.{Atom, write_atom, single_of}
 use Rattle.pattern_syntax.specs.Class.{Head, Inside, close, pass, one, range, named, nested, operation, Operation, write_inside, write_head, write_name, write_operation, FineInside, FineHead, FineMember, FineSecond, fits, makes_range, in_order, begins_name, is_negated, head_literals, atom_set, range_set, inside_set, inside_depth, inside_literals, listed}
 use Rattle.pattern_syntax.specs.ClassProgress.{ClassPart, ClassLevel, start, literals_in, in_both, part_of, whole_class, with_member, bracketed, with_operation, AfterClass, RestClass, leave_class}

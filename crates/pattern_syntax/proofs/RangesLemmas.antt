@@ -2,13 +2,14 @@
 use Rattle.std.proofs.Common.{All, lt_of_le_of_lt, ◌≡◌, ◌↔◌, ◌⊎◌, inl, inr, ⊎_elim, ℕ, suc, ◌+◌, ◌<◌, ◌≤◌, Bool, true, false, nat_le, nat_lt, ◌&&◌, ◌||◌, List, [], ◌∷◌, length, drop, get_or, drop-cons, add-one, IsTrue, refl, sym, ap, ◌∙◌, subst, true≢false, leb-true, le-leb, arith}
 use Rattle.std.proofs.lemmas.Bool.{and_parts, and_from, or_cases, or_left, or_right}
 use Rattle.std.proofs.lemmas.Bool.Decides.{nat_tests}
+use Rattle.std.specs.Int.{is_in_range}
 use Rattle.std.specs.Char.{IsScalar}
 use Rattle.std.proofs.Math.ListN.{drop_of_length-le}
 use Rattle.regex_class.specs.Ranges.{in_ranges, in_range}
 use Rattle.hir_tree.specs.Ranges.{Holds, IsWithin, AreCharRanges, AreByteRanges}
 use Rattle.hir_tree.specs.Runs.{in_set}
 use Rattle.hir_tree.specs.Tree.{class_chars, class_bytes}
-use Rattle.pattern_syntax.specs.Sets.{Set, is_scalar, is_between}
+use Rattle.pattern_syntax.specs.Sets.{Set, is_scalar}
 use Rattle.pattern_syntax.specs.SetTree.{SetTree, chars, bytes, with_sets}
 
 -- two sets with the same members are one
@@ -17,8 +18,8 @@ same_set s t h = λ i. λ c. h c i
 
 pub held : (ranges : List (ℕ × ℕ)) (c : ℕ) → Holds ranges c → in_set ranges c ≡ true
 held [] c h = absurd h
-held (r ∷ rest) c (inl within) = or_left (is_between r.0 r.1 c) (in_set rest c) (and_from (nat_le r.0 c) (nat_le c r.1) (le-leb r.0 c within.0) (le-leb c r.1 within.1))
-held (r ∷ rest) c (inr later) = or_right (is_between r.0 r.1 c) (in_set rest c) (held rest c later)
+held (r ∷ rest) c (inl within) = or_left (is_in_range r.0 r.1 c) (in_set rest c) (and_from (nat_le r.0 c) (nat_le c r.1) (le-leb r.0 c within.0) (le-leb c r.1 within.1))
+held (r ∷ rest) c (inr later) = or_right (is_in_range r.0 r.1 c) (in_set rest c) (held rest c later)
 
 pub holds : (ranges : List (ℕ × ℕ)) (c : ℕ) → in_set ranges c ≡ true → Holds ranges c
 holds [] c e = absurd (true≢false (sym e))
@@ -26,7 +27,7 @@ holds (r ∷ rest) c e =
     ⊎_elim
     (λ within. let parts = and_parts (nat_le r.0 c) (nat_le c r.1) within in inl (leb-true r.0 c parts.0, leb-true c r.1 parts.1))
     (λ later. inr (holds rest c later))
-    (or_cases (is_between r.0 r.1 c) (in_set rest c) e)
+    (or_cases (is_in_range r.0 r.1 c) (in_set rest c) e)
 
 -- tests that pass together are equal
 pub same_test : (a b : Bool) → (a ≡ true → b ≡ true) → (b ≡ true → a ≡ true) → a ≡ b

@@ -1,9 +1,11 @@
 -- What stands alone, in a class too: a character, or an escape that is no look.
-use Rattle.std.specs.Prelude.{◌≡◌, ℕ, ◌+◌, ◌*◌, Bool, true, false, List, [], ◌∷◌, ◌++◌, codes, ◌==◌, ◌&&◌, ◌||◌, nat_le, nat_lt, not, length, if◌then◌else◌, Option, Some, None}
-use Rattle.std.specs.Char.{is_digit, digit_value}
+use Rattle.std.specs.Int.{is_in_range}
+use Rattle.std.specs.Prelude.{◌≡◌, ℕ, Bool, true, false, List, [], ◌∷◌, ◌++◌, codes, ◌==◌, ◌&&◌, ◌||◌, nat_le, nat_lt, not, length, map, if◌then◌else◌, Option, Some, None, is_some}
+use Rattle.std.specs.Char.{is_digit}
+use Rattle.std.specs.Str.Parse.{digits_value_after}
 use Rattle.pattern_syntax.specs.declared.flags.Flags.{Flags}
 use Rattle.pattern_syntax.specs.Flags.{Blank, write_blanks, FineBlanks, has, is_nil}
-use Rattle.pattern_syntax.specs.Sets.{is_between, is_scalar, is_some, category_named}
+use Rattle.pattern_syntax.specs.Sets.{is_scalar, category_named}
 
 -- a digit or a letter, and the blanks before it
 pub record Digit : Type 0 where
@@ -47,16 +49,17 @@ write_atom (category letter before c) t = codes "\\" ++ letter ∷ write_blanks 
 write_atom (category_braced letter before ds behind) t = write_braced letter before ds behind t
 
 abbrev pub is_escapable : ℕ → Bool
-is_escapable c = nat_lt c 128 && not (is_between 48 57 c || is_between 65 90 c || is_between 97 122 c || c == 60 || c == 62)
+is_escapable c = nat_lt c 128 && not (is_in_range 48 57 c || is_in_range 65 90 c || is_in_range 97 122 c || c == 60 || c == 62)
+
+abbrev pub spelt : List Digit → List ℕ
+spelt ds = map (λ (d : Digit). d.digit) ds
 
 -- the number that digits spell, after `high`
 abbrev pub number : ℕ → ℕ → List Digit → ℕ
-number base high [] = high
-number base high (d ∷ ds) = number base (high * base + digit_value d.digit) ds
+number base high ds = digits_value_after base high (spelt ds)
 
 abbrev pub octal_number : ℕ → List ℕ → ℕ
-octal_number high [] = high
-octal_number high (d ∷ ds) = octal_number (high * 8 + digit_value d) ds
+octal_number high ds = digits_value_after 8 high ds
 
 -- what `\a` and its like are
 abbrev pub control_of : ℕ → Option ℕ
@@ -78,10 +81,6 @@ single_of (braced letter before ds behind) = Some (number 16 0 ds)
 single_of (octal ds) = Some (octal_number 0 ds)
 single_of _ = None
 
-abbrev pub spelt : List Digit → List ℕ
-spelt [] = []
-spelt (d ∷ ds) = d.digit ∷ spelt ds
-
 abbrev pub all : (ℕ → Bool) → List ℕ → Bool
 all f [] = true
 all f (c ∷ cs) = f c && all f cs
@@ -90,7 +89,7 @@ abbrev pub are_hex : List Digit → Bool
 are_hex ds = all (λ d. is_digit d 16) (spelt ds)
 
 abbrev pub is_octal_digit : ℕ → Bool
-is_octal_digit = is_between 48 55
+is_octal_digit = is_in_range 48 55
 
 -- the longest: fewer than three aren't followed by one more
 abbrev pub octal_next : List ℕ → Bool

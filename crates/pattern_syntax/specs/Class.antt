@@ -1,11 +1,13 @@
 -- Bracketed classes.
-use Rattle.std.specs.Prelude.{◌≡◌, ℕ, ◌+◌, Bool, true, false, List, [], ◌∷◌, ◌++◌, codes, ◌==◌, ◌&&◌, ◌||◌, nat_lt, nat_le, nat_eq, not, max, length, map, if◌then◌else◌, Option, Some, None}
+use Rattle.std.specs.Int.{is_in_range}
+use Rattle.std.specs.Prelude.{◌≡◌, ℕ, ◌+◌, Bool, true, false, List, [], ◌∷◌, ◌++◌, codes, ◌==◌, ◌&&◌, ◌||◌, nat_lt, nat_le, nat_eq, not, max, length, map, if◌then◌else◌, Option, Some, None, is_some}
 use Rattle.std.specs.List.{list_any, starts_with}
+use Rattle.std.specs.Option.{option_map_or}
 use Rattle.unicode.specs.Binary.{is_white_space}
 use Rattle.pattern_syntax.specs.declared.flags.Flags.{Flags}
 use Rattle.pattern_syntax.specs.Flags.{Blank, write_blanks, FineBlanks, has, begins, rest, seen, seen_if, is_nil}
 use Rattle.pattern_syntax.specs.Atom.{Atom, character, coded, braced, octal, number, octal_number, write_atom, FineAtom, single_of, perl, category, category_braced, spelt}
-use Rattle.pattern_syntax.specs.Sets.{Set, none_of, union, is_between, negated_if, closed, ascii_names, ascii_set, value_of, is_some, perl_set, category_set}
+use Rattle.pattern_syntax.specs.Sets.{Set, none_of, union, negated_if, closed, ascii_names, ascii_set, value_of, perl_set, category_set}
 
 pub data Operation : Type 0 where
   both : Operation
@@ -32,8 +34,7 @@ pub data Inside : Type 0 where
 
 -- THE TEXT
 abbrev pub write_after : Option (List Blank) → List ℕ → List ℕ → List ℕ
-write_after None cs t = t
-write_after (Some bs) cs t = write_blanks bs (cs ++ t)
+write_after before cs t = option_map_or (λ bs. write_blanks bs (cs ++ t)) before t
 
 abbrev pub write_dashes : List (List Blank) → List ℕ → List ℕ
 write_dashes [] t = t
@@ -48,8 +49,7 @@ write_operation minus t = codes "--" ++ t
 write_operation either t = codes "~~" ++ t
 
 abbrev pub write_name : Bool → List ℕ → List ℕ → List ℕ
-write_name true name t = codes "[:^" ++ name ++ codes ":]" ++ t
-write_name false name t = codes "[:" ++ name ++ codes ":]" ++ t
+write_name negated name t = (if negated then codes "[:^" else codes "[:") ++ name ++ codes ":]" ++ t
 
 abbrev pub write_inside : Inside → List ℕ → List ℕ
 write_inside close t = codes "]" ++ t
@@ -154,13 +154,11 @@ is_negated h = is_some h.negated
 abbrev pub head_set : Head → Set
 head_set h c = ((c == 45) && not (is_nil h.dashes)) || ((c == 93) && is_some h.bracket)
 
-abbrev pub same : Bool → Bool → Bool
-same true b = b
-same false b = not b
+abbrev pub xor : Bool → Bool → Bool
+xor a b = if a then not b else b
 
 abbrev pub matches_one : Option ℕ → Set
-matches_one (Some n) c = c == n
-matches_one None c = false
+matches_one single c = option_map_or (λ n. c == n) single false
 
 abbrev pub atom_set : Flags → Atom → Set
 atom_set k (perl letter) = perl_set k letter
@@ -169,14 +167,14 @@ atom_set k (category_braced letter bs ds cs) = category_set k (letter == 80) (sp
 atom_set k a = matches_one (single_of a)
 
 abbrev pub range_set : Option ℕ → Option ℕ → Set
-range_set (Some a) (Some b) c = is_between a b c
+range_set (Some a) (Some b) c = is_in_range a b c
 range_set _ _ c = false
 
 -- what stands left of an operation, and the union behind it, which are closed under folding
 abbrev pub combined : Operation → Set → Set → Set
 combined both s t c = s c && t c
 combined minus s t c = s c && not (t c)
-combined either s t c = not (same (s c) (t c))
+combined either s t c = xor (s c) (t c)
 
 -- what stands left of the operation that waits, if one does, and that operation
 pub data Waiting : Type 0 where
@@ -202,8 +200,7 @@ class_set k h p = negated_if (is_negated h) k (inside_set k nothing (head_set h)
 
 -- HOW DEEP IT NESTS
 abbrev pub one_if : Bool → ℕ
-one_if true = 1
-one_if false = 0
+one_if b = if b then 1 else 0
 
 abbrev pub head_count : Head → ℕ
 head_count h = length h.dashes + one_if (is_some h.bracket)
@@ -212,8 +209,7 @@ abbrev pub union_depth : ℕ → ℕ → ℕ
 union_depth count deepest = if nat_lt count 2 then deepest else deepest + 1
 
 abbrev pub operated : Option ℕ → ℕ → ℕ
-operated None d = d
-operated (Some left) d = max left d + 1
+operated left d = option_map_or (λ l. max l d + 1) left d
 
 -- what stands left of an operation nests so deep, the union has so many members, the deepest of them nests so deep
 abbrev pub inside_depth : Option ℕ → ℕ → ℕ → Inside → ℕ
@@ -230,8 +226,7 @@ class_depth h p = inside_depth None (head_count h) 0 p + 1
 
 -- THE LITERAL CHARACTERS
 abbrev pub listed : Option ℕ → List ℕ
-listed None = []
-listed (Some c) = c ∷ []
+listed single = option_map_or (λ c. c ∷ []) single []
 
 abbrev pub head_literals : Head → List ℕ
 head_literals h = map (λ bs. 45) h.dashes ++ (if is_some h.bracket then 93 ∷ [] else [])

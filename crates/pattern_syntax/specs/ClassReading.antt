@@ -1,5 +1,6 @@
 -- What the code has of a class that it reads, and how the reading goes on from there.
-use Rattle.std.specs.Prelude.{◌≡◌, ◌<◌, ◌≤◌, ℕ, ◌+◌, Bool, true, false, ◌==◌, ◌&&◌, ◌||◌, nat_le, codes, if◌then◌else◌, List, [], ◌∷◌, ◌++◌, drop, length, map, Option, Some, None}
+use Rattle.std.specs.Char.{is_ascii_lowercase}
+use Rattle.std.specs.Prelude.{◌≡◌, ◌<◌, ◌≤◌, ℕ, ◌+◌, Bool, true, false, ◌==◌, ◌&&◌, ◌||◌, nat_le, codes, if◌then◌else◌, List, [], ◌∷◌, ◌++◌, drop, length, map, Option, Some, None, is_some}
 use Rattle.regex_class.specs.declared.Class.{Class}
 use Rattle.regex_class.specs.Ranges.{in_ranges}
 use Rattle.pattern_syntax.specs.declared.flags.Flags.{Flags}
@@ -15,7 +16,7 @@ use Rattle.pattern_syntax.specs.declared.classes.steps.Reading.{Reading}
 use Rattle.pattern_syntax.specs.declared.classes.steps.Step.{Step}
 use Rattle.pattern_syntax.specs.declared.classes.steps.Step.TheVariants as step
 use Rattle.pattern_syntax.specs.Flags.{Blank, write_blanks, FineBlanks, has, begins, rest, seen}
-use Rattle.pattern_syntax.specs.Sets.{Set, is_ascii_lower, negated_if, ascii_names, ascii_set, value_of, is_some}
+use Rattle.pattern_syntax.specs.Sets.{Set, negated_if, ascii_names, ascii_set, value_of}
 use Rattle.pattern_syntax.specs.Atom.{Atom, character, write_atom, FineAtom, single_of}
 use Rattle.pattern_syntax.specs.Class.{Head, Inside, Operation, both, minus, either, Waiting, nothing, waits, write_head, write_inside, write_name, write_operation, FineHead, FineInside, FineSecond, is_member, is_negated, fits, begins_name, atom_set}
 use Rattle.pattern_syntax.specs.ClassProgress.{ClassPart, ClassLevel, start, part_of, whole_class, bracketed, AfterClass, RestClass, leave_class}
@@ -172,7 +173,7 @@ IsNameOpen text at None = (t : List ℕ) → drop at text ≡ codes "[:" ++ t �
 -- behind the small letters
 abbrev pub after_letters : List ℕ → List ℕ
 after_letters [] = []
-after_letters (c ∷ t) = if is_ascii_lower c then after_letters t else c ∷ t
+after_letters (c ∷ t) = if is_ascii_lowercase c then after_letters t else c ∷ t
 
 -- ---- operations
 

@@ -1,10 +1,10 @@
 -- What the readers of a repetition's parts answer.
+use Rattle.std.specs.Char.{is_ascii_digit}
 use Rattle.std.specs.Prelude.{◌≡◌, ◌≤◌, ℕ, Bool, true, false, List, ◌++◌, drop, length, if◌then◌else◌, Option, Some, None}
 use Rattle.unicode.specs.Binary.{is_white_space}
 use Rattle.pattern_syntax.specs.declared.repetitions.Counted.{Counted}
 use Rattle.pattern_syntax.specs.Flags.{seen_if, begins, rest}
 use Rattle.pattern_syntax.specs.Runs.{comes}
-use Rattle.pattern_syntax.specs.Sets.{is_ascii_digit}
 use Rattle.pattern_syntax.specs.Syntax.{Number, Count, write_number, write_count, fine_number, fine_count, value, is_braced}
 use Rattle.pattern_syntax.specs.SetTree.{SetTree, repetition}
 use Rattle.pattern_syntax.specs.Reads.{count_tree}

@@ -6,8 +6,8 @@ use Rattle.pattern_syntax.specs.declared.flags.Flags.{Flags}
 use Rattle.pattern_syntax.specs.Flags.{apply}
 use Rattle.pattern_syntax.specs.Atom.{Atom, single_of, coded}
 use Rattle.pattern_syntax.specs.Sets.{Set, is_any, complement, closed, folds_with_another}
-use Rattle.pattern_syntax.specs.Class.{atom_set, class_set, class_depth, inside_literals, head_literals, listed}
-use Rattle.pattern_syntax.specs.Syntax.{Syntax, end, bar, pass, set, single, group, Single, atom, dot, caret, dollar, look as look_at, class, Edge, text_start, text_end, edge, no_edge, word_start, word_end, half_start, half_end, left, right, Count, optional, star, plus, exactly, at_least, between, value, Repeated, Kind, numbered, named, flagged, inside_flags, write, Fine}
+use Rattle.pattern_syntax.specs.Class.{atom_set, class_set, class_depth, inside_literals, head_literals, listed, xor}
+use Rattle.pattern_syntax.specs.Syntax.{Syntax, end, bar, pass, set, single, group, Single, atom, dot, caret, dollar, look as look_at, class, Edge, edge_of, Count, optional, star, plus, exactly, at_least, between, value, Repeated, Kind, numbered, named, flagged, inside_flags, write, Fine}
 use Rattle.pattern_syntax.specs.SetTree.{SetTree, SetTrees, empty, literal, chars, bytes, looks, repetition, capture, concat, alternation, trees}
 
 -- a tree, and how deep its pattern nests
@@ -47,18 +47,8 @@ choice row = united alternation row.trees row.depth
 abbrev pub joined : List Row → Part
 joined branches = choice (row_of (map sequence branches))
 
--- Unicode or ASCII by `u`
 abbrev pub edge_look : Edge → Bool → Look
-edge_look text_start u = look.Start
-edge_look text_end u = look.End
-edge_look edge u = if u then look.WordUnicode else look.WordAscii
-edge_look no_edge u = if u then look.WordUnicodeNegate else look.WordAsciiNegate
-edge_look word_start u = if u then look.WordStartUnicode else look.WordStartAscii
-edge_look left u = if u then look.WordStartUnicode else look.WordStartAscii
-edge_look word_end u = if u then look.WordEndUnicode else look.WordEndAscii
-edge_look right u = if u then look.WordEndUnicode else look.WordEndAscii
-edge_look half_start u = if u then look.WordStartHalfUnicode else look.WordStartHalfAscii
-edge_look half_end u = if u then look.WordEndHalfUnicode else look.WordEndHalfAscii
+edge_look e = (edge_of e).1
 
 -- with `u` off `\xHH` is that one byte
 abbrev pub literal_bytes : Flags → Atom → ℕ → List ℕ
@@ -75,10 +65,6 @@ line_end k c = not k.dot_all && ((c == 10) || (k.crlf && (c == 13)))
 
 abbrev pub line_look : Look → Look → Look → Flags → Look
 line_look one lf crlf k = if k.multi then (if k.crlf then crlf else lf) else one
-
-abbrev pub xor : Bool → Bool → Bool
-xor true b = not b
-xor false b = b
 
 abbrev pub count_tree : Count → Bool → SetTree → SetTree
 count_tree optional greedy a = repetition 0 (Some 1) greedy a

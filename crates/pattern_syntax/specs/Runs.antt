@@ -1,10 +1,11 @@
 -- Runs of characters of one kind.
+use Rattle.std.specs.Char.{is_ascii_digit}
 use Rattle.std.specs.Prelude.{ℕ, Bool, false, List, [], ◌∷◌, codes, if◌then◌else◌}
 use Rattle.unicode.specs.Binary.{is_white_space}
 use Rattle.pattern_syntax.specs.declared.runs.CharKind.{CharKind}
 use Rattle.pattern_syntax.specs.declared.runs.CharKind.TheVariants as kind
 use Rattle.pattern_syntax.specs.Flags.{has}
-use Rattle.pattern_syntax.specs.Sets.{is_ascii_digit, is_ascii_word}
+use Rattle.pattern_syntax.specs.Sets.{is_ascii_word}
 
 -- a letter of a flag
 abbrev pub is_flag : ℕ → Bool

@@ -1,7 +1,10 @@
 -- Sets of characters, or of bytes where `u` is off.
-use Rattle.std.specs.Prelude.{ℕ, Bool, true, false, List, [], ◌∷◌, codes, ◌==◌, ◌&&◌, ◌||◌, nat_lt, nat_le, nat_eq, not, map, if◌then◌else◌, Option, Some, None}
+use Rattle.std.specs.Int.{is_in_range}
+use Rattle.std.specs.Prelude.{ℕ, Bool, false, List, [], ◌∷◌, codes, ◌==◌, ◌&&◌, ◌||◌, nat_lt, nat_le, nat_eq, not, map, if◌then◌else◌, Option, Some, None, unwrap_or}
 use Rattle.std.specs.List.{list_any, starts_with}
-use Rattle.std.specs.Char.{to_ascii_lowercase, to_ascii_uppercase, is_ascii_alphabetic}
+use Rattle.std.specs.Map.{lookup}
+use Rattle.std.specs.Option.{option_map_or}
+use Rattle.std.specs.Char.{to_ascii_lowercase, to_ascii_uppercase, is_ascii_alphabetic, is_ascii_digit, is_ascii_graphic, is_ascii_lowercase, is_ascii_uppercase}
 use Rattle.unicode.specs.CaseFolding.{fold_pairs}
 use Rattle.unicode.specs.Perl.{is_digit_char, is_space_char, is_word_char}
 use Rattle.unicode.specs.Sets.{in_set}
@@ -17,14 +20,11 @@ Set = ℕ → Bool
 abbrev pub none_of : Set
 none_of c = false
 
-abbrev pub is_between : ℕ → ℕ → Set
-is_between low high c = nat_le low c && nat_le c high
-
 abbrev pub union : Set → Set → Set
 union s t c = s c || t c
 
 abbrev pub is_scalar : ℕ → Bool
-is_scalar c = nat_lt c 0xD800 || is_between 0xE000 0x10FFFF c
+is_scalar c = nat_lt c 0xD800 || is_in_range 0xE000 0x10FFFF c
 
 -- a character, or with `u` off a byte
 abbrev pub is_any : Flags → Set
@@ -34,8 +34,7 @@ abbrev pub complement : Flags → Set → Set
 complement k s c = is_any k c && not (s c)
 
 abbrev pub negated_if : Bool → Flags → Set → Set
-negated_if true k s = complement k s
-negated_if false k s = s
+negated_if negated k s = if negated then complement k s else s
 
 -- FOLDING
 -- a pair leads to it from a member
@@ -60,46 +59,30 @@ abbrev pub folds_with_another : Flags → ℕ → Bool
 folds_with_another k c = if k.unicode then list_any (λ (p : ℕ × ℕ). p.0 == c) fold_pairs else is_ascii_alphabetic c
 
 -- NAMED SETS
-abbrev pub is_ascii_digit : Set
-is_ascii_digit = is_between 48 57
-
-abbrev pub is_ascii_upper : Set
-is_ascii_upper = is_between 65 90
-
-abbrev pub is_ascii_lower : Set
-is_ascii_lower = is_between 97 122
-
-abbrev pub is_ascii_letter : Set
-is_ascii_letter c = is_ascii_upper c || is_ascii_lower c
-
 -- `[0-9A-Za-z_]`
 abbrev pub is_ascii_word : Set
-is_ascii_word c = is_ascii_digit c || is_ascii_letter c || (c == 95)
+is_ascii_word c = is_ascii_digit c || is_ascii_alphabetic c || (c == 95)
 
 -- `[\t\n\v\f\r ]`
 abbrev pub is_ascii_space : Set
-is_ascii_space c = is_between 9 13 c || (c == 32)
-
-abbrev pub is_ascii_graph : Set
-is_ascii_graph = is_between 33 126
+is_ascii_space c = is_in_range 9 13 c || (c == 32)
 
 abbrev pub same_text : List ℕ → List ℕ → Bool
 same_text a b = starts_with nat_eq a b && starts_with nat_eq b a
 
 -- the first value with a name
 abbrev pub value_of : {A : Type 0} → List (List ℕ × A) → List ℕ → Option A
-value_of [] name = None
-value_of (row ∷ rows) name = if same_text row.0 name then Some row.1 else value_of rows name
+value_of rows name = lookup (λ other. same_text other name) rows
 
 -- the names in `[: :]`
 abbrev pub ascii_names : List (List ℕ × Set)
 ascii_names =
-    (codes "alnum", λ c. is_ascii_digit c || is_ascii_letter c) ∷ (codes "alpha", is_ascii_letter) ∷ (codes "ascii", λ c. nat_lt c 128)
+    (codes "alnum", λ c. is_ascii_digit c || is_ascii_alphabetic c) ∷ (codes "alpha", is_ascii_alphabetic) ∷ (codes "ascii", λ c. nat_lt c 128)
     ∷ (codes "blank", λ c. (c == 9) || (c == 32)) ∷ (codes "cntrl", λ c. nat_lt c 32 || (c == 127)) ∷ (codes "digit", is_ascii_digit)
-    ∷ (codes "graph", is_ascii_graph) ∷ (codes "lower", is_ascii_lower) ∷ (codes "print", is_between 32 126)
-    ∷ (codes "punct", λ c. is_ascii_graph c && not (is_ascii_digit c || is_ascii_letter c)) ∷ (codes "space", is_ascii_space)
-    ∷ (codes "upper", is_ascii_upper) ∷ (codes "word", is_ascii_word)
-    ∷ (codes "xdigit", λ c. is_ascii_digit c || is_between 65 70 c || is_between 97 102 c) ∷ []
+    ∷ (codes "graph", is_ascii_graphic) ∷ (codes "lower", is_ascii_lowercase) ∷ (codes "print", is_in_range 32 126)
+    ∷ (codes "punct", λ c. is_ascii_graphic c && not (is_ascii_digit c || is_ascii_alphabetic c)) ∷ (codes "space", is_ascii_space)
+    ∷ (codes "upper", is_ascii_uppercase) ∷ (codes "word", is_ascii_word)
+    ∷ (codes "xdigit", λ c. is_ascii_digit c || is_in_range 65 70 c || is_in_range 97 102 c) ∷ []
 
 -- the names of general categories, in lower case
 abbrev pub category_names : List (List ℕ × Named)
@@ -120,13 +103,8 @@ category_names =
     ∷ (codes "cc", Category category.Control) ∷ (codes "cf", Category category.Format) ∷ (codes "co", Category category.PrivateUse)
     ∷ (codes "cn", Category category.Unassigned) ∷ []
 
-abbrev pub is_some : {A : Type 0} → Option A → Bool
-is_some (Some a) = true
-is_some None = false
-
 abbrev pub or_none : Option Set → Set
-or_none (Some s) = s
-or_none None = none_of
+or_none s = unwrap_or s none_of
 
 abbrev pub ascii_set : List ℕ → Set
 ascii_set name = or_none (value_of ascii_names name)
@@ -139,8 +117,7 @@ abbrev pub characters : Set → Set
 characters s c = is_scalar c && s c
 
 abbrev pub named_set : Option Named → Set
-named_set (Some name) = characters (in_set name)
-named_set None = none_of
+named_set name = option_map_or (λ (n : Named). characters (in_set n)) name none_of
 
 -- closed under folding
 abbrev pub closed_category : Flags → List ℕ → Set

@@ -1,11 +1,14 @@
 -- How a pattern is put together, how it is written, and where it may stand.
-use Rattle.std.specs.Prelude.{◌≡◌, ℕ, ◌+◌, ◌*◌, ◌^◌, Bool, true, false, List, [], ◌∷◌, ◌++◌, codes, ◌&&◌, ◌||◌, nat_lt, nat_le, not}
+use Rattle.std.specs.Char.{is_ascii_digit}
+use Rattle.std.specs.Prelude.{◌≡◌, ℕ, ◌^◌, Bool, true, false, List, [], ◌∷◌, ◌++◌, codes, ◌&&◌, ◌||◌, nat_lt, nat_le, not, if◌then◌else◌}
 use Rattle.std.specs.List.{list_any}
-use Rattle.std.specs.Char.{digit_value}
+use Rattle.std.specs.Str.Parse.{digits_value_after}
 use Rattle.unicode.specs.Binary.{is_white_space}
+use Rattle.hir_tree.specs.declared.look.Look.{Look}
+use Rattle.hir_tree.specs.declared.look.Look.TheVariants as looks
 use Rattle.pattern_syntax.specs.declared.flags.Flags.{Flags}
 use Rattle.pattern_syntax.specs.Flags.{FlagList, apply, letters_of, write_flags, FineFlags, Blank, write_blanks, FineBlanks, has, begins, rest, is_nil}
-use Rattle.pattern_syntax.specs.Sets.{is_ascii_digit, is_ascii_word}
+use Rattle.pattern_syntax.specs.Sets.{is_ascii_word}
 use Rattle.pattern_syntax.specs.Atom.{Atom, character, write_atom, FineAtom, all}
 use Rattle.pattern_syntax.specs.Class.{Head, Inside, write_head, write_inside, FineHead, FineInside, is_blank_start}
 
@@ -67,18 +70,22 @@ pub data Syntax : Type 0 where
   single : Single → List Repeated → Syntax → Syntax
   group : Kind → Syntax → List Repeated → Syntax → Syntax
 
+-- how each is written, and which look it is, with `u` on or off
+abbrev pub edge_of : Edge → List ℕ × (Bool → Look)
+edge_of text_start = (codes "\\A", λ u. looks.Start)
+edge_of text_end = (codes "\\z", λ u. looks.End)
+edge_of edge = (codes "\\b", λ u. if u then looks.WordUnicode else looks.WordAscii)
+edge_of no_edge = (codes "\\B", λ u. if u then looks.WordUnicodeNegate else looks.WordAsciiNegate)
+edge_of word_start = (codes "\\b{start}", λ u. if u then looks.WordStartUnicode else looks.WordStartAscii)
+edge_of word_end = (codes "\\b{end}", λ u. if u then looks.WordEndUnicode else looks.WordEndAscii)
+edge_of half_start = (codes "\\b{start-half}", λ u. if u then looks.WordStartHalfUnicode else looks.WordStartHalfAscii)
+edge_of half_end = (codes "\\b{end-half}", λ u. if u then looks.WordEndHalfUnicode else looks.WordEndHalfAscii)
+edge_of left = (codes "\\<", λ u. if u then looks.WordStartUnicode else looks.WordStartAscii)
+edge_of right = (codes "\\>", λ u. if u then looks.WordEndUnicode else looks.WordEndAscii)
+
 -- THE TEXT: each is written before a text `t`
 abbrev pub write_edge : Edge → List ℕ → List ℕ
-write_edge text_start t = codes "\\A" ++ t
-write_edge text_end t = codes "\\z" ++ t
-write_edge edge t = codes "\\b" ++ t
-write_edge no_edge t = codes "\\B" ++ t
-write_edge word_start t = codes "\\b{start}" ++ t
-write_edge word_end t = codes "\\b{end}" ++ t
-write_edge half_start t = codes "\\b{start-half}" ++ t
-write_edge half_end t = codes "\\b{end-half}" ++ t
-write_edge left t = codes "\\<" ++ t
-write_edge right t = codes "\\>" ++ t
+write_edge e t = (edge_of e).0 ++ t
 
 abbrev pub write_single : Single → List ℕ → List ℕ
 write_single (atom a) t = write_atom a t
@@ -100,16 +107,14 @@ write_count (at_least n) t = codes "{" ++ write_number n (codes ",}" ++ t)
 write_count (between n m) t = codes "{" ++ write_number n (codes "," ++ write_number m (codes "}" ++ t))
 
 abbrev pub write_swap : Bool → List ℕ → List ℕ
-write_swap true t = codes "?" ++ t
-write_swap false t = t
+write_swap swaps t = if swaps then codes "?" ++ t else t
 
 abbrev pub write_repeats : List Repeated → List ℕ → List ℕ
 write_repeats [] t = t
 write_repeats (r ∷ rs) t = write_blanks r.before (write_count r.count (write_blanks r.gap (write_swap r.swaps (write_repeats rs t))))
 
 abbrev pub write_p : Bool → List ℕ → List ℕ
-write_p true t = codes "P" ++ t
-write_p false t = t
+write_p p t = if p then codes "P" ++ t else t
 
 abbrev pub write_kind : Kind → List ℕ → List ℕ
 write_kind numbered t = codes "(" ++ t
@@ -147,8 +152,7 @@ FineSingle k (class h p) t = FineHead k h (write_inside p t) × FineInside k p t
 FineSingle k _ t = Unit {0}
 
 abbrev pub value_from : ℕ → List ℕ → ℕ
-value_from high [] = high
-value_from high (d ∷ ds) = value_from (high * 10 + digit_value d) ds
+value_from high ds = digits_value_after 10 high ds
 
 abbrev pub value : Number → ℕ
 value n = value_from 0 n.digits
@@ -164,14 +168,10 @@ fine_count (between n m) = fine_number n && fine_number m && nat_le (value n) (v
 fine_count _ = true
 
 abbrev pub is_braced : Count → Bool
-is_braced (exactly n) = true
-is_braced (at_least n) = true
-is_braced (between n m) = true
-is_braced _ = false
+is_braced n = begins 123 (write_count n [])
 
 abbrev pub is_optional : Count → Bool
-is_optional optional = true
-is_optional _ = false
+is_optional n = begins 63 (write_count n [])
 
 -- a `?` that comes next swaps the greed
 abbrev pub swaps_next : Count → List Repeated → Bool

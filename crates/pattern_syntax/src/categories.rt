@@ -1,6 +1,6 @@
 //! General categories: `\p` and `\P`.
 
-ghost use Rattle.std.specs.Prelude.{◌≡◌, ◌==◌, true, false, IfOk, IfSome, IfNone, codes};
+ghost use Rattle.std.specs.Prelude.{◌≡◌, ◌==◌, true, false, IfOk, IfSome, IfNone, codes, is_some};
 ghost use Rattle.pattern_syntax.specs.Flags.{has};
 ghost use Rattle.pattern_syntax.specs.Sets as sets;
 ghost use Rattle.pattern_syntax.specs.Readers.{IsSet};
@@ -26,8 +26,8 @@ fn named_set(
     name: &[char],
     flags: Flags,
 ) -> Result<Option<Class>, NoMemory>
-    ensures found { IfOk result (λ found. IfSome found (λ set. IsSet set (sets.category_set flags (letter == 80) name.now) × (sets.is_some (sets.category_named name.now) ≡ true))) }
-    ensures none { IfOk result (λ found. IfNone found (sets.is_some (sets.category_named name.now) ≡ false)) }
+    ensures found { IfOk result (λ found. IfSome found (λ set. IsSet set (sets.category_set flags (letter == 80) name.now) × (is_some (sets.category_named name.now) ≡ true))) }
+    ensures none { IfOk result (λ found. IfNone found (is_some (sets.category_named name.now) ≡ false)) }
 {
     let Some(set) = category_set(alloc, name, flags)? else {
         return Ok(None);

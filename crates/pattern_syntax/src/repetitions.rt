@@ -1,9 +1,9 @@
 //! Repetitions.
 
+ghost use Rattle.std.specs.Char.{is_ascii_digit};
 ghost use Rattle.std.specs.Prelude.{◌≡◌, ◌<◌, ◌≤◌, true, IfOk, SomeIff, drop, length, ◌^◌};
 ghost use Rattle.pattern_syntax.specs.Atom.{all};
 ghost use Rattle.pattern_syntax.specs.Flags.{begins};
-ghost use Rattle.pattern_syntax.specs.Sets.{is_ascii_digit};
 ghost use Rattle.pattern_syntax.specs.Syntax.{value_from};
 ghost use Rattle.pattern_syntax.specs.Readers.{IsRepetitionRead};
 ghost use Rattle.pattern_syntax.specs.CountReaders.{IsNumberRead, IsCountRead, IsSwapRead};

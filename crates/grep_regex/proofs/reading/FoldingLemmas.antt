@@ -3,12 +3,12 @@ use Rattle.std.proofs.Common.{◌≡◌, ℕ, ◌+◌, ◌==◌, ◌&&◌, max, 
 use Rattle.pattern_syntax.specs.declared.flags.Flags.{Flags}
 use Rattle.pattern_syntax.specs.Flags.{FlagList, apply, set_flag, set_flags, letters_of, Blank, white, comment, write_blanks, FineBlanks}
 use Rattle.pattern_syntax.specs.Atom.{Atom, character, escaped, control, coded, braced, octal, perl, category, category_braced, single_of, Digit, write_digits, write_atom, FineSpaced, FineBraced, FineAtom}
-use Rattle.pattern_syntax.specs.Class.{Head, Inside, atom_set, close, pass as pass_in, one, range, named as named_class, nested, operation, write_after, write_dashes, write_inside, FineMember, FineSecond, FineCaret, FineDashes, FineBracket, FineHead, FineInside}
+use Rattle.pattern_syntax.specs.Class.{Head, Inside, atom_set, close, pass as pass_in, one, range, named as named_class, nested, operation, write_after, write_dashes, write_inside, FineMember, FineSecond, FineCaret, FineDashes, FineBracket, FineHead, FineInside, xor}
 use Rattle.pattern_syntax.specs.Flags.{is_nil}
 use Rattle.pattern_syntax.specs.Syntax.{Syntax, end, bar, pass, set, single, group, Single, atom, dot, caret, dollar, look, class, Count, optional, star, plus, exactly, at_least, between, value, Kind, numbered, named, flagged, Repeated, inside_flags, write, write_count, write_swap, write_repeats, Fine, FineAlone, FineSingle, FineRepeats, FineKind}
 use Rattle.pattern_syntax.specs.Sets.{Set, closed, folds_with_another}
 use Rattle.pattern_syntax.specs.SetTree.{SetTree, SetTrees, empty, literal, repetition, capture, concat, alternation, more, trees}
-use Rattle.pattern_syntax.specs.Reads.{Part, Row, Found, at_depth, in_front, row_of, united, sequence, joined, literal_bytes, class_tree, repeat, count_tree, xor, grouped, own, captures, put, one_tree, single_part, branches, found_of}
+use Rattle.pattern_syntax.specs.Reads.{Part, Row, Found, at_depth, in_front, row_of, united, sequence, joined, literal_bytes, class_tree, repeat, count_tree, grouped, own, captures, put, one_tree, single_part, branches, found_of}
 use Rattle.grep_regex.specs.Readings.{IsAlike, FoldingChangesClassesAlone, outline, outlines}
 
 -- flags with letters folded or as they are

@@ -11,7 +11,8 @@ use Rattle.pattern_syntax.specs.Atom.{Atom, single_of}
 use Rattle.pattern_syntax.specs.Sets.{Set, closed, folds_with_another}
 use Rattle.pattern_syntax.specs.Syntax.{Syntax, end, bar, pass, set, single, group, Single, atom, dot, caret, dollar, look as look_at, class, Count, optional, star, plus, exactly, at_least, between, Kind, numbered, named, flagged, Repeated, inside_flags}
 use Rattle.pattern_syntax.specs.SetTree.{SetTree, SetTrees, empty, literal, chars, bytes, looks, repetition, capture, concat, alternation, none, more, trees, with_sets, all_with_sets}
-use Rattle.pattern_syntax.specs.Reads.{Part, Row, Found, Reads, at_depth, row_of, united, sequence, joined, literal_bytes, class_tree, repeat, count_tree, xor, own, captures, grouped, put, one_tree, single_part, branches, own_name, names_of}
+use Rattle.pattern_syntax.specs.Class.{xor}
+use Rattle.pattern_syntax.specs.Reads.{Part, Row, Found, Reads, at_depth, row_of, united, sequence, joined, literal_bytes, class_tree, repeat, count_tree, own, captures, grouped, put, one_tree, single_part, branches, own_name, names_of}
 use Rattle.grep_regex.specs.Options.{names_in, names_in_each}
 
 -- the number of a group, and its name if it has one

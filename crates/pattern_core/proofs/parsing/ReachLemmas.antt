@@ -10,7 +10,8 @@ use Rattle.pattern_syntax.specs.declared.readings.Repetition.{Repetition}
 use Rattle.pattern_syntax.specs.Flags.{seen}
 use Rattle.pattern_syntax.specs.Syntax.{Repeated, FineSingle}
 use Rattle.pattern_syntax.specs.SetTree.{repetition}
-use Rattle.pattern_syntax.specs.Reads.{Part, Found, Reads, at_depth, single_part, single_literals, repeat, xor}
+use Rattle.pattern_syntax.specs.Class.{xor}
+use Rattle.pattern_syntax.specs.Reads.{Part, Found, Reads, at_depth, single_part, single_literals, repeat}
 use Rattle.pattern_syntax.specs.Tokens as token
 use Rattle.pattern_syntax.specs.Tokens.{Token, write_token, FineToken, FineRepeated, write_repeated}
 use Rattle.pattern_syntax.specs.Readers as readers

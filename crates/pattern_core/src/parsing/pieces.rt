@@ -3,7 +3,8 @@
 ghost use Rattle.std.specs.Prelude.{◌≡◌, ◌+◌, ℕ, IfOk, not};
 ghost use Rattle.pattern_syntax.specs.SetTree as set_tree;
 ghost use Rattle.pattern_syntax.specs.SetTree.{SetTree, SetTrees};
-ghost use Rattle.pattern_syntax.specs.Reads.{Part, Row as Parts, at_depth, no_parts, united, sequence, choice, grouped, xor};
+ghost use Rattle.pattern_syntax.specs.Class.{xor};
+ghost use Rattle.pattern_syntax.specs.Reads.{Part, Row as Parts, at_depth, no_parts, united, sequence, choice, grouped};
 ghost use Rattle.pattern_syntax.specs.Syntax.{Kind};
 ghost use Rattle.pattern_core.specs.Progress as progress;
 ghost use Rattle.pattern_core.specs.Parsing.{IsPart, IsRow, IsLevel, IsGroup, part_of, row_of};

@@ -1,4 +1,5 @@
 -- General categories.
+use Rattle.std.specs.Prelude.{is_some}
 use Rattle.std.proofs.Common.{◌≡◌, ◌≤◌, ℕ, ◌+◌, Bool, true, false, List, [], ◌∷◌, codes, ◌==◌, ◌&&◌, length, drop, refl, sym, ap, ◌∙◌, subst, true≢false, arith, not, eq-eqb}
 use Rattle.std.proofs.lemmas.Bool.{and_parts, and_from}
 use Rattle.regex_class.specs.declared.Class.{Class}
@@ -6,7 +7,7 @@ use Rattle.regex_class.specs.Ranges.{in_ranges}
 use Rattle.pattern_syntax.specs.declared.flags.Flags.{Flags}
 use Rattle.pattern_syntax.specs.declared.readings.Member.TheVariants.{Set}
 use Rattle.pattern_syntax.specs.Flags.{write_blanks, FineBlanks, has}
-use Rattle.pattern_syntax.specs.Sets.{is_some, is_any, complement, negated_if, category_named, closed_category, category_set}
+use Rattle.pattern_syntax.specs.Sets.{is_any, complement, negated_if, category_named, closed_category, category_set}
 use Rattle.pattern_syntax.specs.Atom.{Atom, category, category_braced, Digit, spelt, write_atom, FineAtom}
 use Rattle.pattern_syntax.specs.Readers.{EscapeAt, IsSet}
 use Rattle.pattern_syntax.specs.Escapes.{IsEscapeLetter, Spells, SpelledAt, BracesAt, in_braces, IsCategory, IsCategoryBraced}

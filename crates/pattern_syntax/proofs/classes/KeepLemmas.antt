@@ -1,4 +1,5 @@
 -- What the steps of the reading keep.
+use Rattle.std.specs.Prelude.{is_some}
 use Rattle.std.proofs.Common.{◌≡◌, ◌<◌, ◌≤◌, ℕ, zero, suc, ◌+◌, Bool, true, false, ◌&&◌, List, [], ◌∷◌, ◌++◌, drop, length, map, get_or, None, refl, sym, ap, ◌∙◌, subst, arith}
 use Rattle.std.proofs.lemmas.Bool.{and_from}
 use Rattle.std.proofs.lemmas.List.{map-append}
@@ -9,7 +10,7 @@ use Rattle.pattern_syntax.specs.declared.readings.Literals.{Literals}
 use Rattle.pattern_syntax.specs.declared.classes.open_class.OpenClass.{OpenClass}
 use Rattle.pattern_syntax.specs.declared.classes.steps.Reading.{Reading}
 use Rattle.pattern_syntax.specs.Flags.{seen}
-use Rattle.pattern_syntax.specs.Sets.{ascii_names, value_of, is_some}
+use Rattle.pattern_syntax.specs.Sets.{ascii_names, value_of}
 use Rattle.pattern_syntax.specs.Atom.{Atom, write_atom, single_of}
 use Rattle.pattern_syntax.specs.Class.{Head, close, Operation, write_head, write_inside, write_name, write_operation, FineHead, FineInside, FineSecond, fits, in_order, makes_range, begins_name, is_negated, head_literals, inside_literals}
 use Rattle.pattern_syntax.specs.ClassProgress.{ClassPart, ClassLevel, start, literals_in, whole_class, with_member, bracketed, with_operation, AfterClass, RestClass, leave_class}

@@ -1,11 +1,12 @@
 -- How a class goes on behind white space, at a member, at a name, at a nested class, and at the end of the text.
+use Rattle.std.specs.Prelude.{is_some}
 use Rattle.std.proofs.Common.{◌≡◌, ℕ, Bool, true, false, not, ◌&&◌, ◌||◌, ◌==◌, ◌⊎◌, inl, inr, ⊎_elim, List, [], ◌∷◌, ◌++◌, codes, Option, Some, None, refl, sym, ap, ◌∙◌, subst, eqb-true, true≢false}
 use Rattle.std.proofs.lemmas.Bool.{and_parts, and_from, or_cases}
 use Rattle.ucd_props.proofs.Computing.{ucd_props}
 use Rattle.unicode.specs.Binary.{is_white_space}
 use Rattle.pattern_syntax.specs.declared.flags.Flags.{Flags}
 use Rattle.pattern_syntax.specs.Flags.{Blank, white, comment, write_blanks, FineBlanks, has, begins, rest, seen}
-use Rattle.pattern_syntax.specs.Sets.{ascii_names, value_of, is_some}
+use Rattle.pattern_syntax.specs.Sets.{ascii_names, value_of}
 use Rattle.pattern_syntax.specs.Atom.{Atom, character, escaped, control, coded, braced, octal, perl, category, category_braced, write_atom, FineAtom, single_of}
 use Rattle.pattern_syntax.specs.Class.{Head, Inside, close, pass, one, range, named, nested, operation, write_inside, write_head, write_name, FineInside, FineHead, FineMember, FineSecond, fits, in_order, is_member, is_second, is_blank_start, makes_range, begins_name, is_negated}
 use Rattle.pattern_syntax.specs.ClassProgress.{ClassLevel, start, whole_class, AfterClass, RestClass, leave_class}

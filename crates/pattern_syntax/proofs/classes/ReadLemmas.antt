@@ -1,6 +1,6 @@
 -- What the parts of the code read.
 use Rattle.std.proofs.Common.{◌≡◌, ◌<◌, ◌≤◌, ⊎_elim, ℕ, suc, ◌+◌, ◌-◌, Bool, true, false, ◌==◌, ◌&&◌, ◌||◌, not, nat_lt, List, [], ◌∷◌, ◌++◌, codes, drop, take, length, get_or, Option, Some, None, refl, sym, ap, ap₂, ◌∙◌, subst, true≢false, eqb-true, eq-eqb, arith}
-use Rattle.std.specs.Option.{is_some as there_is, unwrap_or}
+use Rattle.std.specs.Option.{is_some, unwrap_or}
 use Rattle.std.proofs.lemmas.Bool.{and_parts}
 use Rattle.std.proofs.lemmas.List.{length-drop, drop-drop, take_all, append_cancel_right}
 use Rattle.std.proofs.Math.ListN.{drop_of_length-le}
@@ -12,7 +12,7 @@ use Rattle.pattern_syntax.specs.declared.classes.members.ClassMember.TheVariants
 use Rattle.regex_class.specs.declared.Class.{Class}
 use Rattle.regex_class.specs.Ranges.{in_ranges}
 use Rattle.pattern_syntax.specs.Flags.{Blank, write_blanks, FineBlanks, has, begins, rest, seen, is_nil}
-use Rattle.pattern_syntax.specs.Sets.{is_some, ascii_names, value_of, ascii_set, negated_if, complement, is_any}
+use Rattle.pattern_syntax.specs.Sets.{ascii_names, value_of, ascii_set, negated_if, complement, is_any}
 use Rattle.pattern_syntax.specs.Atom.{Atom, character, write_atom, FineAtom, single_of, escaped, control, coded, braced, octal, perl, category, category_braced}
 use Rattle.pattern_syntax.specs.Class.{write_after, write_dashes, FineCaret, FineDashes, FineBracket, fits, is_member, is_second, is_blank_start, makes_range, begins_name}
 use Rattle.pattern_syntax.specs.ClassReading.{NextAt, IsNextRead, HeadAt, NameAt, IsNameOpen, open_name, after_letters, IsAtomAt, MemberAt, IsMemberRead, SecondAt, IsSecondRead, behind_dash, begins_member}
@@ -67,10 +67,6 @@ record AfterAt (k : Flags) (text : List ℕ) (at c : ℕ) (is : Bool) (next : �
   fine : Follows k c blanks (drop next text)
   onward : at ≤ next
   within : next ≤ length text
-
-pub same_some : (o : Option ℕ) → there_is o ≡ is_some o
-same_some (Some x) = refl
-same_some None = refl
 
 abbrev pub place_or : Option ℕ → ℕ → ℕ
 place_or (Some next) at = next

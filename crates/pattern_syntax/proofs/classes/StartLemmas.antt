@@ -1,4 +1,5 @@
 -- What a class begins with.
+use Rattle.std.specs.Prelude.{is_some}
 use Rattle.std.proofs.Common.{◌≡◌, ◌<◌, ◌≤◌, ℕ, ◌+◌, Bool, true, false, ◌||◌, ◌&&◌, ◌==◌, not, nat_lt, if◌then◌else◌, List, [], ◌∷◌, ◌++◌, length, map, refl, sym, ap, ap₂, ◌∙◌, arith}
 use Rattle.std.specs.List.{list_any}
 use Rattle.std.specs.Int.{from_bool}
@@ -6,7 +7,6 @@ use Rattle.std.proofs.lemmas.Bool.Decides.{nat_tests}
 use Rattle.unicode.specs.Binary.{is_uppercase}
 use Rattle.pattern_syntax.specs.declared.classes.heads.ClassHead.{ClassHead}
 use Rattle.pattern_syntax.specs.Flags.{Blank, is_nil}
-use Rattle.pattern_syntax.specs.Sets.{is_some}
 use Rattle.pattern_syntax.specs.Class.{Head, head_set, head_count, is_negated, one_if}
 use Rattle.pattern_syntax.specs.ClassProgress.{start}
 use Rattle.pattern_syntax.specs.ClassReading.{framed, held, IsHead}

@@ -1,11 +1,12 @@
 -- The steps at members, ranges and names.
+use Rattle.std.specs.Prelude.{is_some}
 use Rattle.std.proofs.Common.{◌≡◌, ◌<◌, ◌≤◌, ℕ, Bool, true, false, ◌&&◌, List, [], ◌∷◌, ◌++◌, drop, length, get_or, Some, None, refl, sym, ap, ap₂, ◌∙◌, leb-true, le-leb, arith}
 use Rattle.regex_class.specs.declared.Class.{Class}
 use Rattle.regex_class.specs.Ranges.{in_ranges}
 use Rattle.pattern_syntax.specs.declared.flags.Flags.{Flags}
 use Rattle.pattern_syntax.specs.declared.classes.members.ClassMember.TheVariants as class_member
 use Rattle.pattern_syntax.specs.declared.classes.steps.Reading.{Reading}
-use Rattle.pattern_syntax.specs.Sets.{Set, is_some}
+use Rattle.pattern_syntax.specs.Sets.{Set}
 use Rattle.pattern_syntax.specs.Atom.{Atom, single_of}
 use Rattle.pattern_syntax.specs.Class.{fits, in_order, makes_range, atom_set, range_set, matches_one, listed}
 use Rattle.pattern_syntax.specs.ClassProgress.{ClassLevel, literals_in, with_member}

@@ -2,6 +2,7 @@
 use Rattle.std.proofs.Common.{◌≡◌, ◌<◌, ◌≤◌, ℕ, Bool, true, false, ◌==◌, ◌&&◌, ◌||◌, not, nat_le, List, [], ◌∷◌, ◌++◌, Option, Some, refl, sym, ap, ap₂, ◌∙◌, eqb-true, eq-eqb, leb-true, le-leb, arith}
 use Rattle.std.proofs.lemmas.Bool.{and_parts, and_from}
 use Rattle.std.proofs.lemmas.Bool.Decides.{nat_tests}
+use Rattle.std.specs.Int.{is_in_range}
 use Rattle.std.specs.Char.{IsScalar}
 use Rattle.ucd_derived.proofs.Computing.{ucd_derived}
 use Rattle.unicode.specs.Binary.{is_uppercase}
@@ -10,9 +11,9 @@ use Rattle.regex_class.specs.Ranges.{in_ranges, in_range, HasExactly, bool_xor}
 use Rattle.regex_class.proofs.RangesLemmas.{in_ranges-append, in_ranges-above_max, or-false}
 use Rattle.pattern_syntax.specs.declared.flags.Flags.{Flags}
 use Rattle.pattern_syntax.specs.declared.readings.Literals.{Literals}
-use Rattle.pattern_syntax.specs.Sets.{Set, none_of, union, is_between, complement, negated_if}
+use Rattle.pattern_syntax.specs.Sets.{Set, none_of, union, complement, negated_if}
 use Rattle.pattern_syntax.specs.Atom.{Atom, character, escaped, control, coded, braced, octal, perl, category, category_braced, single_of}
-use Rattle.pattern_syntax.specs.Class.{both, minus, either, Waiting, combined, same, matches_one, range_set, atom_set}
+use Rattle.pattern_syntax.specs.Class.{both, minus, either, Waiting, combined, xor, matches_one, range_set, atom_set}
 use Rattle.pattern_syntax.specs.ClassProgress.{part_of, literals_in, in_both}
 use Rattle.pattern_syntax.specs.ClassReading.{Frame, framed, held}
 use Rattle.pattern_syntax.specs.Readers.{IsSet}
@@ -73,7 +74,7 @@ one_range : (a b c : ℕ) → in_ranges ((a, b) ∷ []) c ≡ (nat_le a c && nat
 unfolding in_ranges in_range
 one_range a b c = or-false (nat_le a c && nat_le c b)
 
-between_at : (a b c : ℕ) → b ≤ 0x10_FFFF → held ((a, b) ∷ []) c ≡ is_between a b c
+between_at : (a b c : ℕ) → b ≤ 0x10_FFFF → held ((a, b) ∷ []) c ≡ is_in_range a b c
 between_at a b c h =
     ap (λ x. nat_le c 0x10_FFFF && x) (one_range a b c)
     ∙ same_test (nat_le c 0x10_FFFF && (nat_le a c && nat_le c b)) (nat_le a c && nat_le c b)
@@ -85,9 +86,9 @@ between_at a b c h =
 pub range_held : (a b : ℕ) → b ≤ 0x10_FFFF → held ((a, b) ∷ []) ≡ range_set (Some a) (Some b)
 range_held a b h = same_set _ _ (λ c. between_at a b c h)
 
-one_at : (a c : ℕ) → is_between a a c ≡ (c == a)
+one_at : (a c : ℕ) → is_in_range a a c ≡ (c == a)
 one_at a c =
-    same_test (is_between a a c) (c == a)
+    same_test (is_in_range a a c) (c == a)
     (λ e. let parts = and_parts (nat_le a c) (nat_le c a) e in
     let low : a ≤ c = leb-true a c parts.0 in
     let high : c ≤ a = leb-true c a parts.1 in
@@ -108,7 +109,7 @@ push_held old new c a b d e f g h =
 
 -- ---- operations
 
-xor_is : (a b : Bool) → bool_xor a b ≡ not (same a b)
+xor_is : (a b : Bool) → bool_xor a b ≡ xor a b
 xor_is true true = refl
 xor_is true false = refl
 xor_is false true = refl
@@ -126,7 +127,7 @@ pub one_alone : (class : Class) (a b : Class) → HasExactly class.ranges.items 
     → IsSet class (combined either (in_ranges a.ranges.items) (in_ranges b.ranges.items))
 one_alone class a b h =
     exact class _ (λ c le. h c le ∙ xor_is (in_ranges a.ranges.items c) (in_ranges b.ranges.items c))
-    (λ c above. ap₂ (λ x y. not (same x y)) (class_above a c above) (class_above b c above))
+    (λ c above. ap₂ xor (class_above a c above) (class_above b c above))
 
 -- ---- members
 

@@ -1,11 +1,13 @@
 -- Escapes of all kinds.
+use Rattle.std.specs.Int.{is_in_range}
+use Rattle.std.specs.Prelude.{is_some}
 use Rattle.std.proofs.Common.{◌≡◌, ℕ, ◌+◌, Bool, true, false, List, codes, ◌==◌, ◌||◌, not, nat_lt, if◌then◌else◌, Option, Some, None, refl, sym, ap, ◌∙◌, arith}
 use Rattle.std.proofs.lemmas.Bool.{and_parts}
 use Rattle.regex_class.specs.declared.Class.{Class}
 use Rattle.pattern_syntax.specs.declared.flags.Flags.{Flags}
 use Rattle.pattern_syntax.specs.declared.readings.Member.TheVariants.{Character, Set}
 use Rattle.pattern_syntax.specs.Flags.{has}
-use Rattle.pattern_syntax.specs.Sets.{is_between, is_some, perl_set}
+use Rattle.pattern_syntax.specs.Sets.{perl_set}
 use Rattle.pattern_syntax.specs.Atom.{escaped, control, perl, is_escapable, control_of}
 use Rattle.pattern_syntax.specs.Readers.{EscapeAt, IsSet}
 use Rattle.pattern_syntax.specs.Escapes.{IsEscapeLetter}
@@ -17,7 +19,7 @@ escaped_at k text at letter e h = record {
   goes_on = (omega arith, e.0);
   written = e.1;
   fine = h;
-  is = (refl, refl, sym (and_parts (nat_lt letter 128) (not (is_between 48 57 letter || is_between 65 90 letter || is_between 97 122 letter || (letter == 60) || (letter == 62))) h).0);
+  is = (refl, refl, sym (and_parts (nat_lt letter 128) (not (is_in_range 48 57 letter || is_in_range 65 90 letter || is_in_range 97 122 letter || (letter == 60) || (letter == 62))) h).0);
 }
 
 is_ascii_of : (o : Option ℕ) → Bool

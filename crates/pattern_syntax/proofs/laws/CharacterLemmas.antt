@@ -1,4 +1,6 @@
 -- Letters and digits, and lists of characters that a test holds of.
+use Rattle.std.specs.Int.{is_in_range}
+use Rattle.std.specs.Prelude.{is_some}
 use Rattle.std.proofs.Common.{◌≡◌, ℕ, zero, suc, ◌+◌, ◌<◌, ◌≤◌, Bool, true, false, List, [], ◌∷◌, codes, ◌==◌, ◌||◌, ◌&&◌, ◌⊎◌, ⊎_elim, not, nat_le, nat_lt, nat_eq, map, Option, Some, None, if◌then◌else◌, refl, sym, ap, ap₂, ◌∙◌, subst, true≢false, eqb-true, leb-true, arith}
 use Rattle.std.proofs.lemmas.Bool.{and_parts, or_cases}
 use Rattle.std.proofs.lemmas.Bool.Decides.{nat_tests}
@@ -7,7 +9,7 @@ use Rattle.std.specs.Char.{is_digit, to_ascii_lowercase}
 use Rattle.ucd_props.proofs.Computing.{ucd_props}
 use Rattle.unicode.specs.Binary.{is_white_space}
 use Rattle.pattern_syntax.specs.Flags.{has}
-use Rattle.pattern_syntax.specs.Sets.{is_between, same_text, value_of, is_some, category_names, category_named}
+use Rattle.pattern_syntax.specs.Sets.{same_text, value_of, category_names, category_named}
 use Rattle.pattern_syntax.specs.Atom.{all, control_of, coded_length}
 use Rattle.pattern_syntax.proofs.SameBlanks.{IsClear}
 
@@ -34,7 +36,7 @@ in_span p c low (suc n) above below every =
 
 -- an ASCII letter or digit
 abbrev pub is_solid : ℕ → Bool
-is_solid c = is_between 48 57 c || is_between 65 90 c || is_between 97 122 c
+is_solid c = is_in_range 48 57 c || is_in_range 65 90 c || is_in_range 97 122 c
 
 abbrev is_clear : ℕ → Bool
 is_clear c = not (is_white_space c) && not (c == 35)
@@ -51,18 +53,18 @@ lower_clear : all_from is_clear 97 26 ≡ true
 unfolding ucd_props
 lower_clear = refl
 
-is_within : (low high c : ℕ) → is_between low high c ≡ true → (low ≤ c) × (c ≤ high)
+is_within : (low high c : ℕ) → is_in_range low high c ≡ true → (low ≤ c) × (c ≤ high)
 is_within low high c h = let parts = and_parts (nat_le low c) (nat_le c high) h in (leb-true low c parts.0, leb-true c high parts.1)
 
-within_clear : (c low high n : ℕ) → all_from is_clear low n ≡ true → low + n ≡ high + 1 → is_between low high c ≡ true → is_clear c ≡ true
+within_clear : (c low high n : ℕ) → all_from is_clear low n ≡ true → low + n ≡ high + 1 → is_in_range low high c ≡ true → is_clear c ≡ true
 within_clear c low high n every e h = let w = is_within low high c h in in_span is_clear c low n w.0 (omega (w.1, e, arith)) every
 
 solid_is_clear : (c : ℕ) → is_solid c ≡ true → is_clear c ≡ true
 solid_is_clear c h =
     ⊎_elim
-    (λ more. ⊎_elim (within_clear c 48 57 10 digits_clear refl) (within_clear c 65 90 26 upper_clear refl) (or_cases (is_between 48 57 c) (is_between 65 90 c) more))
+    (λ more. ⊎_elim (within_clear c 48 57 10 digits_clear refl) (within_clear c 65 90 26 upper_clear refl) (or_cases (is_in_range 48 57 c) (is_in_range 65 90 c) more))
     (within_clear c 97 122 26 lower_clear refl)
-    (or_cases (is_between 48 57 c || is_between 65 90 c) (is_between 97 122 c) h)
+    (or_cases (is_in_range 48 57 c || is_in_range 65 90 c) (is_in_range 97 122 c) h)
 
 no_not : (b : Bool) → not b ≡ true → b ≡ false
 no_not true h = sym h
@@ -144,15 +146,15 @@ found_passes p (row ∷ rows) name every f =
     let parts = and_parts (p row.0) (names_pass p rows) every in
     found_by p name row.0 row.1 (value_of rows name) (same_text row.0 name) refl parts.0 (found_passes p rows name parts.1) f
 
-lower_solid_by : (c : ℕ) → is_between 97 122 (to_ascii_lowercase c) ≡ true → is_solid c ≡ true
+lower_solid_by : (c : ℕ) → is_in_range 97 122 (to_ascii_lowercase c) ≡ true → is_solid c ≡ true
 lower_solid_by c h = grind (arith, nat_tests)
 
-lower_solid : (cs : List ℕ) → all (is_between 97 122) (map to_ascii_lowercase cs) ≡ true → all is_solid cs ≡ true
+lower_solid : (cs : List ℕ) → all (is_in_range 97 122) (map to_ascii_lowercase cs) ≡ true → all is_solid cs ≡ true
 lower_solid [] h = refl
 lower_solid (c ∷ cs) h =
-    let parts = and_parts (is_between 97 122 (to_ascii_lowercase c)) (all (is_between 97 122) (map to_ascii_lowercase cs)) h in
+    let parts = and_parts (is_in_range 97 122 (to_ascii_lowercase c)) (all (is_in_range 97 122) (map to_ascii_lowercase cs)) h in
     ap₂ ◌&&◌ (lower_solid_by c parts.0) (lower_solid cs parts.1)
 
 -- a category's name is of letters
 pub category_solid : (name : List ℕ) → is_some (category_named name) ≡ true → all is_solid name ≡ true
-category_solid name h = lower_solid name (found_passes (all (is_between 97 122)) category_names (map to_ascii_lowercase name) refl h)
+category_solid name h = lower_solid name (found_passes (all (is_in_range 97 122)) category_names (map to_ascii_lowercase name) refl h)

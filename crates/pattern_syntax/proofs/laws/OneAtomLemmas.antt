@@ -1,4 +1,5 @@
 -- Escapes that are written at one place are one.
+use Rattle.std.specs.Prelude.{is_some}
 use Rattle.std.proofs.Common.{◌≡◌, ℕ, zero, suc, Bool, true, false, List, [], ◌∷◌, ◌++◌, codes, ◌==◌, ◌&&◌, ◌⊎◌, inl, inr, ⊎_elim, not, nat_le, nat_lt, length, refl, sym, ap, ap₂, ◌∙◌, subst, true≢false, eqb-true, arith}
 use Rattle.std.proofs.lemmas.Bool.{and_parts}
 use Rattle.std.proofs.lemmas.Bool.Decides.{nat_tests}
@@ -6,7 +7,7 @@ use Rattle.std.specs.Char.{is_digit}
 use Rattle.ucd_props.proofs.Computing.{ucd_props}
 use Rattle.pattern_syntax.specs.declared.flags.Flags.{Flags}
 use Rattle.pattern_syntax.specs.Flags.{Blank, white, comment, write_blanks, FineBlanks, has, is_nil}
-use Rattle.pattern_syntax.specs.Sets.{is_scalar, is_some, category_named}
+use Rattle.pattern_syntax.specs.Sets.{is_scalar, category_named}
 use Rattle.pattern_syntax.specs.Atom.{Digit, Atom, character, escaped, control, coded, braced, octal, perl, category, category_braced, write_digits, write_atom, is_escapable, is_octal_digit, octal_next, are_hex, spelt, all, number, control_of, coded_length, FineSpaced, FineBraced, FineAtom}
 use Rattle.pattern_syntax.specs.Readers.{IsEscape}
 use Rattle.pattern_syntax.proofs.BlanksLemmas.{apart}

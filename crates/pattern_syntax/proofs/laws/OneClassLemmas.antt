@@ -1,4 +1,5 @@
 -- Two classes at one place are one.
+use Rattle.std.specs.Prelude.{is_some}
 use Rattle.std.proofs.Common.{◌≡◌, ℕ, Bool, true, false, List, [], ◌∷◌, ◌++◌, codes, ◌==◌, ◌||◌, ◌&&◌, ◌⊎◌, inl, inr, ⊎_elim, if◌then◌else◌, nat_eq, Option, Some, None, refl, sym, ap, ap₂, ◌∙◌, subst, true≢false, arith}
 use Rattle.std.proofs.lemmas.Bool.{and_parts}
 use Rattle.std.proofs.lemmas.Bool.Decides.{nat_tests}
@@ -7,7 +8,7 @@ use Rattle.ucd_props.proofs.Computing.{ucd_props}
 use Rattle.unicode.specs.Binary.{is_white_space}
 use Rattle.pattern_syntax.specs.declared.flags.Flags.{Flags}
 use Rattle.pattern_syntax.specs.Flags.{Blank, white, comment, write_blanks, FineBlanks, has, begins, seen, is_nil}
-use Rattle.pattern_syntax.specs.Sets.{Set, ascii_names, value_of, is_some, same_text}
+use Rattle.pattern_syntax.specs.Sets.{Set, ascii_names, value_of, same_text}
 use Rattle.pattern_syntax.specs.Atom.{Atom, character, escaped, control, coded, braced, octal, perl, category, category_braced, write_atom, single_of, all, FineAtom}
 use Rattle.pattern_syntax.specs.Class.{Head, Inside, close, pass, one, range, named, nested, operation, Operation, both, minus, either, write_head, write_after, write_dashes, write_inside, write_name, write_operation, FineHead, FineCaret, FineDashes, FineBracket, FineInside, FineMember, FineSecond, is_member, is_blank_start, makes_range, begins_name, in_order, fits}
 use Rattle.pattern_syntax.specs.Readers.{IsEscape}

@@ -2,6 +2,7 @@
 use Rattle.std.proofs.Common.{◌≡◌, ℕ, ◌+◌, ◌<◌, ◌≤◌, Bool, true, false, not, List, [], ◌∷◌, ◌++◌, ◌==◌, ◌||◌, Option, Some, None, length, drop, refl, sym, ap, ap₂, ◌∙◌, subst, ⊎_elim, true≢false, arith, append_assoc, length-append, length-drop}
 use Rattle.std.proofs.lemmas.Bool.{and_parts, eqb-true, or_cases, or_from, leb-true, false_from_ne_true}
 use Rattle.std.proofs.lemmas.Str.{encode_ascii}
+use Rattle.std.specs.Char.{is_ascii_alphabetic, is_ascii_digit, is_ascii_lowercase, is_ascii_uppercase}
 use Rattle.std.specs.Prelude.{nat_le}
 use Rattle.std.specs.Str.{encode_utf8_all}
 use Rattle.std.specs.List.{slice_range}
@@ -10,7 +11,7 @@ use Rattle.pattern_syntax.specs.declared.readings.Opening.{Opening}
 use Rattle.pattern_syntax.specs.declared.readings.Opening.TheVariants as opening
 use Rattle.pattern_syntax.specs.Atom.{all}
 use Rattle.pattern_syntax.specs.Flags.{FlagList, letters_of, write_off, write_flags, FineFlags, begins, is_nil, clears_none}
-use Rattle.pattern_syntax.specs.Sets.{is_ascii_digit, is_ascii_upper, is_ascii_lower, is_ascii_letter, is_ascii_word}
+use Rattle.pattern_syntax.specs.Sets.{is_ascii_word}
 use Rattle.pattern_syntax.specs.Syntax.{write_p, is_name}
 use Rattle.pattern_syntax.specs.Runs.{is_flag, comes}
 use Rattle.pattern_syntax.specs.OpeningReaders.{ends_flags, FlagsAt, IsFlagsRead, IsAngleRead, NameAt, NamedAt, IsNamedRead, Marked, sets, plain, called, write_marked, FineMarked, IsMarked, MarkedAt, IsMarkedRead, IsFlagged, IsFlaggedRead}
@@ -80,10 +81,10 @@ word_below c h =
     ⊎_elim
     (λ u. let most : c ≤ 90 = leb-true c 90 (and_parts (nat_le 65 c) (nat_le c 90) u).1 in omega arith)
     (λ u. let most : c ≤ 122 = leb-true c 122 (and_parts (nat_le 97 c) (nat_le c 122) u).1 in omega arith)
-    (or_cases (is_ascii_upper c) (is_ascii_lower c) l))
-    (or_cases (is_ascii_digit c) (is_ascii_letter c) either))
+    (or_cases (is_ascii_uppercase c) (is_ascii_lowercase c) l))
+    (or_cases (is_ascii_digit c) (is_ascii_alphabetic c) either))
     (λ e. let same : c ≡ 95 = eqb-true c 95 e in omega arith)
-    (or_cases (is_ascii_digit c || is_ascii_letter c) (c == 95) h)
+    (or_cases (is_ascii_digit c || is_ascii_alphabetic c) (c == 95) h)
 
 -- the bytes of an ASCII word are its characters
 pub word_bytes : (cs : List ℕ) → all is_ascii_word cs ≡ true → encode_utf8_all cs ≡ cs

@@ -6,11 +6,10 @@ use Rattle.std.specs.Prelude.{nat_le}
 use Rattle.std.specs.List.{slice_range}
 use Rattle.ucd_props.proofs.Computing.{ucd_props}
 use Rattle.unicode.specs.Binary.{is_white_space}
-use Rattle.std.specs.Char.{digit_value}
+use Rattle.std.specs.Char.{digit_value, is_ascii_digit}
 use Rattle.pattern_syntax.specs.Atom.{all}
 use Rattle.pattern_syntax.specs.Flags.{is_nil}
 use Rattle.pattern_syntax.specs.Runs.{comes}
-use Rattle.pattern_syntax.specs.Sets.{is_ascii_digit}
 use Rattle.pattern_syntax.specs.Syntax.{Number, write_number, fine_number, value, value_from}
 use Rattle.pattern_syntax.specs.CountReaders.{WholeNumber, NumberAt}
 use Rattle.pattern_syntax.proofs.BlanksLemmas.{cut_at}

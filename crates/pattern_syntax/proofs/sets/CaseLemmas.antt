@@ -1,7 +1,7 @@
 -- Sets closed under folding.
 use Rattle.std.proofs.Common.{◌≡◌, ⊎_elim, ℕ, ◌+◌, ◌-◌, ◌<◌, ◌≤◌, Bool, true, false, not, ◌&&◌, ◌||◌, ◌==◌, nat_le, List, [], ◌∷◌, length, take, if◌then◌else◌, refl, sym, ap, ap₂, ◌∙◌, true≢false, leb-true, arith}
 use Rattle.std.specs.List.{list_all}
-use Rattle.std.specs.Char.{to_ascii_lowercase, to_ascii_uppercase, is_ascii_alphabetic}
+use Rattle.std.specs.Char.{to_ascii_lowercase, to_ascii_uppercase, is_ascii_alphabetic, is_ascii_lowercase, is_ascii_uppercase}
 use Rattle.std.proofs.lemmas.List.{take_all}
 use Rattle.std.proofs.lemmas.Bool.{and_parts, cases_Bool}
 use Rattle.std.proofs.lemmas.Bool.Decides.{nat_tests}
@@ -10,7 +10,7 @@ use Rattle.ucd_case.specs.FoldOtherRows.{fold_other_rows}
 use Rattle.regex_class.specs.Ranges.{in_range, in_ranges, range_at}
 use Rattle.regex_class.proofs.RangesLemmas.{in_ranges-more, in_ranges-nil}
 use Rattle.pattern_syntax.specs.declared.flags.Flags.{Flags}
-use Rattle.pattern_syntax.specs.Sets.{Set, image, closed, with_alike, with_cases, is_ascii_lower, is_ascii_upper}
+use Rattle.pattern_syntax.specs.Sets.{Set, image, closed, with_alike, with_cases}
 use Rattle.pattern_syntax.proofs.sets.MemberLemmas.{Ends}
 
 -- FOLDING OF CHARACTERS
@@ -39,13 +39,13 @@ alike_ends s ends c above = ap₂ ◌||◌ (ends c above) (image_ends fold_pairs
 
 -- the other case of an ASCII letter in the set
 abbrev pub cased : Set → Set
-cased s c = (is_ascii_lower c && s (c - 32)) || (is_ascii_upper c && s (c + 32))
+cased s c = (is_ascii_lowercase c && s (c - 32)) || (is_ascii_uppercase c && s (c + 32))
 
-lower_case : (s : Set) (c : ℕ) → is_ascii_lower c ≡ true → (s c || cased s c) ≡ with_cases s c
+lower_case : (s : Set) (c : ℕ) → is_ascii_lowercase c ≡ true → (s c || cased s c) ≡ with_cases s c
 lower_case s c lower =
     let low : 97 ≤ c = grind (arith, nat_tests) in
     let high : c ≤ 122 = grind (arith, nat_tests) in
-    let upper : is_ascii_upper c ≡ false = grind (arith, nat_tests) in
+    let upper : is_ascii_uppercase c ≡ false = grind (arith, nat_tests) in
     let letter : is_ascii_alphabetic c ≡ true = grind (arith, nat_tests) in
     let same : to_ascii_lowercase c ≡ c = grind (arith, nat_tests) in
     let other : to_ascii_uppercase c ≡ c - 32 = grind (arith, nat_tests) in
@@ -57,11 +57,11 @@ lower_case s c lower =
     mine_too false true = refl
     mine_too false false = refl
 
-upper_case : (s : Set) (c : ℕ) → is_ascii_upper c ≡ true → (s c || cased s c) ≡ with_cases s c
+upper_case : (s : Set) (c : ℕ) → is_ascii_uppercase c ≡ true → (s c || cased s c) ≡ with_cases s c
 upper_case s c upper =
     let low : 65 ≤ c = grind (arith, nat_tests) in
     let high : c ≤ 90 = grind (arith, nat_tests) in
-    let lower : is_ascii_lower c ≡ false = grind (arith, nat_tests) in
+    let lower : is_ascii_lowercase c ≡ false = grind (arith, nat_tests) in
     let letter : is_ascii_alphabetic c ≡ true = grind (arith, nat_tests) in
     let other : to_ascii_lowercase c ≡ c + 32 = grind (arith, nat_tests) in
     let same : to_ascii_uppercase c ≡ c = grind (arith, nat_tests) in
@@ -73,7 +73,7 @@ upper_case s c upper =
     mine_too false true = refl
     mine_too false false = refl
 
-no_letter : (s : Set) (c : ℕ) → is_ascii_lower c ≡ false → is_ascii_upper c ≡ false → (s c || cased s c) ≡ with_cases s c
+no_letter : (s : Set) (c : ℕ) → is_ascii_lowercase c ≡ false → is_ascii_uppercase c ≡ false → (s c || cased s c) ≡ with_cases s c
 no_letter s c lower upper = rw (lower, upper) refl
 
 -- with the other cases
@@ -81,8 +81,8 @@ pub cases_are : (s : Set) (c : ℕ) → (s c || cased s c) ≡ with_cases s c
 cases_are s c =
     ⊎_elim
     (λ lower. lower_case s c lower)
-    (λ other. ⊎_elim (λ upper. upper_case s c upper) (λ none. no_letter s c other none) (cases_Bool (is_ascii_upper c)))
-    (cases_Bool (is_ascii_lower c))
+    (λ other. ⊎_elim (λ upper. upper_case s c upper) (λ none. no_letter s c other none) (cases_Bool (is_ascii_uppercase c)))
+    (cases_Bool (is_ascii_lowercase c))
 
 pub cases_end : (s : Set) → Ends s → Ends (with_cases s)
 cases_end s ends c above =
@@ -105,15 +105,15 @@ pub cased_start : (ranges own : List (ℕ × ℕ)) → ranges ≡ own → HasCas
 cased_start ranges own e c = ap (λ rs. in_ranges rs c) e ∙ grind (arith, in_ranges-nil (c - 32), in_ranges-nil (c + 32))
 
 pub cased_next : (ranges middle new own : List (ℕ × ℕ)) (i : ℕ) (r : ℕ × ℕ) → i < length own → r ≡ range_at own i
-    → ((c : ℕ) → in_ranges middle c ≡ (in_ranges ranges c || (is_ascii_lower c && in_range r (c - 32))))
-    → ((c : ℕ) → in_ranges new c ≡ (in_ranges middle c || (is_ascii_upper c && in_range r (c + 32))))
+    → ((c : ℕ) → in_ranges middle c ≡ (in_ranges ranges c || (is_ascii_lowercase c && in_range r (c - 32))))
+    → ((c : ℕ) → in_ranges new c ≡ (in_ranges middle c || (is_ascii_uppercase c && in_range r (c + 32))))
     → HasCased ranges own i → HasCased new own (i + 1)
 cased_next ranges middle new own i r within here lower upper so_far c =
     let more = λ (d : ℕ). in_ranges-more own i d within ∙ ap (λ z. in_ranges (take i own) d || in_range z d) (sym here) in
     upper c
-    ∙ ap (λ b. b || (is_ascii_upper c && in_range r (c + 32))) (lower c ∙ ap (λ b. b || (is_ascii_lower c && in_range r (c - 32))) (so_far c))
-    ∙ grown (in_ranges own c) (is_ascii_lower c) (is_ascii_upper c) (in_ranges (take i own) (c - 32)) (in_ranges (take i own) (c + 32)) (in_range r (c - 32)) (in_range r (c + 32))
-    ∙ sym (ap₂ (λ a b. in_ranges own c || ((is_ascii_lower c && a) || (is_ascii_upper c && b))) (more (c - 32)) (more (c + 32)))
+    ∙ ap (λ b. b || (is_ascii_uppercase c && in_range r (c + 32))) (lower c ∙ ap (λ b. b || (is_ascii_lowercase c && in_range r (c - 32))) (so_far c))
+    ∙ grown (in_ranges own c) (is_ascii_lowercase c) (is_ascii_uppercase c) (in_ranges (take i own) (c - 32)) (in_ranges (take i own) (c + 32)) (in_range r (c - 32)) (in_range r (c + 32))
+    ∙ sym (ap₂ (λ a b. in_ranges own c || ((is_ascii_lowercase c && a) || (is_ascii_uppercase c && b))) (more (c - 32)) (more (c + 32)))
 
 -- all ranges were looked at
 pub cased_end : (ranges own items : List (ℕ × ℕ)) (i : ℕ) → length own ≤ i → own ≡ items → HasCased ranges own i

@@ -1,4 +1,5 @@
 -- Classes of the code, and the sets that they are.
+use Rattle.std.specs.Prelude.{is_some}
 use Rattle.std.proofs.Common.{◌≡◌, ⊎_elim, ℕ, ◌<◌, ◌≤◌, Bool, true, false, not, ◌&&◌, ◌||◌, nat_le, nat_lt, List, [], ◌∷◌, Option, Some, None, if◌then◌else◌, refl, sym, ap, ◌∙◌, subst, leb-true, arith}
 use Rattle.std.specs.List.{list_all}
 use Rattle.std.proofs.lemmas.Bool.{and_parts, cases_lt, false_from_ne_true}
@@ -10,7 +11,7 @@ use Rattle.unicode.specs.Sets.{in_set}
 use Rattle.ucd_sets.specs.declared.set.Set.{Set as Named}
 use Rattle.ucd_table.specs.Rows as table
 use Rattle.pattern_syntax.specs.declared.flags.Flags.{Flags}
-use Rattle.pattern_syntax.specs.Sets.{Set, is_scalar, is_any, characters, complement, closed, named_set, is_some}
+use Rattle.pattern_syntax.specs.Sets.{Set, is_scalar, is_any, characters, complement, closed, named_set}
 use Rattle.pattern_syntax.specs.Readers.{IsSet}
 use Rattle.pattern_syntax.proofs.RangesLemmas.{same_set}
 

@@ -1,4 +1,6 @@
 -- Names in tables.
+use Rattle.std.specs.Char.{is_ascii_digit}
+use Rattle.std.specs.Prelude.{is_some}
 use Rattle.std.proofs.Common.{◌≡◌, ℕ, ◌≤◌, Bool, true, false, nat_eq, List, [], ◌∷◌, length, take, map, option_map, true≢false, if◌then◌else◌, Option, Some, None, MatchOption, IsSomeAnd, IfSome, IfNone, refl, sym, ap, ◌∙◌, subst, arith}
 use Rattle.std.proofs.lemmas.Bool.{and_parts, and_from, false_from_ne_true}
 use Rattle.std.proofs.lemmas.Bool.Decides.{Decides-eqb, nat_tests}
@@ -8,7 +10,7 @@ use lib.Pointwise.{pointwise}
 use Rattle.regex_class.specs.declared.Class.{Class}
 use Rattle.regex_class.specs.Ranges.{in_range, in_ranges, HasExactly}
 use Rattle.pattern_syntax.specs.declared.sets.names.TheConstants.{ASCII_SETS}
-use Rattle.pattern_syntax.specs.Sets.{Set, ascii_names, same_text, value_of, is_some, or_none, is_ascii_digit, is_ascii_space, is_ascii_word}
+use Rattle.pattern_syntax.specs.Sets.{Set, ascii_names, same_text, value_of, or_none, is_ascii_space, is_ascii_word}
 use Rattle.pattern_syntax.specs.Readers.{IsSet}
 use Rattle.pattern_syntax.proofs.sets.MemberLemmas.{are_within, made_of}
 

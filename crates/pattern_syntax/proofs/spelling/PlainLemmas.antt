@@ -1,4 +1,6 @@
 -- Digits and letters are nothing that is passed over, and no `}`.
+use Rattle.std.specs.Int.{is_in_range}
+use Rattle.std.specs.Prelude.{is_some}
 use Rattle.std.proofs.Common.{◌≡◌, ◌≢◌, ◌<◌, ℕ, zero, suc, Bool, true, false, List, [], ◌∷◌, ◌==◌, ◌&&◌, not, nat_eq, map, if◌then◌else◌, Some, refl, sym, ap, ◌∙◌, true≢false, eqb-true, arith}
 use Rattle.std.specs.Char.{is_digit, to_ascii_lowercase}
 use Rattle.std.specs.List.{starts_with}
@@ -7,7 +9,7 @@ use Rattle.std.proofs.lemmas.Bool.Decides.{nat_tests}
 use Rattle.ucd_props.proofs.Computing.{ucd_props}
 use Rattle.ucd_sets.specs.declared.set.Set.{Set as Named}
 use Rattle.pattern_syntax.specs.Flags.{has}
-use Rattle.pattern_syntax.specs.Sets.{is_between, is_some, same_text, value_of, category_names, category_named}
+use Rattle.pattern_syntax.specs.Sets.{same_text, value_of, category_names, category_named}
 use Rattle.pattern_syntax.specs.Atom.{all}
 use Rattle.pattern_syntax.proofs.BlanksLemmas.{apart}
 use Rattle.pattern_syntax.proofs.spelling.BlanksSplit.{or_none}
@@ -43,7 +45,7 @@ is_hex c = is_digit c 16
 
 -- a letter, ASCII case ignored
 abbrev is_letter : ℕ → Bool
-is_letter c = is_between 97 122 (to_ascii_lowercase c)
+is_letter c = is_in_range 97 122 (to_ascii_lowercase c)
 
 hexes_plain : all_below (plain_if is_hex) 128 ≡ true
 unfolding ucd_props
@@ -56,7 +58,7 @@ letters_plain = refl
 hex_small : (c : ℕ) → is_digit c 16 ≡ true → c < 128
 hex_small c h = grind (arith, nat_tests)
 
-letter_small : (c : ℕ) → is_between 97 122 (to_ascii_lowercase c) ≡ true → c < 128
+letter_small : (c : ℕ) → is_in_range 97 122 (to_ascii_lowercase c) ≡ true → c < 128
 letter_small c h = grind (arith, nat_tests)
 
 hex_plain : (c : ℕ) → is_hex c ≡ true → is_plain c ≡ true
@@ -92,7 +94,7 @@ hex_inner cs h = inner_of is_hex hex_plain cs h
 -- ---- the names of categories
 
 abbrev is_lower : ℕ → Bool
-is_lower c = is_between 97 122 c
+is_lower c = is_in_range 97 122 c
 
 starts_all : (b a : List ℕ) → starts_with nat_eq a b ≡ true → all is_lower a ≡ true → all is_lower b ≡ true
 starts_all [] a h every = refl

@@ -1,9 +1,9 @@
 //! Sets closed under folding, and whether a character folds with another.
 
+ghost use Rattle.std.specs.Char.{is_ascii_lowercase, is_ascii_uppercase};
 ghost use Rattle.std.specs.Prelude.{◌≡◌, ◌+◌, ◌-◌, ◌&&◌, ◌||◌, ℕ, IfOk, OnOk};
 ghost use Rattle.regex_class.specs.Ranges.{in_range, in_ranges};
 ghost use Rattle.pattern_syntax.specs.Sets as sets;
-ghost use Rattle.pattern_syntax.specs.Sets.{is_ascii_lower, is_ascii_upper};
 ghost use Rattle.pattern_syntax.specs.Readers.{IsSet};
 
 use crate::{Flags, folded};
@@ -12,7 +12,7 @@ use sd_base::NoMemory;
 
 /// Adds the lower case of the upper case letters of ASCII in a range.
 fn add_lower_case(ranges: &mut Vec<ClassRange>, range: ClassRange) -> Result<(), NoMemory>
-    ensures { OnOk result ((c : ℕ) → in_ranges ranges.new.items c ≡ (in_ranges ranges.old.items c || (is_ascii_lower c && in_range range (c - 32)))) }
+    ensures { OnOk result ((c : ℕ) → in_ranges ranges.new.items c ≡ (in_ranges ranges.old.items c || (is_ascii_lowercase c && in_range range (c - 32)))) }
 {
     let (first, last) = (range.0.max(0x41), range.1.min(0x5A));
     if first <= last {
@@ -23,7 +23,7 @@ fn add_lower_case(ranges: &mut Vec<ClassRange>, range: ClassRange) -> Result<(),
 
 /// Adds the upper case of the lower case letters of ASCII in a range.
 fn add_upper_case(ranges: &mut Vec<ClassRange>, range: ClassRange) -> Result<(), NoMemory>
-    ensures { OnOk result ((c : ℕ) → in_ranges ranges.new.items c ≡ (in_ranges ranges.old.items c || (is_ascii_upper c && in_range range (c + 32)))) }
+    ensures { OnOk result ((c : ℕ) → in_ranges ranges.new.items c ≡ (in_ranges ranges.old.items c || (is_ascii_uppercase c && in_range range (c + 32)))) }
 {
     let (first, last) = (range.0.max(0x61), range.1.min(0x7A));
     if first <= last {

@@ -1,6 +1,6 @@
 //! The sets of general categories.
 
-ghost use Rattle.std.specs.Prelude.{◌≡◌, true, false, IfOk, IfSome, IfNone};
+ghost use Rattle.std.specs.Prelude.{◌≡◌, true, false, IfOk, IfSome, IfNone, is_some};
 ghost use Rattle.pattern_syntax.specs.Sets as sets;
 ghost use Rattle.pattern_syntax.specs.Readers.{IsSet};
 
@@ -63,8 +63,8 @@ fn category_named(alloc: Global, name: &[char]) -> Result<Option<Set>, NoMemory>
 /// The set of a general category by its name, ASCII case ignored, closed under folding with `i`; none where no category has the name.
 /// Refuses for want of memory alone.
 pub fn category_set(alloc: Global, name: &[char], flags: Flags) -> Result<Option<Class>, NoMemory>
-    ensures found { IfOk result (λ found. IfSome found (λ set. IsSet set (sets.closed_category flags name.now) × (sets.is_some (sets.category_named name.now) ≡ true))) }
-    ensures none { IfOk result (λ found. IfNone found (sets.is_some (sets.category_named name.now) ≡ false)) }
+    ensures found { IfOk result (λ found. IfSome found (λ set. IsSet set (sets.closed_category flags name.now) × (is_some (sets.category_named name.now) ≡ true))) }
+    ensures none { IfOk result (λ found. IfNone found (is_some (sets.category_named name.now) ≡ false)) }
 {
     let found = category_named(alloc, name)?;
     let Some(category) = found else {

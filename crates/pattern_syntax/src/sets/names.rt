@@ -1,6 +1,6 @@
 //! Sets that have a name in `[: :]`, and how names are looked up.
 
-ghost use Rattle.std.specs.Prelude.{◌≡◌, true, false, map, None, IfOk, IfSome, IfNone, MatchOption, IsSomeAnd};
+ghost use Rattle.std.specs.Prelude.{◌≡◌, true, false, map, None, IfOk, IfSome, IfNone, MatchOption, IsSomeAnd, is_some};
 ghost use Rattle.regex_class.specs.Ranges.{HasExactly, in_ranges};
 ghost use Rattle.pattern_syntax.specs.Sets as sets;
 ghost use Rattle.pattern_syntax.specs.Sets.{same_text};
@@ -80,8 +80,8 @@ fn set_named(
 
 /// The set that has a name in `[: :]`; none where no set has the name. Refuses for want of memory alone.
 pub fn ascii_set(alloc: Global, name: &[char]) -> Result<Option<Class>, NoMemory>
-    ensures found { IfOk result (λ found. IfSome found (λ set. IsSet set (sets.ascii_set name.now) × (sets.is_some (sets.value_of sets.ascii_names name.now) ≡ true))) }
-    ensures none { IfOk result (λ found. IfNone found (sets.is_some (sets.value_of sets.ascii_names name.now) ≡ false)) }
+    ensures found { IfOk result (λ found. IfSome found (λ set. IsSet set (sets.ascii_set name.now) × (is_some (sets.value_of sets.ascii_names name.now) ≡ true))) }
+    ensures none { IfOk result (λ found. IfNone found (is_some (sets.value_of sets.ascii_names name.now) ≡ false)) }
 {
     set_named(alloc, &ASCII_SETS, name)
 }

@@ -1,5 +1,6 @@
+use Rattle.std.specs.Prelude.{is_some}
 use Rattle.std.proofs.Common.{◌≡◌, ◌+◌, ◌==◌, false, drop, sym, ap, ◌∙◌, subst}
-use Rattle.pattern_syntax.specs.Sets.{is_some, category_named, category_set}
+use Rattle.pattern_syntax.specs.Sets.{category_named, category_set}
 use Rattle.pattern_syntax.specs.Readers.{IsSet}
 use Rattle.pattern_syntax.specs.Escapes.{SpelledAt}
 use Rattle.pattern_syntax.proofs.spelling.SpellingLemmas.{is_on}

@@ -1,6 +1,6 @@
 use Rattle.std.proofs.Common.{◌<◌, arith}
+use Rattle.std.specs.Char.{is_ascii_digit}
 use Rattle.unicode.specs.Binary.{is_white_space}
-use Rattle.pattern_syntax.specs.Sets.{is_ascii_digit}
 use Rattle.pattern_syntax.proofs.runs.RunLemmas.{run_at}
 use Rattle.pattern_syntax.proofs.repetitions.NumberLemmas.{no_digits, large_digits, number_at}
 use Rattle.pattern_syntax.proofs.repetitions.read_number.Goals as goal

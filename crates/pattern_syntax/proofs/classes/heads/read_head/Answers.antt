@@ -1,5 +1,5 @@
 use Rattle.std.proofs.Common.{◌+◌, ◌∙◌}
-use Rattle.pattern_syntax.proofs.classes.ReadLemmas.{BracketRead, dashes_more, head_read, same_some, same_or}
+use Rattle.pattern_syntax.proofs.classes.ReadLemmas.{BracketRead, dashes_more, head_read, same_or}
 use Rattle.pattern_syntax.proofs.classes.heads.read_head.Goals as goal
 use Rattle.pattern_syntax.proofs.classes.heads.read_head.Goals.{then-dashes-eq0, else-dashes-eq0}
 
@@ -20,4 +20,4 @@ returns c =
     ] in
     head_read k text c.args.at caret bracket c.unwrap_or-first.result c.loop-next.place c.loop-next.dashes c.unwrap_or.result c.is_some.result c.is_some-2.result
     c.requires.within c.requires.opens c.behind_next-caret.ensures (c.unwrap_or-first.ensures ∙ same_or caret (c.args.at + 1)) c.loop-next.invariant
-    c.in_default.ensures found (c.unwrap_or.ensures ∙ same_or bracket c.loop-next.place) (c.is_some.ensures ∙ same_some caret) (c.is_some-2.ensures ∙ same_some bracket)
+    c.in_default.ensures found (c.unwrap_or.ensures ∙ same_or bracket c.loop-next.place) c.is_some.ensures c.is_some-2.ensures

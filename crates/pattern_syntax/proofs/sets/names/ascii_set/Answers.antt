@@ -1,6 +1,7 @@
+use Rattle.std.specs.Prelude.{is_some}
 use Rattle.std.proofs.Common.{IfSome, IfNone, ◌≡◌, true, false}
 use Rattle.std.proofs.lemmas.Result.{IfOk-weaker}
-use Rattle.pattern_syntax.specs.Sets.{ascii_set, ascii_names, is_some, value_of}
+use Rattle.pattern_syntax.specs.Sets.{ascii_set, ascii_names, value_of}
 use Rattle.pattern_syntax.specs.Readers.{IsSet}
 use Rattle.pattern_syntax.proofs.sets.NameLemmas.{IsFound, ascii_rows, found_in_table, none_in_table}
 use Rattle.pattern_syntax.proofs.sets.names.ascii_set.Goals as goal

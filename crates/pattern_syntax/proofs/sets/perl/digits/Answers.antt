@@ -1,10 +1,11 @@
 use Rattle.std.proofs.Common.{refl, sym, ap, ◌∙◌}
 use Rattle.std.proofs.lemmas.Bool.{cond-true, cond-false}
 use Rattle.std.proofs.lemmas.Result.{IfOk-weaker}
+use Rattle.std.specs.Char.{is_ascii_digit}
 use Rattle.unicode.specs.Perl.{is_digit_char}
 use Rattle.regex_class.specs.Ranges.{in_ranges}
 use Rattle.pattern_syntax.specs.Readers.{IsSet}
-use Rattle.pattern_syntax.specs.Sets.{Set, characters, digits_of, is_ascii_digit}
+use Rattle.pattern_syntax.specs.Sets.{Set, characters, digits_of}
 use Rattle.pattern_syntax.proofs.sets.MemberLemmas.{made_of, characters_of}
 use Rattle.pattern_syntax.proofs.sets.NameLemmas.{ascii_digits}
 use Rattle.pattern_syntax.proofs.sets.perl.digits.Goals as goal
