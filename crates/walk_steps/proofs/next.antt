@@ -4,3 +4,4 @@ pub mod MeetLemmas
 pub mod TakeStepLemmas
 pub mod CauseLemmas
 pub mod ListedLemmas
+pub mod TurnLemmas

@@ -8,6 +8,7 @@ ghost use Rattle.walk_steps.specs.Inside.{IsRead};
 ghost use Rattle.walk_steps.specs.Listed.{GivesListed, waits_of};
 ghost use Rattle.walk_steps.specs.Sound.{AreApart, AreRead, AreShallow, AreSound, IsReadable, SameOtherThan, StaysWithin, open_in, opens};
 ghost use Rattle.walk_steps.specs.Lists.{IsOldestOpen, KeepsLevel, KeepsOldest};
+ghost use Rattle.walk_steps.specs.Progress.{KeepsListed, kept_of};
 ghost use Rattle.walk_steps.specs.Work.{work_in, work_of};
 
 use sd_io::{Disk, NoMemory};
@@ -37,6 +38,7 @@ pub fn keep_list<D: Disk>(
     ensures later { (D.state disk.old).listed ≤ (D.state disk.new).listed }
     ensures counted { OnOk result (CountsFaults 0 (D.state disk.old) levels.old.items (D.state disk.new) levels.new.items) }
     ensures listed_each { OnOk result (GivesListed 0 (D.state disk.old) levels.old.items (D.state disk.new) levels.new.items) }
+    ensures kept_listed { OnOk result (KeepsListed (D.state disk.old) levels.old.items (D.state disk.new) levels.new.items) }
     ensures work { OnOk result (work_in (D.state disk.new) levels.new.items ≤ work_in (D.state disk.old) levels.old.items) }
 {
     if let Some(place) = oldest_open(levels.as_slice()) {
@@ -74,6 +76,7 @@ fn keep_level<D: Disk>(alloc: Global, disk: &mut D, level: &mut Level) -> Result
     ensures later { (D.state disk.old).listed ≤ (D.state disk.new).listed }
     ensures due { OnOk result (AddsFaults (D.state disk.old) level.old.faults.items (D.state disk.new) level.new.faults.items) }
     ensures listed_each { OnOk result (waits_of level.new + (D.state disk.old).listed ≤ waits_of level.old + (D.state disk.new).listed) }
+    ensures kept_listed { OnOk result (kept_of level.new.entries level.new.folder + (D.state disk.old).listed ≤ kept_of level.old.entries level.old.folder + (D.state disk.new).listed) }
     ensures work { OnOk result (work_of (D.state disk.new) level.new ≤ work_of (D.state disk.old) level.old) }
 {
     let list = match &level.entries {

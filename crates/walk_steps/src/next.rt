@@ -1,18 +1,18 @@
 //! The next item of a walk.
 
-ghost use Rattle.std.specs.Prelude.{◌≡◌, ◌≢◌, ◌+◌, ◌^◌, ◌<◌, ◌≤◌, ◌⊎◌, ◌↔◌, ℕ, true, false, [], Some, None, Err, IsTrue, IfOk, OnOk, OnSome, IfNone};
-ghost use Rattle.sd_io.specs.Count.{HasRisen};
+ghost use Rattle.std.specs.Prelude.{◌≡◌, ◌≢◌, ◌+◌, ◌^◌, ◌<◌, ◌≤◌, ◌↔◌, true, false, [], Some, None, Err, IsTrue, IfOk, IfSome, IsErr, OnOk, OnSome, IfNone};
 ghost use Rattle.walk_rest.specs.declared.error.Error.TheVariants as error;
+ghost use Rattle.walk_rest.specs.declared.level.Entries.TheVariants.{Unread};
 ghost use Rattle.walk_rest.specs.Plan.{Comparison};
 ghost use Rattle.walk_rest.specs.Rest.{Rest};
-ghost use Rattle.walk_steps.specs.Causes.{CountsFaults, FitsTree, IsCaused, faults_told};
+ghost use Rattle.walk_steps.specs.Causes.{CountsFaults, IsCaused, faults_told};
 ghost use Rattle.walk_steps.specs.Inside.{HasRest, IsRead, levels_of, with_top};
-ghost use Rattle.walk_steps.specs.Listed.{GivesAtOnce, GivesListed, HasRoom, IsToList, IsTopSettled};
+ghost use Rattle.walk_steps.specs.Listed.{GivesAtOnce, GivesListed, HasRoom, IsTopSettled};
 ghost use Rattle.walk_steps.specs.Listed.{below_one, gives_below, waits_in};
-ghost use Rattle.walk_steps.specs.Progress.{Progresses, kept_in};
+ghost use Rattle.walk_steps.specs.Progress.{HasReadTop, IsTurn, IsTurnPart, KeepsListed, Progresses, kept_in};
 ghost use Rattle.walk_steps.specs.Promises.{GivesNext};
 ghost use Rattle.walk_steps.specs.Sound.{IsSound, KeepsWalk, depth_below, open_in, open_limit};
-ghost use Rattle.walk_steps.specs.Steps.{ByEachRest, HasTaken, TurnsTo};
+ghost use Rattle.walk_steps.specs.Steps.{HasTaken, TurnsTo};
 ghost use Rattle.walk_steps.specs.Work.{left_to_do};
 
 use crate::Inside;
@@ -48,8 +48,8 @@ pub fn next_item<D: Disk, S: Order>(
     None
 }
 
-/// Gives the next item that the topmost level leads to, or comes nearer to it: gives a failure that is due, or the item of a directory that was left,
-/// or reads the directory, or takes its next entry. Refuses for want of memory alone.
+/// Gives the next item that the topmost level leads to, or comes nearer to it: reads the level where it lies unread, and goes on to what is due of it,
+/// its first entry for one. Refuses for want of memory alone.
 fn turn<D: Disk, S: Order>(
     disk: &mut D,
     inside: &mut Inside<S>,
@@ -58,47 +58,43 @@ fn turn<D: Disk, S: Order>(
     requires sound { IsSound (D.state disk.old) (S.sorts inside.old.order) (with_top inside.old level) }
     requires order { S.can_compare inside.old.order }
     requires top { inside.old.top ≡ None }
-    ensures turns { ByEachRest D.tells S.compares_by (D.state disk.old) (S.sorts inside.old.order) (with_top inside.old level) (λ by rest.
-        IfOk result (λ answer. TurnsTo (D.state disk.old) (S.sorts inside.old.order) by rest answer (D.state disk.new) inside.new)) }
-    ensures named { IfOk result (λ answer. answer ≢ Some (Err error.NoMemory)) }
-    ensures sound { OnOk result (IsSound (D.state disk.new) (S.sorts inside.new.order) inside.new) }
+    ensures turns { IfOk result (λ answer.
+        IsTurn D.tells S.sorts S.compares_by (D.state disk.old) (with_top inside.old level) answer (D.state disk.new) inside.new) }
     ensures keeps { KeepsWalk (D.state disk.old) (with_top inside.old level) (D.state disk.new) inside.new }
-    ensures counted { FitsTree D.tells S.compares_by (D.state disk.old) (S.sorts inside.old.order) (with_top inside.old level)
-        → IfOk result (λ answer.
-        CountsFaults (faults_told D.tells answer) (D.state disk.old) (levels_of (with_top inside.old level)) (D.state disk.new) (levels_of inside.new)) }
-    ensures caused { IfOk result (λ answer. IsCaused D.tells (D.state disk.old) (D.state disk.new) answer inside.new) }
-    ensures listed_each { IfOk result (λ answer.
-        GivesListed (gives_below answer) (D.state disk.old) (levels_of (with_top inside.old level)) (D.state disk.new) (levels_of inside.new)) }
-    ensures settles { GivesAtOnce inside.old.options → IfOk result (λ answer. IfNone answer (IsTopSettled inside.old.options.max_depth inside.new.top)) }
     ensures listed_once { S.sorts inside.old.order ≡ false → GivesAtOnce inside.old.options
         → HasRoom (open_limit inside.old.options) inside.old.options.max_depth inside.old.stack.items (Some level)
         → (D.state disk.new).listed ≤ (D.state disk.old).listed + 1 }
-    ensures passes { S.sorts inside.old.order ≡ false → GivesAtOnce inside.old.options
-        → HasRoom (open_limit inside.old.options) inside.old.options.max_depth inside.old.stack.items (Some level)
-        → IfOk result (λ answer. IfNone answer ((D.state disk.new).listed ≡ (D.state disk.old).listed)) }
-    ensures listed_whole { IsTrue D.tells → (by : Comparison) (count : ℕ) → S.compares_by inside.old.order by → S.sorts inside.old.order ≡ true
-        → IsToList (D.state disk.old).tree inside.old.options.max_depth level.folder level.entries count
-        → ¬ HasRisen (D.state disk.old).faults (D.state disk.new).faults
-        → OnOk result ((D.state disk.new).listed ≡ (D.state disk.old).listed + count) }
-    ensures progress { IsRead level.entries → IfOk result (λ answer.
-        Progresses level.first (D.state disk.old) (levels_of (with_top inside.old level)) answer (D.state disk.new) (levels_of inside.new)) }
-    ensures less { OnOk result (left_to_do (D.state disk.new) inside.new < left_to_do (D.state disk.old) (with_top inside.old level)) }
 {
-    let mut level = level;
-    if let Some(due) = level.faults.pop() {
-        inside.top = Some(level);
-        return Ok(Some(Err(Error::Disk {
-            path: due.path,
-            depth: due.depth,
-        })));
-    }
-    if let Some(entry) = level.first.take() {
-        inside.top = Some(level);
-        return Ok(Some(Ok(entry)));
-    }
     if is_read(&level.entries) {
-        return take_next(disk, inside, level);
+        return take_due(disk, inside, level);
     }
+    match read_level(disk, inside, level)? {
+        Some(failed) => Ok(Some(failed)),
+        None => take_top(disk, inside),
+    }
+}
+
+/// Reads the topmost level, which lies unread: looks at the root, or reads the directory. Gives the error that stands in the root's place. Refuses for
+/// want of memory alone.
+fn read_level<D: Disk, S: Order>(
+    disk: &mut D,
+    inside: &mut Inside<S>,
+    level: Level,
+) -> Result<Option<Result<DirEntry, Error>>, NoMemory>
+    requires sound { IsSound (D.state disk.old) (S.sorts inside.old.order) (with_top inside.old level) }
+    requires order { S.can_compare inside.old.order }
+    requires top { inside.old.top ≡ None }
+    requires unread { level.entries ≡ Unread }
+    ensures reads { IfOk result (λ answer.
+        IsTurnPart D.tells S.sorts S.compares_by (D.state disk.old) (with_top inside.old level) answer (D.state disk.new) inside.new) }
+    ensures read { OnOk result (HasReadTop inside.new.top) }
+    ensures failed { IfOk result (λ answer. IfSome answer IsErr) }
+    ensures kept { OnOk result (KeepsListed (D.state disk.old) (levels_of (with_top inside.old level)) (D.state disk.new) (levels_of inside.new)) }
+    ensures keeps { KeepsWalk (D.state disk.old) (with_top inside.old level) (D.state disk.new) inside.new }
+    ensures unlisted { S.sorts inside.old.order ≡ false
+        → HasRoom (open_limit inside.old.options) inside.old.options.max_depth inside.old.stack.items (Some level)
+        → (D.state disk.new).listed ≡ (D.state disk.old).listed }
+{
     let Level {
         folder,
         first: _first,
@@ -112,6 +108,53 @@ fn turn<D: Disk, S: Order>(
             Ok(None)
         }
     }
+}
+
+/// Takes what is due of the topmost level, which was read. Refuses for want of memory alone.
+fn take_top<D: Disk, S: Order>(
+    disk: &mut D,
+    inside: &mut Inside<S>,
+) -> Result<Option<Result<DirEntry, Error>>, NoMemory>
+    requires sound { IsSound (D.state disk.old) (S.sorts inside.old.order) inside.old }
+    requires read { HasReadTop inside.old.top }
+    ensures turns { IfOk result (λ answer.
+        IsTurn D.tells S.sorts S.compares_by (D.state disk.old) inside.old answer (D.state disk.new) inside.new) }
+    ensures keeps { KeepsWalk (D.state disk.old) inside.old (D.state disk.new) inside.new }
+    ensures listed_once { (D.state disk.new).listed ≤ (D.state disk.old).listed + 1 }
+{
+    match inside.top.take() {
+        Some(level) => take_due(disk, inside, level),
+        None => Ok(None),
+    }
+}
+
+/// Takes what is due of a level that was read: a failure, or else the item of a directory that was left, or else its next entry. Refuses for want of
+/// memory alone.
+fn take_due<D: Disk, S: Order>(
+    disk: &mut D,
+    inside: &mut Inside<S>,
+    level: Level,
+) -> Result<Option<Result<DirEntry, Error>>, NoMemory>
+    requires sound { IsSound (D.state disk.old) (S.sorts inside.old.order) (with_top inside.old level) }
+    requires read { IsRead level.entries }
+    ensures turns { IfOk result (λ answer.
+        IsTurn D.tells S.sorts S.compares_by (D.state disk.old) (with_top inside.old level) answer (D.state disk.new) inside.new) }
+    ensures keeps { KeepsWalk (D.state disk.old) (with_top inside.old level) (D.state disk.new) inside.new }
+    ensures listed_once { (D.state disk.new).listed ≤ (D.state disk.old).listed + 1 }
+{
+    let mut level = level;
+    if let Some(due) = level.faults.pop() {
+        inside.top = Some(level);
+        return Ok(Some(Err(Error::Disk {
+            path: due.path,
+            depth: due.depth,
+        })));
+    }
+    if let Some(entry) = level.first.take() {
+        inside.top = Some(level);
+        return Ok(Some(Ok(entry)));
+    }
+    take_next(disk, inside, level)
 }
 
 /// Whether a list was opened or read.

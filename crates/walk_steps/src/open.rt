@@ -1,6 +1,6 @@
 //! Reading what was entered for the first time.
 
-ghost use Rattle.std.specs.Prelude.{◌≡◌, ◌≢◌, ◌⊎◌, ◌+◌, ◌<◌, ◌≤◌, ◌^◌, ℕ, max, vec_len, List, true, false, None, Some, Err, IsTrue, IsSome, IfOk, OnOk, OnErr};
+ghost use Rattle.std.specs.Prelude.{◌≡◌, ◌≢◌, ◌⊎◌, ◌+◌, ◌<◌, ◌≤◌, ◌^◌, ℕ, max, vec_len, List, true, false, None, Some, Err, IsTrue, IsSome, IsErr, IfSome, IfOk, OnOk, OnErr};
 ghost use Rattle.sd_io.specs.declared.meta.RawEntry as raw;
 ghost use Rattle.sd_io.specs.Disk.{SameLists, SameTree};
 ghost use Rattle.sd_io.specs.Count.{HasRisen};
@@ -13,8 +13,9 @@ ghost use Rattle.walk_rest.specs.Plan.{Comparison, ListsNames};
 ghost use Rattle.walk_rest.specs.Rest.{Rest};
 ghost use Rattle.walk_steps.specs.Causes.{CountsFaults, IsCaused, faults_told};
 ghost use Rattle.walk_steps.specs.Inside.{HasRest, IsRead, levels_of, with_top};
-ghost use Rattle.walk_steps.specs.Listed.{GivesListed, IsToList, IsTopSettled, gives_below};
+ghost use Rattle.walk_steps.specs.Listed.{GivesListed, IsToList, gives_below};
 ghost use Rattle.walk_steps.specs.Lists.{OpensFolder};
+ghost use Rattle.walk_steps.specs.Progress.{HasReadTop, KeepsListed};
 ghost use Rattle.walk_steps.specs.Sound.{AreRead, AreShallow, AreSound, IsApart, IsReadable, IsSound, IsSoundBelow, KeepsWalk};
 ghost use Rattle.walk_steps.specs.Sound.{SameOtherThan, SameOthers, StaysWithin, open_in, open_limit, opens};
 ghost use Rattle.walk_steps.specs.Steps.{ByEachRest, LiesUnread, MovesTo, TurnsTo, WithUnread};
@@ -47,7 +48,10 @@ pub fn read_root<D: Disk, S: Order>(
     ensures caused { IfOk result (λ answer. IsCaused D.tells (D.state disk.old) (D.state disk.new) answer inside.new) }
     ensures listed_each { IfOk result (λ answer.
         GivesListed (gives_below answer) (D.state disk.old) inside.old.stack.items (D.state disk.new) (levels_of inside.new)) }
-    ensures settled { OnOk result (IsTopSettled inside.old.options.max_depth inside.new.top) }
+    ensures read { OnOk result (HasReadTop inside.new.top) }
+    ensures failed { IfOk result (λ answer. IfSome answer IsErr) }
+    ensures kept { WithUnread inside.old None (λ before.
+        OnOk result (KeepsListed (D.state disk.old) (levels_of before) (D.state disk.new) (levels_of inside.new))) }
     ensures unlisted { (D.state disk.new).listed ≡ (D.state disk.old).listed }
     ensures less { WithUnread inside.old None (λ before.
         OnOk result (left_to_do (D.state disk.new) inside.new < left_to_do (D.state disk.old) before)) }
@@ -88,7 +92,9 @@ pub fn read_directory<D: Disk, S: Order>(
         (IsTrue D.tells → folder.depth < inside.old.options.max_depth → IsSome (directory_of (D.state disk.old).tree folder.path))
         → OnOk result (CountsFaults 0 (D.state disk.old) inside.old.stack.items (D.state disk.new) (levels_of inside.new))) }
     ensures listed_each { OnOk result (GivesListed 0 (D.state disk.old) inside.old.stack.items (D.state disk.new) (levels_of inside.new)) }
-    ensures settled { OnOk result (IsTopSettled inside.old.options.max_depth inside.new.top) }
+    ensures read { OnOk result (HasReadTop inside.new.top) }
+    ensures kept { WithUnread inside.old (Some folder) (λ before.
+        OnOk result (KeepsListed (D.state disk.old) (levels_of before) (D.state disk.new) (levels_of inside.new))) }
     ensures unlisted { S.sorts inside.old.order ≡ false → (inside.old.options.max_depth ≤ folder.depth)
         ⊎ (opens inside.old.stack.items < open_limit inside.old.options)
         → (D.state disk.new).listed ≡ (D.state disk.old).listed }
@@ -125,7 +131,9 @@ fn read_whole<D: Disk, S: Order>(
     ensures counted { (IsTrue D.tells → folder.depth < inside.old.options.max_depth → IsSome (directory_of (D.state disk.old).tree folder.path))
         → OnOk result (CountsFaults 0 (D.state disk.old) inside.old.stack.items (D.state disk.new) (levels_of inside.new)) }
     ensures listed_each { OnOk result (GivesListed 0 (D.state disk.old) inside.old.stack.items (D.state disk.new) (levels_of inside.new)) }
-    ensures settled { OnOk result (IsTopSettled inside.old.options.max_depth inside.new.top) }
+    ensures read { OnOk result (HasReadTop inside.new.top) }
+    ensures kept { WithUnread inside.old (Some folder) (λ before.
+        OnOk result (KeepsListed (D.state disk.old) (levels_of before) (D.state disk.new) (levels_of inside.new))) }
     ensures unlisted { inside.old.options.max_depth ≤ folder.depth → (D.state disk.new).listed ≡ (D.state disk.old).listed }
     ensures listed_whole { IsTrue D.tells → (by : Comparison) (count : ℕ) → S.compares_by inside.old.order by
         → IsToList (D.state disk.old).tree inside.old.options.max_depth (Some folder) Unread count
@@ -173,7 +181,9 @@ fn open_level<D: Disk, S: Order>(
     ensures counted { (IsTrue D.tells → IsSome (directory_of (D.state disk.old).tree folder.path))
         → OnOk result (CountsFaults 0 (D.state disk.old) inside.old.stack.items (D.state disk.new) (levels_of inside.new)) }
     ensures listed_each { OnOk result (GivesListed 0 (D.state disk.old) inside.old.stack.items (D.state disk.new) (levels_of inside.new)) }
-    ensures settled { OnOk result (IsTopSettled inside.old.options.max_depth inside.new.top) }
+    ensures read { OnOk result (HasReadTop inside.new.top) }
+    ensures kept { WithUnread inside.old (Some folder) (λ before.
+        OnOk result (KeepsListed (D.state disk.old) (levels_of before) (D.state disk.new) (levels_of inside.new))) }
     ensures unlisted { (D.state disk.new).listed ≡ (D.state disk.old).listed }
     ensures less { WithUnread inside.old (Some folder) (λ before.
         OnOk result (left_to_do (D.state disk.new) inside.new < left_to_do (D.state disk.old) before)) }
@@ -209,6 +219,7 @@ fn make_room<D: Disk, S: Order>(disk: &mut D, inside: &mut Inside<S>) -> Result<
     ensures later { (D.state disk.old).listed ≤ (D.state disk.new).listed }
     ensures counted { OnOk result (CountsFaults 0 (D.state disk.old) inside.old.stack.items (D.state disk.new) inside.new.stack.items) }
     ensures listed_each { OnOk result (GivesListed 0 (D.state disk.old) inside.old.stack.items (D.state disk.new) inside.new.stack.items) }
+    ensures kept { OnOk result (KeepsListed (D.state disk.old) inside.old.stack.items (D.state disk.new) inside.new.stack.items) }
     ensures roomy { opens inside.old.stack.items < open_limit inside.old.options → (D.state disk.new).listed ≡ (D.state disk.old).listed }
     ensures work { OnOk result (work_in (D.state disk.new) inside.new.stack.items ≤ work_in (D.state disk.old) inside.old.stack.items) }
 {

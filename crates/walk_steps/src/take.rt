@@ -49,7 +49,7 @@ pub fn take_entry<D: Disk>(
         below_one entry + waits_of level.new + (D.state disk.old).listed ≤ waits_of level.old + (D.state disk.new).listed)) }
     ensures waits { waits_of level.new + (D.state disk.old).listed ≤ waits_of level.old + (D.state disk.new).listed }
     ensures takes { IfOk result (λ given. IfSome given (λ entry.
-        1 + kept_of level.new.entries + (D.state disk.old).listed ≤ kept_of level.old.entries + (D.state disk.new).listed)) }
+        1 + kept_of level.new.entries level.new.folder + (D.state disk.old).listed ≤ kept_of level.old.entries level.old.folder + (D.state disk.new).listed)) }
     ensures none_listed { IfOk result (λ given. IfNone given ((D.state disk.new).listed ≡ (D.state disk.old).listed)) }
     ensures worked { IfOk result (λ given. IfSome given (λ entry. work_of (D.state disk.new) level.new + 5 ≤ work_of (D.state disk.old) level.old)) }
     ensures not_more { OnOk result (work_of (D.state disk.new) level.new ≤ work_of (D.state disk.old) level.old) }

@@ -31,3 +31,14 @@ returns-clause-listed_each g c =
     let open_size = ap size_of c.in-Open.is in
     let later = r.later in
     level_less c.args.level.now (record c.args.level.now { entries = _; faults = c.read_list.new.faults }) s.listed (g.D.Disk.state c.close_dir.new.self).listed refl refl (omega (arith, more, same, n, open_size)) (omega (arith, later, same))
+
+pub returns-clause-kept_listed : goal.returns-clause-kept_listed
+returns-clause-kept_listed g c =
+    let s = g.D.Disk.state c.args.disk.now in
+    let now = g.D.Disk.state c.read_list.new.disk in
+    let r = c.in_ok-kept.ensures in
+    let more = counted_each _ s now r.taken r.later in
+    let same = c.close_dir.ensures.closed.listed in
+    let many = ap length (ap reverse c.reverse.ensures.items) in
+    let n = c.in_ok-kept.kept.ok.0 in
+    omega (arith, more, same, n, many)

@@ -1,7 +1,8 @@
 use Rattle.std.proofs.Common.{◌≡◌, ◌+◌, ap, inl, inr, arith}
 use Rattle.std.specs.Prelude.{slice_set}
 use Rattle.walk_steps.specs.Sound.{open_in, opens}
-use Rattle.walk_steps.proofs.keep.KeepLemmas.{ReplacesOne, stands, replaced, kept_counted, kept_oldest, kept_waits, kept_work, open_one, readable_at}
+use Rattle.walk_steps.proofs.keep.KeepLemmas.{ReplacesOne, stands, replaced, kept_counted, kept_oldest, kept_waits, kept_work, level_set, open_one, readable_at}
+use Rattle.walk_steps.proofs.take.ProgressLemmas.{kept_among}
 use Rattle.walk_steps.proofs.keep.keep_list.Given as given
 use Rattle.walk_steps.proofs.keep.keep_list.Goals as goal
 
@@ -95,3 +96,9 @@ returns-in_ok-keep_level-clause-counted g c = kept_counted (g.D.Disk.state c.arg
 pub returns-in_ok-keep_level-clause-listed_each : goal.returns-in_ok-keep_level-clause-listed_each
 returns-in_ok-keep_level-clause-listed_each g c = kept_waits (g.D.Disk.state c.args.disk.now) (g.D.Disk.state c.keep_level.new.disk) c.args.levels.now.items c.in-Some.place c.index_mut.result.now c.keep_level.new.level
     (stands c.args.levels.now.items c.as_slice.result.now c.in-Some.place c.index_mut.result.now c.as_slice.ensures.value c.in-Some.ensures.found c.index_mut.ensures.value) c.in_ok-keep_level.ensures.listed_each
+
+pub returns-in_ok-keep_level-clause-kept_listed : goal.returns-in_ok-keep_level-clause-kept_listed
+returns-in_ok-keep_level-clause-kept_listed g c =
+    let at = stands c.args.levels.now.items c.as_slice.result.now c.in-Some.place c.index_mut.result.now c.as_slice.ensures.value c.in-Some.ensures.found c.index_mut.ensures.value in
+    kept_among (g.D.Disk.state c.args.disk.now) (g.D.Disk.state c.keep_level.new.disk) c.args.levels.now.items _ at.lower at.upper c.index_mut.result.now c.keep_level.new.level at.are
+    (level_set c.args.levels.now.items at.lower at.upper c.index_mut.result.now c.keep_level.new.level c.in-Some.place at.are at.at) c.in_ok-keep_level.ensures.kept_listed

@@ -1,9 +1,9 @@
 use Rattle.std.proofs.Common.{◌≡◌, ◌++◌, [], Some, Bool, Option, refl, sym, subst, ◌∙◌, ap, arith, inl, inr, append-nil}
 use Rattle.walk_rest.specs.declared.level.Level.{Level}
-use Rattle.walk_rest.specs.Plan.{Item}
-use Rattle.walk_steps.specs.Causes.{CountsFaults, IsCaused, faults_due, faults_told}
+use Rattle.walk_steps.specs.Causes.{IsCaused, faults_due, faults_told}
 use Rattle.walk_steps.specs.Inside.{HasRest, levels_of, top_levels, with_top}
-use Rattle.walk_steps.specs.Steps.{MovesTo, StepsTo, TurnsTo}
+use Rattle.walk_steps.specs.Progress.{IsTurnPart}
+use Rattle.walk_steps.specs.Steps.{MovesTo, StepsTo}
 use Rattle.walk_steps.specs.Sound.{AreApart, IsSound, KeepsWalk, opens, open_limit}
 use Rattle.walk_steps.specs.Work.{work_in}
 use Rattle.walk_steps.proofs.leave.OthersLemmas.{others_on}
@@ -13,7 +13,7 @@ use Rattle.walk_steps.proofs.next.CauseLemmas.{caused_later, counts_from, counts
 use Rattle.walk_steps.proofs.next.next_item.Given as given
 use Rattle.walk_steps.proofs.leave.SoundLemmas.{sound_front}
 use Rattle.walk_steps.proofs.next.ListedLemmas.{risen_from, risen_on, room_at, room_entered, settled_at, to_list_at, to_list_none}
-use Rattle.walk_steps.specs.Listed.{GivesAtOnce, GivesListed, IsToListOnTop, gives_below, waits_in}
+use Rattle.walk_steps.specs.Listed.{GivesAtOnce, IsToListOnTop, waits_in}
 use Rattle.walk_steps.proofs.next.next_item.Goals as goal
 use Rattle.walk_steps.proofs.next.next_item.Goals.{After-give_up}
 
@@ -49,28 +49,26 @@ loop-level-preserved g c =
     let order_now = ap g.S.Order.sorts (k.same.order ∙ inv.keeps.same.order) in
     let keeps = keeps_on s0 s now c.args.inside.now c.loop-level.inside c.turn.new.inside inv.keeps (keeps_on s s now c.loop-level.inside mid c.turn.new.inside put k) in
     let P : Bool → Type 0 = λ b. IsSound now b c.turn.new.inside in
+    let part = (rw c.in-Ok-None.field-0-is at c.in-Ok-None.ensures.turns).part in
     record {
-      sound = subst P order_now c.in-Ok-None.ensures.sound;
+      sound = subst P order_now part.sound;
       keeps = keeps;
       over = λ e. absurd (no_level c.loop-level.inside c.in-Some.level (inv.over e) top);
-      less = let a = c.in-Ok-None.ensures.less in let b = inv.less in let d = ap (work_in s) levels in omega (arith, a, b, d);
+      less = let a = part.less in let b = inv.less in let d = ap (work_in s) levels in omega (arith, a, b, d);
       moved = λ tells by rest same h.
           (let m = inv.moved tells by rest same h in
           let C : _ → Type 0 = λ o. g.S.Order.compares_by o by in
           let H : Bool → Type 0 = λ b. HasRest s b by mid m.new in
           let has = rest_retop s (g.S.Order.sorts c.args.inside.now.order) by c.loop-level.inside mid m.new (record { options = refl; order = refl; root = refl }) refl levels m.left in
-          let T : Option Item → Type 0 = λ a. TurnsTo s (g.S.Order.sorts c.loop-level.inside.order) by m.new a now c.turn.new.inside in
-          let turned = subst T c.in-Ok-None.field-0-is (c.in-Ok-None.ensures.turns tells by m.new (subst C (sym inv.keeps.same.order) same) (subst H (sym order) has)) in
+          let turned = part.turns tells by m.new (subst C (sym inv.keeps.same.order) same) (subst H (sym order) has) in
           let M : Bool → Type 0 = λ b. MovesTo s b by m.new now c.turn.new.inside in
           moves_more s0 s now (g.S.Order.sorts c.args.inside.now.order) by c.loop-level.inside c.turn.new.inside rest inv.keeps.faults k.faults m (subst M order turned));
       counted = λ fits.
-          (let T : Option Item → Type 0 = λ a. CountsFaults (faults_told g.D.Disk.tells a) s (levels_of mid) now (levels_of c.turn.new.inside) in
-          counts_on 0 s0 s now (levels_of c.args.inside.now) (levels_of c.loop-level.inside) (levels_of c.turn.new.inside) k.faults (inv.counted fits)
+          (counts_on 0 s0 s now (levels_of c.args.inside.now) (levels_of c.loop-level.inside) (levels_of c.turn.new.inside) k.faults (inv.counted fits)
           (counts_from 0 s s now (levels_of c.loop-level.inside) (levels_of mid) (levels_of c.turn.new.inside) (omega arith) (ap faults_due levels)
-          (subst T c.in-Ok-None.field-0-is (c.in-Ok-None.ensures.counted (still_fits g.D.Disk.tells g.S.Order.compares_by g.S.Order.sorts s0 s c.args.inside.now c.loop-level.inside c.in-Some.level fits inv.moved inv.keeps.same (sym c.take.ensures.value ∙ c.in-Some.is))))));
+          (part.counted (still_fits g.D.Disk.tells g.S.Order.compares_by g.S.Order.sorts s0 s c.args.inside.now c.loop-level.inside c.in-Some.level fits inv.moved inv.keeps.same (sym c.take.ensures.value ∙ c.in-Some.is)))));
       each =
-          (let T : Option Item → Type 0 = λ a. GivesListed (gives_below a) s (levels_of mid) now (levels_of c.turn.new.inside) in
-          let more = subst T c.in-Ok-None.field-0-is c.in-Ok-None.ensures.listed_each in
+          (let more = part.listed_each in
           let same = ap waits_in levels in
           let so_far = inv.each in
           omega (arith, more, same, so_far));
@@ -78,22 +76,27 @@ loop-level-preserved g c =
           (let o = inv.once unsorted gives few in
           let options = inv.keeps.same.options in
           let given_here = subst GivesAtOnce (sym options) gives in
-          let passed = (rw c.in-Ok-None.field-0-is at c.in-Ok-None.ensures.passes) (order ∙ unsorted) given_here (room_at c.args.inside.now.options c.loop-level.inside.options c.loop-level.inside.stack.items c.loop-level.inside.top c.in-Some.level inv.keeps.same.options (sym c.take.ensures.value ∙ c.in-Some.is) o.1) in
-          (passed ∙ o.0, inr (settled_at c.args.inside.now.options c.loop-level.inside.options c.turn.new.inside.top inv.keeps.same.options ((rw c.in-Ok-None.field-0-is at c.in-Ok-None.ensures.settles) (subst GivesAtOnce (sym inv.keeps.same.options) gives)))));
+          let passed = part.passes (order ∙ unsorted) given_here (room_at c.args.inside.now.options c.loop-level.inside.options c.loop-level.inside.stack.items c.loop-level.inside.top c.in-Some.level inv.keeps.same.options (sym c.take.ensures.value ∙ c.in-Some.is) o.1) in
+          (passed ∙ o.0, inr (settled_at c.args.inside.now.options c.loop-level.inside.options c.turn.new.inside.top inv.keeps.same.options (part.settles (subst GivesAtOnce (sym inv.keeps.same.options) gives)))));
       whole = λ tells by count compares sorts gives to_list none.
           (let a = inv.keeps.faults in
           let w = inv.whole tells by count compares sorts gives to_list (λ risen. none (risen_on _ _ _ k.faults risen)) in
           let e = w.2 in
-          let l = c.in-Ok-None.ensures.listed_whole tells by w.0 (let C : _ → Type 0 = λ o. g.S.Order.compares_by o by in subst C (sym inv.keeps.same.order) compares) (order ∙ sorts) (to_list_at (g.D.Disk.state c.loop-level.disk).tree c.args.inside.now.options c.loop-level.inside.options c.loop-level.inside.top c.in-Some.level w.0 inv.keeps.same.options (sym c.take.ensures.value ∙ c.in-Some.is) w.1) (λ risen. none (risen_from _ _ _ a risen)) in
-          (0, to_list_none (g.D.Disk.state c.turn.new.disk).tree c.args.inside.now.options.max_depth c.turn.new.inside.top (settled_at c.args.inside.now.options c.loop-level.inside.options c.turn.new.inside.top inv.keeps.same.options ((rw c.in-Ok-None.field-0-is at c.in-Ok-None.ensures.settles) (subst GivesAtOnce (sym inv.keeps.same.options) gives))), omega (arith, e, l)));
+          let l = part.listed_whole tells by w.0 (let C : _ → Type 0 = λ o. g.S.Order.compares_by o by in subst C (sym inv.keeps.same.order) compares) (order ∙ sorts) (to_list_at (g.D.Disk.state c.loop-level.disk).tree c.args.inside.now.options c.loop-level.inside.options c.loop-level.inside.top c.in-Some.level w.0 inv.keeps.same.options (sym c.take.ensures.value ∙ c.in-Some.is) w.1) (λ risen. none (risen_from _ _ _ a risen)) in
+          (0, to_list_none (g.D.Disk.state c.turn.new.disk).tree c.args.inside.now.options.max_depth c.turn.new.inside.top (settled_at c.args.inside.now.options c.loop-level.inside.options c.turn.new.inside.top inv.keeps.same.options (part.settles (subst GivesAtOnce (sym inv.keeps.same.options) gives))), omega (arith, e, l)));
     }
+
+-- its last turn
+turned : (g : given.Over) (c : goal.In-Ok-Some g)
+    → IsTurnPart g.D.Disk.tells g.S.Order.sorts g.S.Order.compares_by (g.D.Disk.state c.loop-level.disk) (with_top c.loop-level.inside c.in-Some.level) (Some c.in-Ok-Some.item)
+    (g.D.Disk.state c.turn.new.disk) c.turn.new.inside
+turned g c = (rw c.in-Ok-Some.field-0-is at c.in-Ok-Some.ensures.turns).part
 
 -- why the answer came
 caused : (g : given.Over) (c : goal.In-Ok-Some g) → IsCaused g.D.Disk.tells (g.D.Disk.state c.args.disk.now) (g.D.Disk.state c.turn.new.disk) (Some c.in-Ok-Some.item) c.turn.new.inside
 caused g c =
-    let T : Option Item → Type 0 = λ a. IsCaused g.D.Disk.tells (g.D.Disk.state c.loop-level.disk) (g.D.Disk.state c.turn.new.disk) a c.turn.new.inside in
     caused_later g.D.Disk.tells (g.D.Disk.state c.args.disk.now) (g.D.Disk.state c.loop-level.disk) (g.D.Disk.state c.turn.new.disk) (Some c.in-Ok-Some.item) c.turn.new.inside c.loop-level.invariant.keeps.faults
-    (subst T c.in-Ok-Some.field-0-is c.in-Ok-Some.ensures.caused)
+    (turned g c).caused
 
 -- what the loop kept, with its last turn
 kept : (g : given.Over) (c : goal.In-Ok-Some g) → KeepsWalk (g.D.Disk.state c.args.disk.now) c.args.inside.now (g.D.Disk.state c.turn.new.disk) c.turn.new.inside
@@ -134,20 +137,19 @@ returns-in-Ok-Some-clause-gives g c = record {
       let C : _ → Type 0 = λ o. g.S.Order.compares_by o by in
       let H : Bool → Type 0 = λ b. HasRest s b by mid m.new in
       let has = rest_retop s (g.S.Order.sorts c.args.inside.now.order) by c.loop-level.inside mid m.new (record { options = refl; order = refl; root = refl }) refl levels m.left in
-      let T : Option Item → Type 0 = λ a. TurnsTo s (g.S.Order.sorts c.loop-level.inside.order) by m.new a now c.turn.new.inside in
-      let turned = subst T c.in-Ok-Some.field-0-is (c.in-Ok-Some.ensures.turns tells by m.new (subst C (sym inv.keeps.same.order) same) (subst H (sym order) has)) in
+      let step = (turned g c).turns tells by m.new (subst C (sym inv.keeps.same.order) same) (subst H (sym order) has) in
       let M : Bool → Type 0 = λ b. StepsTo s b by m.new (Some c.in-Ok-Some.item) now c.turn.new.inside in
-      inr (moves_last s0 s now (g.S.Order.sorts c.args.inside.now.order) by c.loop-level.inside c.turn.new.inside rest (Some c.in-Ok-Some.item) inv.keeps.faults c.turn.ensures.keeps.faults m (subst M order turned)));
+      inr (moves_last s0 s now (g.S.Order.sorts c.args.inside.now.order) by c.loop-level.inside c.turn.new.inside rest (Some c.in-Ok-Some.item) inv.keeps.faults c.turn.ensures.keeps.faults m (subst M order step)));
   over = λ e. absurd (no_level c.loop-level.inside c.in-Some.level (c.loop-level.invariant.over e) (sym c.take.ensures.value ∙ c.in-Some.is));
   ended = tt;
-  gave_up = λ e. absurd ((rw c.in-Ok-Some.field-0-is at c.in-Ok-Some.ensures.named) e);
+  gave_up = λ e. absurd ((turned g c).named e);
   sound =
       (let k = c.turn.ensures.keeps in
       let P : Bool → Type 0 = λ b. IsSound (g.D.Disk.state c.turn.new.disk) b c.turn.new.inside in
-      subst P (ap g.S.Order.sorts (k.same.order ∙ c.loop-level.invariant.keeps.same.order)) c.in-Ok-Some.ensures.sound);
+      subst P (ap g.S.Order.sorts (k.same.order ∙ c.loop-level.invariant.keeps.same.order)) (turned g c).sound);
   same = (kept g c).same;
   not_more =
-      (let a = c.in-Ok-Some.ensures.less in
+      (let a = (turned g c).less in
       let b = c.loop-level.invariant.less in
       let d = ap (work_in (g.D.Disk.state c.loop-level.disk)) (retop_levels c.loop-level.inside c.loop-level.inside c.in-Some.level (sym c.take.ensures.value ∙ c.in-Some.is) refl) in
       omega (arith, a, b, d));
@@ -165,10 +167,9 @@ returns-in-Ok-Some-clause-gives g c = record {
       let told = faults_told g.D.Disk.tells (Some c.in-Ok-Some.item) in
       let mid = with_top c.loop-level.inside c.in-Some.level in
       let levels = retop_levels c.loop-level.inside c.loop-level.inside c.in-Some.level (sym c.take.ensures.value ∙ c.in-Some.is) refl in
-      let T : Option Item → Type 0 = λ a. CountsFaults (faults_told g.D.Disk.tells a) s (levels_of mid) now (levels_of c.turn.new.inside) in
       counts_on told s0 s now (levels_of c.args.inside.now) (levels_of c.loop-level.inside) (levels_of c.turn.new.inside) c.turn.ensures.keeps.faults (inv.counted fits)
       (counts_from told s s now (levels_of c.loop-level.inside) (levels_of mid) (levels_of c.turn.new.inside) (omega arith) (ap faults_due levels)
-      (subst T c.in-Ok-Some.field-0-is (c.in-Ok-Some.ensures.counted (still_fits g.D.Disk.tells g.S.Order.compares_by g.S.Order.sorts s0 s c.args.inside.now c.loop-level.inside c.in-Some.level fits inv.moved inv.keeps.same (sym c.take.ensures.value ∙ c.in-Some.is))))));
+      ((turned g c).counted (still_fits g.D.Disk.tells g.S.Order.compares_by g.S.Order.sorts s0 s c.args.inside.now c.loop-level.inside c.in-Some.level fits inv.moved inv.keeps.same (sym c.take.ensures.value ∙ c.in-Some.is)))));
   absent = (caused g c).absent;
   looped = (caused g c).looped;
   uncapped = (caused g c).uncapped;
@@ -178,8 +179,7 @@ returns-in-Ok-Some-clause-gives g c = record {
       let now = g.D.Disk.state c.turn.new.disk in
       let mid = with_top c.loop-level.inside c.in-Some.level in
       let same = ap waits_in (retop_levels c.loop-level.inside c.loop-level.inside c.in-Some.level (sym c.take.ensures.value ∙ c.in-Some.is) refl) in
-      let T : Option Item → Type 0 = λ a. GivesListed (gives_below a) s (levels_of mid) now (levels_of c.turn.new.inside) in
-      let more = subst T c.in-Ok-Some.field-0-is c.in-Ok-Some.ensures.listed_each in
+      let more = (turned g c).listed_each in
       let so_far = c.loop-level.invariant.each in
       omega (arith, more, same, so_far));
   listed_once =
@@ -197,7 +197,7 @@ returns-in-Ok-Some-clause-gives g c = record {
       let b = c.turn.ensures.keeps.faults in
       let w = inv.whole tells by count compares sorts gives to_list (λ risen. none (risen_on _ _ _ b risen)) in
       let k = w.2 in
-      let l = c.in-Ok-Some.ensures.listed_whole tells by w.0 (let C : _ → Type 0 = λ o. g.S.Order.compares_by o by in subst C (sym inv.keeps.same.order) compares) (ap g.S.Order.sorts inv.keeps.same.order ∙ sorts) (to_list_at (g.D.Disk.state c.loop-level.disk).tree c.args.inside.now.options c.loop-level.inside.options c.loop-level.inside.top c.in-Some.level w.0 inv.keeps.same.options (sym c.take.ensures.value ∙ c.in-Some.is) w.1) (λ risen. none (risen_from _ _ _ a risen)) in
+      let l = (turned g c).listed_whole tells by w.0 (let C : _ → Type 0 = λ o. g.S.Order.compares_by o by in subst C (sym inv.keeps.same.order) compares) (ap g.S.Order.sorts inv.keeps.same.order ∙ sorts) (to_list_at (g.D.Disk.state c.loop-level.disk).tree c.args.inside.now.options c.loop-level.inside.options c.loop-level.inside.top c.in-Some.level w.0 inv.keeps.same.options (sym c.take.ensures.value ∙ c.in-Some.is) w.1) (λ risen. none (risen_from _ _ _ a risen)) in
       omega (arith, k, l));
 }
 

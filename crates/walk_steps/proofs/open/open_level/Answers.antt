@@ -8,7 +8,7 @@ use Rattle.walk_steps.specs.Sound.{IsShallow, held_limit, open_in}
 use Rattle.walk_steps.proofs.leave.SoundLemmas.{all_same_reads}
 use Rattle.walk_steps.proofs.open.OpenLemmas.{clear_from, is_sound_top, keeps_none, keeps_top, known_folder, less_top, no_top, not_ok, opened_to, read_moves, sound_on, sound_top}
 use Rattle.walk_steps.proofs.next.CauseLemmas.{counts_read}
-use Rattle.walk_steps.proofs.next.ListedLemmas.{settled_read}
+use Rattle.walk_steps.proofs.take.ProgressLemmas.{kept_opened}
 use Rattle.walk_steps.proofs.take.WaitsLemmas.{gives_opened}
 use Rattle.walk_steps.proofs.open.open_level.Goals as goal
 
@@ -109,14 +109,25 @@ returns-clause-counted g c = λ there.
     let level : Level = record { folder = Some c.args.folder; first = None; entries = c.in_ok-entries.entries; faults = c.open_list.new.faults } in
     counts_read (g.D.Disk.state c.args.disk.now) (g.D.Disk.state c.open_list.new.disk) c.args.inside.now.stack.items level c.new-faults.result.items c.new-faults.ensures.items (c.in_ok-entries.ensures.counted there)
 
-pub returns-in_err-entries-clause-settled : goal.returns-in_err-entries-clause-settled
-returns-in_err-entries-clause-settled g c = not_ok _ c.from_residual.result c.from_residual.ensures.0
+pub returns-in_err-entries-clause-read : goal.returns-in_err-entries-clause-read
+returns-in_err-entries-clause-read g c = not_ok _ c.from_residual.result c.from_residual.ensures.0
+
+pub returns-in_err-entries-clause-kept : goal.returns-in_err-entries-clause-kept
+returns-in_err-entries-clause-kept g c = λ lying lies. not_ok _ c.from_residual.result c.from_residual.ensures.0
 
 pub returns-in_err-entries-clause-unlisted : goal.returns-in_err-entries-clause-unlisted
 returns-in_err-entries-clause-unlisted g c = c.open_list.ensures.listed
 
-pub returns-clause-settled : goal.returns-clause-settled
-returns-clause-settled g c = settled_read c.args.inside.now.options.max_depth (Some c.args.folder) c.in_ok-entries.entries c.in_ok-entries.ensures.read
+pub returns-clause-read : goal.returns-clause-read
+returns-clause-read g c = record { level = _; on_top = refl; read = c.in_ok-entries.ensures.read; first = refl }
+
+pub returns-clause-kept : goal.returns-clause-kept
+returns-clause-kept g c = λ lying lies.
+    let level : Level = record { folder = Some c.args.folder; first = None; entries = c.in_ok-entries.entries; faults = c.open_list.new.faults } in
+    let light = c.in_ok-entries.ensures.light in
+    let none = c.new-faults.ensures.len in
+    let same = c.open_list.ensures.listed in
+    kept_opened (g.D.Disk.state c.args.disk.now) (g.D.Disk.state c.open_list.new.disk) c.args.inside.now.stack.items lying level c.in_ok-entries.ensures.read (omega (arith, light, none)) (omega (arith, same))
 
 pub returns-clause-unlisted : goal.returns-clause-unlisted
 returns-clause-unlisted g c = c.open_list.ensures.listed

@@ -1,4 +1,4 @@
-use Rattle.std.proofs.Common.{ℕ, inl, inr, sym, subst, ◌∙◌, ap, arith}
+use Rattle.std.proofs.Common.{[], ◌∷◌, ◌++◌, inl, inr, sym, subst, ◌∙◌, ap, arith}
 use Rattle.std.specs.Prelude.{IsSome, OnOk}
 use Rattle.sd_io.specs.Tree.{Tree}
 use Rattle.sd_io.specs.Lists.{directory_of}
@@ -10,7 +10,7 @@ use Rattle.walk_steps.proofs.next.StepLemmas.{moves_more}
 use Rattle.walk_steps.proofs.open.OpenLemmas.{keeps_refused, keeps_room, less_room, no_top, not_ok, on_ok, room_sound, same_walk, still_taken}
 use Rattle.walk_steps.proofs.next.CauseLemmas.{counts_on}
 use Rattle.walk_steps.proofs.take.WaitsLemmas.{gives_on}
-use Rattle.walk_steps.specs.Listed.{IsTopSettled}
+use Rattle.walk_steps.proofs.take.ProgressLemmas.{kept_below, kept_on}
 use Rattle.walk_steps.proofs.open.read_directory.Goals as goal
 use Rattle.walk_steps.proofs.open.read_directory.Goals.{then-inside-folder-via-then-inside-folder, then-inside-folder-via-else-inside-folder+then-sorts}
 
@@ -112,8 +112,11 @@ returns-clause-counted g c = λ lying lies there.
 
 -- ---- what is listed
 
-pub returns-in_err-make_room-clause-settled : goal.returns-in_err-make_room-clause-settled
-returns-in_err-make_room-clause-settled g c = not_ok _ c.from_residual.result c.from_residual.ensures.0
+pub returns-in_err-make_room-clause-read : goal.returns-in_err-make_room-clause-read
+returns-in_err-make_room-clause-read g c = not_ok _ c.from_residual.result c.from_residual.ensures.0
+
+pub returns-in_err-make_room-clause-kept : goal.returns-in_err-make_room-clause-kept
+returns-in_err-make_room-clause-kept g c = λ lying lies. not_ok _ c.from_residual.result c.from_residual.ensures.0
 
 pub returns-in_err-make_room-clause-listed_whole : goal.returns-in_err-make_room-clause-listed_whole
 returns-in_err-make_room-clause-listed_whole g c = λ tells by count compares sorts to_list none. not_ok _ c.from_residual.result c.from_residual.ensures.0
@@ -125,11 +128,16 @@ pub returns-clause-unlisted : goal.returns-clause-unlisted
 returns-clause-unlisted g c = λ unsorted room.
     elim room [ inl deep ↦ absurd (omega (arith, deep, c.if-inside-folder.false)) | inr few ↦ c.open_level.ensures.unlisted ∙ c.make_room.ensures.roomy few ]
 
-pub returns-clause-settled : goal.returns-clause-settled
-returns-clause-settled g c =
-    let deepest = ap (λ o. o.max_depth) (same_walk c.args.inside.now c.make_room.new.inside c.make_room.ensures.same).options in
-    let P : ℕ → Type 0 = λ n. OnOk c.open_level.result (IsTopSettled n c.open_level.new.inside.top) in
-    subst P deepest c.open_level.ensures.settled
+pub returns-clause-kept : goal.returns-clause-kept
+returns-clause-kept g c = λ lying lies.
+    let s = g.D.Disk.state c.args.disk.now in
+    let now = g.D.Disk.state c.make_room.new.disk in
+    let r = c.in_ok-make_room.ensures in
+    let xs = c.args.inside.now.stack.items in
+    let ys = c.make_room.new.inside.stack.items in
+    on_ok c.open_level.result
+    (kept_on s now (g.D.Disk.state c.open_level.new.disk) (xs ++ lying ∷ []) (ys ++ lying ∷ []) (levels_of c.open_level.new.inside) (kept_below s now xs ys lying r.later r.kept))
+    (c.open_level.ensures.kept lying lies)
 
 pub returns-clause-listed_whole : goal.returns-clause-listed_whole
 returns-clause-listed_whole g c = λ tells by count compares sorts to_list none. absurd (let e = sym c.if-sorts.false ∙ (c.sorts.ensures ∙ sorts) in cc e)

@@ -4,14 +4,16 @@ use Rattle.walk_rest.specs.declared.entry.DirEntry.{DirEntry}
 use Rattle.walk_rest.specs.declared.level.Entries.TheVariants.{Kept}
 use Rattle.walk_rest.specs.declared.error.Error.{Error}
 use Rattle.walk_rest.specs.Plan.{Item}
-use Rattle.std.specs.Prelude.{Option}
+use Rattle.std.specs.Prelude.{IfSome, IsErr, Option}
 use Rattle.walk_steps.specs.Causes.{CountsFaults, IsCaused, IsEnteredBy, faults_due, faults_told}
 use Rattle.walk_steps.specs.Inside.{levels_of, with_top}
 use Rattle.walk_steps.specs.Listed.{GivesListed, gives_below}
+use Rattle.walk_steps.specs.Progress.{KeepsListed, kept_of}
 use Rattle.walk_steps.specs.Sound.{AllAt}
 use Rattle.walk_steps.specs.Steps.{CannotBegin, TurnsTo}
 use Rattle.walk_steps.proofs.open.RootLemmas.{at_root_none, at_root_one, looks, root_begun, root_failed, root_keeps, root_less, root_refused, root_sound}
 use Rattle.walk_steps.proofs.next.CauseLemmas.{begin_allowed, caused_begin, caused_none, counts_same, due_snoc, top_not}
+use Rattle.walk_steps.proofs.take.ProgressLemmas.{kept_top}
 use Rattle.walk_steps.proofs.take.WaitsLemmas.{gives_root}
 use Rattle.walk_steps.proofs.open.read_root.Goals as goal
 use Rattle.walk_steps.proofs.open.read_root.Goals.{in-Ok+in_ok-push-in-Ok, in-Err+in_ok-named-in-Err}
@@ -151,3 +153,27 @@ returns-clause-listed_each g c =
       | in-Ok+in_ok-push-in-Ok w ↦ subst P (sym w.answer-is) (gives_root 0 s now xs (levels_of new) level stack refl refl refl (omega (arith, same)))
       | in-Err+in_ok-named-in-Err w ↦ subst P (sym w.answer-is) (gives_root 0 s now xs (levels_of new) level stack refl refl refl (omega (arith, same)))
     ]
+
+-- ---- what is read
+
+pub returns-clause-read : goal.returns-clause-read
+returns-clause-read g c = record { level = record { folder = None; first = None; entries = Kept c.match-begin.kept; faults = c.new.result }; on_top = refl; read = tt; first = refl }
+
+pub returns-clause-failed : goal.returns-clause-failed
+returns-clause-failed g c =
+    let P : Option Item → Type 0 = λ answer. IfSome answer IsErr in
+    elim c.match-begin.branch [ in-Ok+in_ok-push-in-Ok w ↦ subst P (sym w.answer-is) tt | in-Err+in_ok-named-in-Err w ↦ subst P (sym w.answer-is) refl ]
+
+pub returns-clause-kept : goal.returns-clause-kept
+returns-clause-kept g c = λ lying lies.
+    let s = g.D.Disk.state c.args.disk.now in
+    let now = g.D.Disk.state c.begin.new.disk in
+    let xs = c.args.inside.now.stack.items in
+    let b = c.begin.ensures in
+    let level : Level = record { folder = None; first = None; entries = Kept c.match-begin.kept; faults = c.new.result } in
+    let one = at_most_one g c in
+    let same = b.lists.listed in
+    let own : kept_of lying.entries lying.folder ≡ 1 = rw (lies.unread, lies.folder_is) refl in
+    let stack : levels_of (with_top c.begin.new.inside level) ≡ xs ++ level ∷ [] = ap (λ (i : _). i.stack.items ++ level ∷ []) b.same in
+    let P : List Level → Type 0 = λ levels. KeepsListed s (xs ++ lying ∷ []) now levels in
+    subst P (sym stack) (kept_top s now xs lying level (omega (arith, one, same, own)))

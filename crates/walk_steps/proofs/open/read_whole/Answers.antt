@@ -8,6 +8,7 @@ use Rattle.walk_steps.proofs.leave.SoundLemmas.{all_same_reads, clear_unread}
 use Rattle.walk_steps.proofs.open.OpenLemmas.{clear_from, is_sound_top, keeps_none, keeps_top, less_top, most_open, no_top, not_ok, read_moves, sound_on, sound_top}
 use Rattle.walk_steps.proofs.next.CauseLemmas.{counts_read}
 use Rattle.walk_steps.proofs.next.ListedLemmas.{listed_read}
+use Rattle.walk_steps.proofs.take.ProgressLemmas.{kept_top}
 use Rattle.walk_steps.proofs.take.WaitsLemmas.{counted_each, gives_read}
 use Rattle.walk_steps.proofs.open.read_whole.Goals as goal
 
@@ -98,8 +99,11 @@ returns-clause-counted g c = λ there.
     let level : Level = record { folder = Some c.args.folder; first = None; entries = Kept c.in_ok-entries.entries; faults = c.read_folder.new.faults } in
     counts_read (g.D.Disk.state c.args.disk.now) (g.D.Disk.state c.read_folder.new.disk) c.args.inside.now.stack.items level c.new-faults.result.items c.new-faults.ensures.items (c.in_ok-entries.ensures.due there)
 
-pub returns-in_err-entries-clause-settled : goal.returns-in_err-entries-clause-settled
-returns-in_err-entries-clause-settled g c = not_ok _ c.from_residual.result c.from_residual.ensures.0
+pub returns-in_err-entries-clause-read : goal.returns-in_err-entries-clause-read
+returns-in_err-entries-clause-read g c = not_ok _ c.from_residual.result c.from_residual.ensures.0
+
+pub returns-in_err-entries-clause-kept : goal.returns-in_err-entries-clause-kept
+returns-in_err-entries-clause-kept g c = λ lying lies. not_ok _ c.from_residual.result c.from_residual.ensures.0
 
 pub returns-in_err-entries-clause-listed_whole : goal.returns-in_err-entries-clause-listed_whole
 returns-in_err-entries-clause-listed_whole g c = λ tells by count compares to_list none. not_ok _ c.from_residual.result c.from_residual.ensures.0
@@ -107,8 +111,18 @@ returns-in_err-entries-clause-listed_whole g c = λ tells by count compares to_l
 pub returns-in_err-entries-clause-unlisted : goal.returns-in_err-entries-clause-unlisted
 returns-in_err-entries-clause-unlisted g c = λ deep. (c.read_folder.ensures.unopened deep).listed
 
-pub returns-clause-settled : goal.returns-clause-settled
-returns-clause-settled g c = tt
+pub returns-clause-read : goal.returns-clause-read
+returns-clause-read g c = record { level = _; on_top = refl; read = tt; first = refl }
+
+pub returns-clause-kept : goal.returns-clause-kept
+returns-clause-kept g c = λ lying lies.
+    let s = g.D.Disk.state c.args.disk.now in
+    let now = g.D.Disk.state c.read_folder.new.disk in
+    let r = c.in_ok-entries.ensures in
+    let level : Level = record { folder = Some c.args.folder; first = None; entries = Kept c.in_ok-entries.entries; faults = c.read_folder.new.faults } in
+    let n = c.in_ok-entries.entries.ok.0 in
+    let more = counted_each (vec_len c.in_ok-entries.entries) s now r.taken r.later in
+    kept_top s now c.args.inside.now.stack.items lying level (omega (arith, n, more))
 
 pub returns-clause-unlisted : goal.returns-clause-unlisted
 returns-clause-unlisted g c = λ deep. (c.read_folder.ensures.unopened deep).listed
