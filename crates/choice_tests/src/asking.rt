@@ -2,7 +2,7 @@
 //!
 //! A line is a path, or `!` and the text of a fault.
 
-use chosen_files::{Choice, ChoiceFault, GlobsError, choose_capped, choose_kept, read_globs};
+use chosen_files::{Choice, ChoiceFault, choose_capped, choose_kept, read_globs};
 use glob_match::Glob;
 use mem_io::MemDisk;
 use sd_base::Text;
@@ -21,7 +21,7 @@ fn globs_of(alloc: Global, texts: &[&str]) -> Result<Globs, Fail> {
 }
 
 /// These globs as they are read.
-fn read(alloc: Global, globs: &Globs) -> Result<Vec<Glob>, GlobsError> {
+fn read(alloc: Global, globs: &Globs) -> Result<Vec<Glob>, ChoiceFault> {
     read_globs(alloc, globs)
 }
 

@@ -14,6 +14,7 @@ use Rattle.chosen_files.specs.declared.fault.ChoiceFault.{ChoiceFault}
 use Rattle.chosen_files.specs.declared.fault.ChoiceFault.TheVariants as fault
 use Rattle.chosen_files.specs.Below.{HasManyBelow}
 use Rattle.chosen_files.specs.Chosen.{IsPathBelow}
+use Rattle.chosen_files.specs.Globs.{IsFirstInvalid}
 use Rattle.chosen_files.specs.Kept.{ListsKept}
 use Rattle.chosen_files.specs.Seen.{HasFewerSeen, HasManySeen, ListsOnlySeen}
 
@@ -35,8 +36,17 @@ WalkFails d (error.Loop path depth ancestor ident) = ⊥
 WalkFails d error.NoMemory = ⊥
 WalkFails d error.TooMany = ⊥
 
+-- why globs aren't read: the first that is invalid stands at this place
+abbrev pub GlobsFail : List (List ℕ) → ChoiceFault → Type 0
+GlobsFail globs (fault.BadGlob place) = IsFirstInvalid globs place
+GlobsFail globs fault.RootMissing = ⊥
+GlobsFail globs (fault.Walk failed) = ⊥
+GlobsFail globs fault.TooMany = ⊥
+GlobsFail globs fault.NoMemory = ⊤
+
 -- why no files are chosen
 abbrev pub ChoiceFails : List ℕ → ℕ → Course DiskState → ChoiceFault → Type 0
+ChoiceFails root cap d (fault.BadGlob place) = ⊥
 ChoiceFails root cap d fault.RootMissing = AsTold d.tells (LeadsNowhere d.old root true) (DiskFailed d)
 ChoiceFails root cap d (fault.Walk failed) = WalkFails d failed
 ChoiceFails root cap d fault.TooMany = AsTold d.tells (HasManyBelow cap d.old.tree root) (d.old.listed + cap ≤ d.new.listed)
@@ -44,6 +54,7 @@ ChoiceFails root cap d fault.NoMemory = ⊤
 
 -- why no files are chosen under rules of what is ignored
 abbrev pub KeepFails : List ℕ → List Rule → ℕ → Course DiskState → ChoiceFault → Type 0
+KeepFails root rules cap d (fault.BadGlob place) = ⊥
 KeepFails root rules cap d fault.RootMissing = AsTold d.tells (LeadsNowhere d.old root true) (DiskFailed d)
 KeepFails root rules cap d (fault.Walk failed) = WalkFails d failed
 KeepFails root rules cap d fault.TooMany = AsTold d.tells (HasManySeen cap d.old.tree root rules) (d.old.listed + cap ≤ d.new.listed)

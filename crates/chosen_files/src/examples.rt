@@ -9,7 +9,7 @@ ghost use Rattle.walk_rest.specs.Examples.{tree_with, item};
 ghost use Rattle.walk_rest.specs.Listing.{first_options};
 ghost use Rattle.chosen_files.specs.declared.fault.ChoiceFault.TheVariants as choice_fault;
 ghost use Rattle.chosen_files.specs.Below.{HasFewerBelow, HasManyBelow};
-ghost use Rattle.chosen_files.specs.Choice.{ChoiceFails, KeepsLists};
+ghost use Rattle.chosen_files.specs.Choice.{ChoiceFails, GlobsFail, KeepsLists};
 ghost use Rattle.chosen_files.specs.Examples.{d_nodes, d_items, in_p, p_nodes, p_rules};
 ghost use Rattle.chosen_files.specs.Kept.{Kept};
 ghost use Rattle.chosen_files.specs.Picks.{IsPlainWalk, Picks};
@@ -50,7 +50,8 @@ pub fn entries_are_counted_as_in_the_examples()
     ensures nowhere { ¬ HasFewerBelow 6 (tree_with d_nodes) (codes "/n") }
 {}
 
-/// Why nothing is chosen: a root that leads to nothing, a cap that is met, and no other cause.
+/// Why nothing is chosen: a root that leads to nothing, a cap that is met, and no other cause; a glob is refused as it is read, and
+/// by nothing else.
 pub fn choices_fail_as_in_the_examples()
     ensures no_root { (old new : DiskState) → old.tree ≡ tree_with d_nodes → ChoiceFails (codes "/n") 6 (course true old new) choice_fault.RootMissing }
     ensures a_root { (old new : DiskState) → old.tree ≡ tree_with d_nodes → ¬ ChoiceFails (codes "/d") 6 (course true old new) choice_fault.RootMissing }
@@ -58,6 +59,8 @@ pub fn choices_fail_as_in_the_examples()
         → ¬ ChoiceFails root 6 (course false old new) choice_fault.RootMissing }
     ensures cap_met { (old new : DiskState) → old.tree ≡ tree_with d_nodes → ChoiceFails (codes "/d") 5 (course true old new) choice_fault.TooMany }
     ensures below_cap { (old new : DiskState) → old.tree ≡ tree_with d_nodes → ¬ ChoiceFails (codes "/d") 6 (course true old new) choice_fault.TooMany }
+    ensures globs_read { (root : List ℕ) (old new : DiskState) → ¬ ChoiceFails root 6 (course true old new) (choice_fault.BadGlob 0) }
+    ensures globs_alone { (globs : List (List ℕ)) → ¬ GlobsFail globs choice_fault.RootMissing }
 {}
 
 /// What stays of the lists: all that were open, how many are, and how many may be at once meanwhile.

@@ -1,4 +1,4 @@
-//! Why no files are chosen.
+//! Why globs are not read, or no files are chosen.
 
 ghost use Rattle.std.specs.Prelude.{◌≡◌};
 ghost use Rattle.chosen_files.specs.declared.fault.ChoiceFault.TheVariants as choice_fault;
@@ -9,9 +9,13 @@ use std::alloc::{AllocError, AllocFailed};
 use thiserror::Error;
 use walkdir::Error as WalkError;
 
-/// Why the files that are to be worked on are not chosen.
+/// Why globs are not read, or the files that are to be worked on are not chosen.
 #[derive(Debug, Drop, Error)]
 pub enum ChoiceFault {
+    /// The glob at this place among the globs, counted from 0, is the first that is invalid. No choice by globs that were read
+    /// is refused for it.
+    #[error("invalid glob at place {0}")]
+    BadGlob(usize),
     /// The root leads to no node.
     #[error("the root leads to nothing")]
     RootMissing,

@@ -21,7 +21,7 @@ pub use examples::{
     lists_are_kept_as_in_the_examples, walks_are_plain_as_in_the_examples,
 };
 pub use fault::ChoiceFault;
-pub use globs::{GlobsError, read_globs};
+pub use globs::read_globs;
 pub use laws::{
     a_walk_lists_all_that_is_seen, a_whole_walk_lists_all, chosen_is_the_listing,
     fewer_are_not_many, kept_files_are_seen, no_rules_keep_all, one_list_of_chosen_files,

@@ -11,7 +11,7 @@ use crate::shown::left_difference;
 use crate::tree::disk_of;
 use anyhow::Error;
 use case_reader::{Case, Line};
-use chosen_files::{Choice, ChoiceFault, GlobsError, choose_capped, read_globs};
+use chosen_files::{Choice, ChoiceFault, choose_capped, read_globs};
 use glob_match::Glob;
 use mem_io::MemDisk;
 use sd_base::{Globs, Text};
@@ -112,7 +112,7 @@ pub fn globs(alloc: Global, case: &Case<'_>) -> Answer {
 }
 
 /// How many globs are read.
-fn count_of(alloc: Global, globs: &Globs) -> Result<usize, GlobsError> {
+fn count_of(alloc: Global, globs: &Globs) -> Result<usize, ChoiceFault> {
     Ok(read_globs(alloc, globs)?.len())
 }
 

@@ -3,8 +3,6 @@ use Rattle.sd_io.specs.declared.fault.DiskFault.{DiskFault}
 use Rattle.sd_io.specs.declared.fault.DiskFault.TheVariants as disk
 use Rattle.sd_replace.specs.declared.error.ReplacerFault.{ReplacerFault}
 use Rattle.sd_replace.specs.declared.error.ReplacerFault.TheVariants as replacer
-use Rattle.chosen_files.specs.declared.globs.GlobsError.{GlobsError}
-use Rattle.chosen_files.specs.declared.globs.GlobsError.TheVariants as globs
 use Rattle.chosen_files.specs.declared.fault.ChoiceFault.{ChoiceFault}
 use Rattle.chosen_files.specs.declared.fault.ChoiceFault.TheVariants as choice
 use Rattle.many_files.specs.declared.fault.FilesFault.{FilesFault}
@@ -27,11 +25,8 @@ of_replacer (replacer.InvalidReplaceCapture capture) = error.InvalidReplaceCaptu
 of_replacer (replacer.Regex refused) = error.Regex refused
 of_replacer replacer.NoMemory = error.NoMemory
 
-abbrev pub of_globs : GlobsError → Error
-of_globs (globs.Invalid place) = error.BadGlob place
-of_globs globs.NoMemory = error.NoMemory
-
 abbrev pub of_choice : ChoiceFault → Error
+of_choice (choice.BadGlob place) = error.BadGlob place
 of_choice choice.RootMissing = error.RootMissing
 of_choice (choice.Walk failed) = error.Walk failed
 of_choice choice.TooMany = error.TooMany

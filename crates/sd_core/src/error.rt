@@ -4,7 +4,7 @@ ghost use Rattle.std.specs.Prelude.{◌≡◌};
 ghost use Rattle.sd_core.specs.Errors as form;
 ghost use Rattle.sd_core.specs.declared.error.Error.TheVariants as error;
 
-use chosen_files::{ChoiceFault, GlobsError};
+use chosen_files::ChoiceFault;
 use many_files::{FailedJobs, FilesFault};
 use named_files::PreviewFault;
 use planned_files::ApplyFault;
@@ -113,21 +113,12 @@ pub(crate) fn of_replacer(fault: ReplacerFault) -> Error
     }
 }
 
-/// The fault of globs that aren't read.
-pub(crate) fn of_globs(fault: GlobsError) -> Error
-    ensures { result ≡ form.of_globs fault }
-{
-    match fault {
-        GlobsError::Invalid(place) => Error::BadGlob(place),
-        GlobsError::NoMemory => Error::NoMemory,
-    }
-}
-
-/// The fault of a choice of files.
+/// The fault of globs that aren't read, or of a choice of files.
 pub(crate) fn of_choice(fault: ChoiceFault) -> Error
     ensures { result ≡ form.of_choice fault }
 {
     match fault {
+        ChoiceFault::BadGlob(place) => Error::BadGlob(place),
         ChoiceFault::RootMissing => Error::RootMissing,
         ChoiceFault::Walk(failed) => Error::Walk(failed),
         ChoiceFault::TooMany => Error::TooMany,

@@ -12,7 +12,7 @@ ghost use Rattle.chosen_files.specs.Seen.{ListsOnlySeen};
 ghost use Rattle.sd_core.specs.Selection.{by_globs, by_rules, ListsSelected};
 ghost use Rattle.sd_core.specs.Sweep.{SelectingFails, IsClear, IsErrOrMemory, may_name_file};
 
-use crate::error::{of_choice, of_globs};
+use crate::error::of_choice;
 use crate::{Error, Result};
 use chosen_files::{choose_capped, choose_kept, read_globs};
 use file_rewrite::is_no_path;
@@ -49,7 +49,7 @@ pub(crate) fn select<D: Disk>(
     ensures complete { IsClear (by_globs root.now globs.now) cap (course D.tells (D.state disk.old) (D.state disk.new))
         → IfErr result (λ failed. failed ≡ Error.NoMemory) }
 {
-    let globs = read_globs(alloc, globs).map_err(of_globs)?;
+    let globs = read_globs(alloc, globs).map_err(of_choice)?;
     let choice = choose_capped(alloc, disk, root, &globs, cap).map_err(of_choice)?;
     Ok(keep_named(choice.paths))
 }
@@ -83,7 +83,7 @@ pub(crate) fn select_kept<D: Disk>(
     ensures complete { IsClear (by_rules root.now globs.now rules.now) cap (course D.tells (D.state disk.old) (D.state disk.new))
         → IfErr result (λ failed. failed ≡ Error.NoMemory) }
 {
-    let globs = read_globs(alloc, globs).map_err(of_globs)?;
+    let globs = read_globs(alloc, globs).map_err(of_choice)?;
     let choice = choose_kept(alloc, disk, root, &globs, rules, cap).map_err(of_choice)?;
     Ok(keep_named(choice.paths))
 }

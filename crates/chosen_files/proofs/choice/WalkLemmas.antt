@@ -209,6 +209,7 @@ refused_from root rules cap tells old begun new levels failed same told none cou
 
 pub keep_later : (root : List ℕ) (rules : List Rule) (cap : ℕ) (tells : Bool) (old mid new : DiskState) (failed : ChoiceFault) → SameTree old mid → old.faults ≤ mid.faults → mid.listed ≡ old.listed
     → KeepFails root rules cap (course tells mid new) failed → KeepFails root rules cap (course tells old new) failed
+keep_later root rules cap tells old mid new (fault.BadGlob place) same le listed h = h
 keep_later root rules cap tells old mid new fault.RootMissing same le listed h = (
   (λ told. subst (λ (t : Tree). reached t root true ≡ None) same.tree (h.0 told)),
   (λ off. walk_later tells old mid new (Disk None 0) le (h.1 off)),
@@ -223,6 +224,7 @@ keep_later root rules cap tells old mid new fault.NoMemory same le listed h = h
 -- where nothing else stands in the way, it is refused for want of memory
 pub only_memory : (root : List ℕ) (rules : List Rule) (cap : ℕ) (tells : Bool) (old new : DiskState) (failed : ChoiceFault) → IsTrue tells → IsSome (reached old.tree root true)
     → HasFewerSeen cap old.tree root rules → (DiskFailed (course tells old new) → ⊥) → KeepFails root rules cap (course tells old new) failed → failed ≡ fault.NoMemory
+only_memory root rules cap tells old new (fault.BadGlob place) told leads few unfailed h = absurd h
 only_memory root rules cap tells old new fault.RootMissing told leads few unfailed h = let none = h.0 told in absurd (cc (leads, none))
 only_memory root rules cap tells old new (fault.Walk failed) told leads few unfailed h = absurd (by failed h)
   where
@@ -329,6 +331,7 @@ chooses_fails root globs rules cap tells old new (Err other) failed is fails tre
 
 -- without rules it fails as a choice of all files does
 pub fails_for_none : (root : List ℕ) (cap : ℕ) (d : Course DiskState) (failed : ChoiceFault) → KeepFails root [] cap d failed → ChoiceFails root cap d failed
+fails_for_none root cap d (fault.BadGlob place) h = h
 fails_for_none root cap d fault.RootMissing h = h
 fails_for_none root cap d (fault.Walk failed) h = h
 fails_for_none root cap d fault.TooMany h = ((λ told. many_below cap d.old.tree root (h.0 told)), h.1)

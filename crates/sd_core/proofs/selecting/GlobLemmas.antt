@@ -5,12 +5,10 @@ use Rattle.std.proofs.lemmas.List.Elements.{All-head, All-tail}
 use Rattle.sd_io.specs.Disk.{DiskState}
 use Rattle.sd_course.specs.Course.{course}
 use Rattle.chosen_files.specs.Globs.{IsValid, IsFirstInvalid}
-use Rattle.chosen_files.specs.Choice.{ChoiceFails}
+use Rattle.chosen_files.specs.Choice.{ChoiceFails, GlobsFail}
 use Rattle.chosen_files.specs.declared.fault.ChoiceFault.{ChoiceFault}
 use Rattle.chosen_files.specs.declared.fault.ChoiceFault.TheVariants as choice_fault
-use Rattle.chosen_files.specs.declared.globs.GlobsError.{GlobsError}
-use Rattle.chosen_files.specs.declared.globs.GlobsError.TheVariants as globs_error
-use Rattle.sd_core.specs.Errors.{of_globs, of_choice}
+use Rattle.sd_core.specs.Errors.{of_choice}
 use Rattle.sd_core.specs.Selection.{by_globs}
 use Rattle.sd_core.specs.Sweep.{SelectingFails}
 use Rattle.sd_core.specs.declared.error.Error.TheVariants as error
@@ -44,31 +42,44 @@ none_first [] p all at = at
 none_first (glob ∷ globs) zero all at = at (All-head IsValid glob globs all)
 none_first (glob ∷ globs) (suc p) all at = none_first globs p (All-tail IsValid glob globs all) at.1
 
-module _ (globs : List (List ℕ)) (why : GlobsError) (first : (place : ℕ) → why ≡ globs_error.Invalid place → IsFirstInvalid globs place) where
-  pub globs_told : (place : ℕ) → IsFirstInvalid globs place → (of_globs why ≡ error.BadGlob place) ⊎ (of_globs why ≡ error.NoMemory)
-  globs_told place at = by why refl
+pub failed_of : {T E : Type 0} (P : E → Type 0) (r : Result T E) (fault : E) → r ≡ Err fault → IfErr r P → P fault
+failed_of P r fault is h = rw is at h
+
+module _ (globs : List (List ℕ)) (why : ChoiceFault) (fails : GlobsFail globs why) where
+  pub globs_told : (place : ℕ) → IsFirstInvalid globs place → (of_choice why ≡ error.BadGlob place) ⊎ (of_choice why ≡ error.NoMemory)
+  globs_told place at = by why fails
     where
-      by : (e : GlobsError) → why ≡ e → (of_globs e ≡ error.BadGlob place) ⊎ (of_globs e ≡ error.NoMemory)
-      by (globs_error.Invalid p) e = inl (ap error.BadGlob (one_first globs p place (first p e) at))
-      by globs_error.NoMemory e = inr refl
+      by : (e : ChoiceFault) → GlobsFail globs e → (of_choice e ≡ error.BadGlob place) ⊎ (of_choice e ≡ error.NoMemory)
+      by (choice_fault.BadGlob p) h = inl (ap error.BadGlob (one_first globs p place h at))
+      by choice_fault.RootMissing h = absurd h
+      by (choice_fault.Walk failed) h = absurd h
+      by choice_fault.TooMany h = absurd h
+      by choice_fault.NoMemory h = inr refl
 
   -- where all are valid, it is for want of memory
-  pub globs_for_memory : All IsValid globs → of_globs why ≡ error.NoMemory
-  globs_for_memory valid = by why refl
+  pub globs_for_memory : All IsValid globs → of_choice why ≡ error.NoMemory
+  globs_for_memory valid = by why fails
     where
-      by : (e : GlobsError) → why ≡ e → of_globs e ≡ error.NoMemory
-      by (globs_error.Invalid p) e = absurd (none_first globs p valid (first p e))
-      by globs_error.NoMemory e = refl
+      by : (e : ChoiceFault) → GlobsFail globs e → of_choice e ≡ error.NoMemory
+      by (choice_fault.BadGlob p) h = absurd (none_first globs p valid h)
+      by choice_fault.RootMissing h = absurd h
+      by (choice_fault.Walk failed) h = absurd h
+      by choice_fault.TooMany h = absurd h
+      by choice_fault.NoMemory h = refl
 
-  pub globs_fail : (root : List ℕ) (cap : ℕ) (tells : Bool) (s : DiskState) → SelectingFails (by_globs root globs) cap (course tells s s) (of_globs why)
-  globs_fail root cap tells s = by why refl
+  pub globs_fail : (root : List ℕ) (cap : ℕ) (tells : Bool) (s : DiskState) → SelectingFails (by_globs root globs) cap (course tells s s) (of_choice why)
+  globs_fail root cap tells s = by why fails
     where
-      by : (e : GlobsError) → why ≡ e → SelectingFails (by_globs root globs) cap (course tells s s) (of_globs e)
-      by (globs_error.Invalid p) e = (first p e, refl)
-      by globs_error.NoMemory e = tt
+      by : (e : ChoiceFault) → GlobsFail globs e → SelectingFails (by_globs root globs) cap (course tells s s) (of_choice e)
+      by (choice_fault.BadGlob p) h = (h, refl)
+      by choice_fault.RootMissing h = absurd h
+      by (choice_fault.Walk failed) h = absurd h
+      by choice_fault.TooMany h = absurd h
+      by choice_fault.NoMemory h = tt
 
 pub choice_fails : (root : List ℕ) (globs : List (List ℕ)) (cap : ℕ) (tells : Bool) (old new : DiskState) (why : ChoiceFault) → ChoiceFails root cap (course tells old new) why
     → SelectingFails (by_globs root globs) cap (course tells old new) (of_choice why)
+choice_fails root globs cap tells old new (choice_fault.BadGlob place) f = absurd f
 choice_fails root globs cap tells old new choice_fault.RootMissing f = f
 choice_fails root globs cap tells old new (choice_fault.Walk failed) f = f
 choice_fails root globs cap tells old new choice_fault.TooMany f = f

@@ -32,3 +32,9 @@ returns-clause-cap_met c = λ old new tree. (
 pub returns-clause-below_cap : goal.returns-clause-below_cap
 returns-clause-below_cap c = λ old new tree fails.
     fewer_not_many 6 old.tree (codes "/d") (subst (λ (t : Tree). HasFewerBelow 6 t (codes "/d")) (sym tree) fewer_than_six) (fails.0 refl)
+
+pub returns-clause-globs_read : goal.returns-clause-globs_read
+returns-clause-globs_read c = λ root old new fails. fails
+
+pub returns-clause-globs_alone : goal.returns-clause-globs_alone
+returns-clause-globs_alone c = λ globs fails. fails

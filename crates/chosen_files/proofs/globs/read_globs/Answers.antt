@@ -1,14 +1,12 @@
 use Rattle.std.proofs.Common.{◌≡◌, ◌∙◌, ◌++◌, ◌∷◌, [], sym, subst, take, rules}
 use Rattle.std.specs.List.{AllByRecursion}
-use Rattle.chosen_files.specs.Globs.{IsValid, IsFirstInvalid}
+use Rattle.chosen_files.specs.Globs.{IsValid}
 use Rattle.chosen_files.proofs.globs.GlobsLemmas.{first_after, not_valid, take_more, valid_more}
 use Rattle.chosen_files.proofs.globs.read_globs.Goals as goal
 
-pub returns-in-None-clause-invalid : goal.returns-in-None-clause-invalid
-returns-in-None-clause-invalid c = λ place is.
-    let at : c.loop-place.place ≡ place = cc is in
-    subst (IsFirstInvalid c.args.globs.now) at
-    (first_after c.args.globs.now c.loop-place.place c.get.result.now c.loop-place.invariant.valid c.get.ensures.same (not_valid c.get.result.now (rw c.in-None.is at c.in_ok-glob.ensures)))
+pub returns-in-None-clause-refused : goal.returns-in-None-clause-refused
+returns-in-None-clause-refused c =
+    first_after c.args.globs.now c.loop-place.place c.get.result.now c.loop-place.invariant.valid c.get.ensures.same (not_valid c.get.result.now (rw c.in-None.is at c.in_ok-glob.ensures))
 
 pub loop-place-preserved : goal.loop-place-preserved
 loop-place-preserved c =

@@ -1,19 +1,20 @@
 use Rattle.std.proofs.Common.{◌∙◌, ap, refl, inl, inr, rules}
 use Rattle.std.specs.Prelude.{All, Err}
+use Rattle.chosen_files.specs.Choice.{GlobsFail}
 use Rattle.chosen_files.specs.Chosen.{IsPathBelow}
 use Rattle.chosen_files.specs.Kept.{ListsKept}
-use Rattle.sd_core.specs.Errors.{of_globs}
+use Rattle.sd_core.specs.Errors.{of_choice}
 use Rattle.sd_core.specs.declared.error.Error.{Error}
-use Rattle.sd_core.proofs.selecting.GlobLemmas.{err_of, if_ok, if_err, is_told, none_first, globs_told, globs_for_memory}
+use Rattle.sd_core.proofs.selecting.GlobLemmas.{err_of, failed_of, if_ok, if_err, is_told, none_first, globs_told, globs_for_memory}
 use Rattle.sd_core.proofs.selecting.SelectionLemmas.{kept_kept}
 use Rattle.sd_core.proofs.selecting.select_kept.Goals as goal
 
 pub returns-in_err-globs-clause-bad_glob : goal.returns-in_err-globs-clause-bad_glob
 returns-in_err-globs-clause-bad_glob g c = λ place at.
-    let (fault, was, is) = err_of of_globs c.read_globs.result c.in_err-globs.field-0.0 c.in_err-globs.ensures.cases in
+    let (fault, was, is) = err_of of_choice c.read_globs.result c.in_err-globs.field-0.0 c.in_err-globs.ensures.cases in
     let told = is_told c.from_residual.result _ c.from_residual.ensures.1 in (
       refl,
-      elim (globs_told c.args.globs.now fault (λ p e. c.read_globs.ensures.invalid p (was ∙ ap Err e)) place at) [
+      elim (globs_told c.args.globs.now fault (failed_of (GlobsFail c.args.globs.now) c.read_globs.result fault was c.read_globs.ensures.refused) place at) [
         | inl e ↦ inl (told ∙ ap Err (is ∙ e))
         | inr e ↦ inr (told ∙ ap Err (is ∙ e))
       ],
@@ -21,9 +22,9 @@ returns-in_err-globs-clause-bad_glob g c = λ place at.
 
 pub returns-in_err-globs-clause-complete : goal.returns-in_err-globs-clause-complete
 returns-in_err-globs-clause-complete g c = λ clear.
-    let (fault, was, is) = err_of of_globs c.read_globs.result c.in_err-globs.field-0.0 c.in_err-globs.ensures.cases in
+    let (fault, was, is) = err_of of_choice c.read_globs.result c.in_err-globs.field-0.0 c.in_err-globs.ensures.cases in
     if_err c.from_residual.result _ _ (is_told c.from_residual.result _ c.from_residual.ensures.1)
-    (is ∙ globs_for_memory c.args.globs.now fault (λ p e. c.read_globs.ensures.invalid p (was ∙ ap Err e)) clear.valid)
+    (is ∙ globs_for_memory c.args.globs.now fault (failed_of (GlobsFail c.args.globs.now) c.read_globs.result fault was c.read_globs.ensures.refused) clear.valid)
 
 pub returns-in_err-choice-clause-bad_glob : goal.returns-in_err-choice-clause-bad_glob
 returns-in_err-choice-clause-bad_glob g c = λ place at. absurd (none_first c.args.globs.now place (search rules) at)
