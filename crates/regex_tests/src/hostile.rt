@@ -94,7 +94,10 @@ fn more_spots_than_a_block_has(rt: HostRuntime) -> Result<(), Fail> {
 // and behind it the look, which fails.
 #[test]
 fn groups_that_end_together(rt: HostRuntime) -> Result<(), Fail> {
-    let searcher = searcher_of(rt.alloc(), r"((((((((((?:|||||||||||||||||||))))))))))z\by")?;
+    let searcher = searcher_of(
+        rt.alloc(),
+        r"(((((((((((?:|||||||||||||||||||)))))))))))z\by",
+    )?;
     let noted = noted_steps(rt.alloc(), &searcher, b"zy");
     drop(searcher);
     assert_eq!(rt; noted?, (false, 20 + 10 + 1 + 1));
