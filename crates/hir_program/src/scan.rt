@@ -403,6 +403,7 @@ impl Scan {
     }
 
     /// The next places of a text, from one on, that may have a match, by shifts.
+    #[inline(never)]
     fn next_by_shifts(&self, text: &[u8], at: usize) -> Option<Candidate>
         requires { at ≤ length text.now }
         ensures none { IfNone result (NoneBegins text.now self.now at (length text.now + 1)) }
@@ -457,23 +458,29 @@ impl Scan {
     }
 
     /// The next place from one on where a byte stands by which a run may begin.
+    #[inline(always)]
     fn next_stop(&self, text: &[u8], at: usize) -> Option<Candidate>
         requires { at ≤ length text.now }
         ensures none { IfNone result (NoneBegins text.now self.now at (length text.now + 1)) }
         ensures some { IfSome result (λ c. NoneBegins text.now self.now at c.from) }
         ensures order { IfSome result (λ c. (at ≤ c.from) × (c.from ≤ c.until) × (c.until ≤ length text.now)) }
     {
-        let place = self.skip_ahead(text, at).from;
-        if place == text.len() && !self.may_start(text, place) {
+        let Some(prefilter) = &self.prefilter else {
+            return Some(Candidate {
+                from: at,
+                until: at,
+            });
+        };
+        let next = prefilter.next(text, at);
+        if next == text.len() && !self.may_start(text, next) {
             return None;
         }
-        Some(Candidate {
-            from: place,
-            until: place,
-        })
+        let from = prefilter.gap(self.takes.as_slice(), text, at, next);
+        Some(Candidate { from, until: from })
     }
 
     /// The next places of a text, from one on, that may have a match. None where no place from there on has one.
+    #[inline(always)]
     pub fn next(&self, text: &[u8], at: usize) -> Option<Candidate>
         requires { at ≤ length text.now }
         ensures none { IfNone result ((spots : List Spot) → IsFilterOf spots self.now → NoRun text.now spots at (length text.now + 1)) }
