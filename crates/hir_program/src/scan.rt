@@ -139,10 +139,9 @@ impl Scan {
     fn without_loops(alloc: Global, spots: &[Spot]) -> Result<Option<Scan>, NoMemory>
         ensures { IfOk result (λ scan. IfSome scan (λ s. IsFilterOf spots.now s)) }
     {
-        let of = takes::takers(alloc, spots)?;
-        if of.len() > 62 {
+        let Some(of) = takes::takers(alloc, spots)? else {
             return Ok(None);
-        }
+        };
         let first_look = asked::first_look(alloc, spots, of.as_slice())?;
         let last_look = asked::last_look(spots);
         let takes = takes::takes(alloc, spots, of.as_slice())?;

@@ -1,6 +1,6 @@
 //! Which spots take which bytes.
 
-ghost use Rattle.std.specs.Prelude.{◌≡◌, ◌<◌, ◌≤◌, ℕ, true, length, slice_index, replicate, vec_len, IfOk};
+ghost use Rattle.std.specs.Prelude.{◌≡◌, ◌<◌, ◌≤◌, ℕ, true, length, slice_index, replicate, vec_len, IfOk, IfSome};
 ghost use Rattle.hir_program.specs.Program.{spot_at};
 ghost use Rattle.hir_tree.specs.Runs.{in_set};
 ghost use Rattle.hir_program.specs.Masks.{HasBit, Grows, GrowsOnly, AreOpen, IsOpen, AreTakers, AreAllTakers, SaysNoMore, SaysWhatTakes, SaysWhichAreWide, is_taker, takes_byte, has_wide, is_wide};
@@ -19,18 +19,22 @@ fn is_taker(spot: &Spot) -> bool
     matches!(spot, Spot::Bytes { .. } | Spot::Chars { .. })
 }
 
-/// The spots that take bytes, in order. Refuses for want of memory alone.
-pub fn takers(alloc: Global, spots: &[Spot]) -> Result<Vec<usize>, NoMemory>
-    ensures takers { IfOk result (λ of. AreTakers spots.now of.items) }
-    ensures all { IfOk result (λ of. AreAllTakers spots.now of.items) }
+/// The spots that take bytes, in order, if there are at most 62. Refuses for want of memory alone.
+pub fn takers(alloc: Global, spots: &[Spot]) -> Result<Option<Vec<usize>>, NoMemory>
+    ensures takers { IfOk result (λ of. IfSome of (λ of. AreTakers spots.now of.items)) }
+    ensures all { IfOk result (λ of. IfSome of (λ of. AreAllTakers spots.now of.items)) }
+    ensures few { IfOk result (λ of. IfSome of (λ of. length of.items ≤ 62)) }
 {
     let mut of = Vec::new(alloc);
     for (place, spot) in spots.iter().enumerate() {
         if is_taker(spot) {
+            if of.len() == 62 {
+                return Ok(None);
+            }
             of.push(place)?;
         }
     }
-    Ok(of)
+    Ok(Some(of))
 }
 
 /// Adds the bit of a spot at the bytes from one to another.

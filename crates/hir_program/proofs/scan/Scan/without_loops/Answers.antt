@@ -28,5 +28,5 @@ returns c =
           (subst (λ (rows : List ℕ). IfSome required (λ k. IsRequiredOf rows start k)) c.as_slice-11.ensures.value c.rarest-required.ensures)
           (subst (λ (takes : List ℕ). IfSome prefilter (λ k. (required ≡ Some k.required) × TellsStops takes wide k.required k.stops)) c.as_slice-12.ensures.value
           c.worth_while-prefilter.ensures)
-          c.args.spots.now c.in_ok-of.of.items c.last_look-last_look.result (search rules) (search rules);
+          c.args.spots.now c.in-Some.of.items c.last_look-last_look.result (search rules) (search rules);
     }
