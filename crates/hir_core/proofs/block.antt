@@ -4,6 +4,7 @@ mod MarkLemmas
 mod BlockEndLemmas
 mod BlockTurnLemmas
 mod FollowLemmas
+mod SizeLemmas
 mod LoopLemmas
 pub mod ThreadsLemmas
 pub mod TryLemmas

@@ -5,6 +5,7 @@ pub mod Pass
 pub mod Rows
 pub mod RunsOver
 pub mod Stamps
+pub mod Sizes
 pub mod StackSearch
 pub mod Trails
 pub mod Tries

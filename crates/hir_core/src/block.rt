@@ -3,8 +3,9 @@
 ghost use Rattle.std.specs.Prelude.{◌≡◌, ℕ, List, ◌+◌, ◌-◌, ◌*◌, ◌^◌, ◌≤◌, ◌<◌, [], ◌++◌, false, length, replicate, None, IfOk, IfSome};
 ghost use Rattle.hir_core.specs.Blocks.{AreSpent, IsFollowed, KeepsMarks, TurnedAt, mark_of};
 ghost use Rattle.hir_core.specs.Pass.{answer, leads, leads_on, match_of, stop_gives, stops_give, taken, AllFrom};
-ghost use Rattle.hir_program.specs.Program.{ClosesFall, some_run};
+ghost use Rattle.hir_program.specs.Program.{ClosesFall, some_run, spot_at};
 ghost use Rattle.hir_program.specs.Scan.{IsFilterOf};
+ghost use Rattle.hir_core.specs.Sizes.{IsSizeTaken};
 ghost use Rattle.hir_core.specs.Trails.{stops_of, stops_on, way_of};
 ghost use Rattle.hir_core.specs.Tries.{CountsTries};
 ghost use Rattle.hir_program.specs.declared.spot.Spot.{Spot};
@@ -54,23 +55,46 @@ fn move_on(size: Option<usize>, next: usize, trail: &mut Trail) -> Option<usize>
     }
 }
 
+/// How many bytes a spot takes at a place, if it takes any. Of a byte of ASCII the filter tells by a bit.
+fn taken_size(spots: &[Spot], filter: &Scan, text: &[u8], at: usize, spot: usize) -> Option<usize>
+    requires filters { IsFilterOf spots.now filter.now }
+    requires at { at ≤ length text.now }
+    ensures { IsSizeTaken text.now (spot_at spots.now spot) at result }
+{
+    let here = spots.get(spot)?;
+    if let Some(byte) = text.get(at)
+        && let Some(takes) = filter.takes_ascii(spot, *byte)
+    {
+        return if takes { Some(1) } else { None };
+    }
+    match here {
+        Spot::Bytes { set, .. } => byte_size(set, text, at),
+        Spot::Chars { set, .. } => char_size(set, text, at),
+        _ => None,
+    }
+}
+
 /// The spot that a spot leads to, at the place of the trail or after bytes from there, if there is one; a second one is put before
 /// the alternatives. Refuses for want of memory alone.
-fn advance(spot: &Spot, text: &[u8], trail: &mut Trail) -> Result<Option<usize>, NoMemory>
-    requires { trail.old.at ≤ length text.now }
-    ensures { IfOk result (λ on. stops_on on trail.new
-        ≡ (leads text.now spot.now (way_of trail.old) ++ leads_on text.now spot.now (way_of trail.old)) ++ stops_of trail.old) }
+fn advance(
+    spots: &[Spot],
+    filter: &Scan,
+    text: &[u8],
+    spot: usize,
+    trail: &mut Trail,
+) -> Result<Option<usize>, NoMemory>
+    requires filters { IsFilterOf spots.now filter.now }
+    requires at { trail.old.at ≤ length text.now }
+    ensures { let s = spot_at spots.now spot in IfOk result (λ on. stops_on on trail.new
+        ≡ (leads text.now s (way_of trail.old) ++ leads_on text.now s (way_of trail.old)) ++ stops_of trail.old) }
 {
-    match spot {
-        Spot::Bytes { set, next } => {
-            let size = byte_size(set, text, trail.at);
+    match spots.get(spot) {
+        Some(Spot::Bytes { next, .. } | Spot::Chars { next, .. }) => {
+            let size = taken_size(spots, filter, text, trail.at, spot);
             Ok(move_on(size, *next, trail))
         }
-        Spot::Chars { set, next } => {
-            let size = char_size(set, text, trail.at);
-            Ok(move_on(size, *next, trail))
-        }
-        _ => lead(spot, text, trail),
+        Some(here) => lead(here, text, trail),
+        None => Ok(None),
     }
 }
 
@@ -150,7 +174,7 @@ impl Block {
                 return Ok(Turn::On(Some(*first)));
             }
         }
-        Ok(Turn::On(advance(here, text, &mut self.trail)?))
+        Ok(Turn::On(advance(spots, filter, text, spot, &mut self.trail)?))
     }
 
     /// Follows the thread from a spot, within the block, and says whether it comes to a match: the trail then holds it. What goes on

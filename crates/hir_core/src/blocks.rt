@@ -109,7 +109,7 @@ impl Blocks {
         ensures ticks { TicksAtMost L.noted ((places.end - places.begin) * counted spots.now) steps.old steps.new }
     {
         let found = self.follow_block(spots, filter, text, places, starts, groups, steps)?;
-        self.best.update(found, &self.block.trail)?;
+        self.best.update(found, &mut self.block.trail);
         mem::swap(&mut self.threads, &mut self.block.later);
         Ok(())
     }

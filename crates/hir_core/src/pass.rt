@@ -41,16 +41,14 @@ impl Best {
         self.end = None;
     }
 
-    /// Takes the match of a trail in the place of what it has, if there is one. Refuses for want of memory alone.
-    pub fn update(&mut self, found: bool, trail: &Trail) -> Result<(), NoMemory>
-        ensures { IfOk result (λ _. best_in self.new ≡ option_or (match_of found trail.now) (best_in self.old)) }
+    /// Takes the match of a trail in the place of what it has, if there is one; the trail then has other groups.
+    pub fn update(&mut self, found: bool, trail: &mut Trail)
+        ensures { best_in self.new ≡ option_or (match_of found trail.old) (best_in self.old) }
     {
         if found {
             self.end = Some(trail.at);
-            self.groups.clear();
-            self.groups.extend_from_slice(trail.groups.as_slice())?;
+            mem::swap(&mut self.groups, &mut trail.groups);
         }
-        Ok(())
     }
 
     /// Whether there is a match.
@@ -142,7 +140,7 @@ impl Pass {
         ensures ticks { TicksAtMost L.noted (counted spots.now) steps.old steps.new }
     {
         let found = self.follow_place(spots, text, at, groups, steps)?;
-        self.best.update(found, &self.closure.trail)?;
+        self.best.update(found, &mut self.closure.trail);
         mem::swap(&mut self.threads, &mut self.closure.later);
         Ok(())
     }

@@ -4,13 +4,48 @@ ghost use Rattle.std.specs.Prelude.{◌≡◌, ◌-◌, ◌*◌, ◌≤◌, leng
 ghost use Rattle.hir_core.specs.RunsOver.{RunsOver};
 ghost use Rattle.hir_core.specs.Trails.{placed_at, stops_of, way_of};
 ghost use Rattle.hir_core.specs.Tries.{CountsTries};
-ghost use Rattle.hir_program.specs.Loops.{AreLoops};
+ghost use Rattle.hir_program.specs.Loops.{AreLoops, IsRow};
 
 use crate::block::{Places, mark_of};
 use crate::trail::Trail;
 use crate::visited::Visited;
-use hir_program::{Loops, Spot};
+use hir_program::{Loops, Row, Spot};
 use sd_base::{Ledger, Steps};
+
+/// The place up to which bytes of a block are run over, from one on, at a loop that has a row: up to where the spot was tried. It is
+/// tried, and counted, at each of them then.
+fn run_end<L: Ledger>(
+    spots: &[Spot],
+    row: &Row,
+    text: &[u8],
+    places: Places,
+    spot: usize,
+    from: usize,
+    marks: &mut Visited,
+    steps: &mut Steps<L>,
+) -> usize
+    requires row { IsRow spots.now spot row.now }
+    requires room { length spots.now * (places.end - places.begin) ≤ length marks.old }
+    requires few { length marks.old ≤ 65536 }
+    requires begin { places.begin ≤ from }
+    requires at { from ≤ length text.now }
+    ensures over { RunsOver text.now spots.now places.begin places.end spot (result - from) from marks.old marks.new }
+    ensures room { length marks.new ≡ length marks.old }
+    ensures forward { from ≤ result }
+    ensures within { result ≤ length text.now }
+    ensures ticks { CountsTries L.noted spots.now places.begin places.end marks.old marks.new steps.old steps.new }
+{
+    let end = places.end.min(text.len());
+    let mut at = from;
+    while at < end && row[text[at] as usize] {
+        if !marks.visit(mark_of(spots.len(), places, at, spot)) {
+            return at;
+        }
+        steps.tick();
+        at += 1;
+    }
+    at
+}
 
 /// Runs over bytes of a block by which the loop at a spot only goes round, from the place of the trail on, up to where the spot was
 /// tried. It is tried, and counted, at each of them then.
@@ -40,14 +75,6 @@ pub fn run_over<L: Ledger>(
     let Some(row) = loops.row(spot) else {
         return;
     };
-    let end = places.end.min(text.len());
-    while trail.at < end && row[text[trail.at] as usize] {
-        let mark = mark_of(spots.len(), places, trail.at, spot);
-        if marks.has(mark) {
-            return;
-        }
-        marks.add(mark);
-        steps.tick();
-        trail.move_on(1);
-    }
+    let at = run_end(spots, row, text, places, spot, trail.at, marks, steps);
+    trail.move_on(at - trail.at);
 }

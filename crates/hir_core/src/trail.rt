@@ -32,7 +32,8 @@ pub struct Trail {
     pub starts: Vec<usize>,
     /// What the groups hold.
     pub groups: Vec<Option<(usize, usize)>>,
-    /// The alternatives, the first to be tried last, each with its place, and between them what is undone on the way back to them.
+    /// The alternatives, the first to be tried last, each with its place, and between them what is undone on the way back to them;
+    /// nothing is noted that no alternative is before.
     pub frames: Vec<Frame>,
 }
 
@@ -108,7 +109,9 @@ impl Trail {
         ensures stops { IfOk result (λ _. stops_of self.new ≡ stops_of self.old) }
     {
         self.starts.push(self.at)?;
-        self.frames.push(Frame::Begun)?;
+        if !self.frames.is_empty() {
+            self.frames.push(Frame::Begun)?;
+        }
         Ok(())
     }
 
@@ -120,11 +123,13 @@ impl Trail {
         let start = self.starts.pop();
         let before = group(self.groups.as_slice(), index);
         set_group(&mut self.groups, index, Some((start.unwrap_or(0), self.at)));
-        self.frames.push(Frame::Ended {
-            index,
-            start,
-            before,
-        })?;
+        if !self.frames.is_empty() {
+            self.frames.push(Frame::Ended {
+                index,
+                start,
+                before,
+            })?;
+        }
         Ok(())
     }
 
@@ -154,12 +159,20 @@ impl Trail {
 
     /// Gives the spot at which the thread goes on, if there is one, or else comes back to the last alternative, and gives its
     /// spot. Refuses for want of memory alone.
+    #[inline(always)]
     pub fn next(&mut self, on: Option<usize>) -> Result<Option<usize>, NoMemory>
         ensures { IfOk result (λ next. ComesBack next (stops_on on self.old) (way_of self.new) (stops_of self.new)) }
     {
         if on.is_some() {
             return Ok(on);
         }
+        self.come_back()
+    }
+
+    /// Comes back to the last alternative, if there is one, and gives its spot. Refuses for want of memory alone.
+    fn come_back(&mut self) -> Result<Option<usize>, NoMemory>
+        ensures { IfOk result (λ next. ComesBack next (stops_of self.old) (way_of self.new) (stops_of self.new)) }
+    {
         while let Some(frame) = self.frames.pop() {
             if let Frame::Try(spot, at) = frame {
                 self.at = at;

@@ -66,6 +66,19 @@ impl Visited {
         }
     }
 
+    /// Notes a visit of a spot, if it is the first one, and says whether it is.
+    pub fn visit(&mut self, spot: usize) -> bool
+        requires { spot < length self.old }
+        ensures first { result ≡ true → (was_visited self.old spot ≡ false) × (self.new ≡ slice_set self.old spot true) }
+        ensures other { result ≡ false → (was_visited self.old spot ≡ true) × (self.new ≡ self.old) }
+    {
+        if self.stamps[spot] == self.stamp {
+            return false;
+        }
+        self.stamps[spot] = self.stamp;
+        true
+    }
+
     /// Notes a visit of a spot.
     pub fn add(&mut self, spot: usize)
         requires { spot < length self.old }

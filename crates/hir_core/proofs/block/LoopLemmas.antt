@@ -4,9 +4,6 @@ use Rattle.std.specs.Prelude.{◌&&◌, not, option_map}
 use Rattle.std.specs.List.{flat_map}
 use Rattle.std.proofs.Math.ListN.{length-set}
 use Rattle.std.proofs.lemmas.Bool.{cond-false, or_right}
-use Rattle.std.proofs.lemmas.Option.{slice_get-get_or}
-use Rattle.bstr.specs.Utf8.{Decoded}
-use Rattle.bstr.proofs.lemmas.PieceLemmas.{value-1}
 use Rattle.hir_tree.specs.Runs.{Run, moved, mark, is_seen, in_set, size_in, byte_size, char_size, as_list, take_size, first}
 use Rattle.hir_tree.specs.RunsLaws.{forget}
 use Rattle.hir_core.specs.Blocks.{mark_of, KeepsMarks}
@@ -27,31 +24,12 @@ use Rattle.hir_core.proofs.run_over.OverLemmas.{loop-live, loop-plain, loop-with
 use Rattle.hir_core.proofs.pass.PassLemmas.{Covers-above, Stands-kept, first_before, gives_fresh, nowhere}
 use Rattle.hir_program.proofs.ScanLemmas.{gives-dead}
 use Rattle.hir_core.proofs.block.LevelLemmas.{place, level}
+use Rattle.hir_core.proofs.block.SizeLemmas.{byte-size, char-size, one_if}
 use Rattle.hir_core.proofs.block.BlockLemmas.{Blocking, runs_of, top-level, moved-as}
 use Rattle.hir_core.proofs.block.BlockTurnLemmas.{NoTaker, NoTaker-none, NoTaker-more, Outside, Searching, apart, stands_goal}
 use Rattle.hir_core.proofs.block.BlockEndLemmas.{EndsBy, EndsBy-set}
 use Rattle.hir_core.proofs.block.FollowLemmas.{FollowsIn, HasRoom}
 use Rattle.hir_core.proofs.block.MarkLemmas.{adding, adding-here, adding-elsewhere, AreMarks, AreMarks-adding, KeepsMarks-none, KeepsMarks-then, mark-within, tried-is}
-
--- ---- bytes that are taken
-
--- a byte of the set is taken
-byte-taken : (text : List ℕ) (set : List (ℕ × ℕ)) (at : ℕ) → at < length text → in_set set (slice_index text at) ≡ true → byte_size set text at ≡ Some 1
-unfolding byte_size
-byte-taken text set at within is = ap (size_in set 1) (slice_get-get_or text at 0 within) ∙ ap (λ (b : Bool). if b then Some 1 else None) is
-
--- so is one of ASCII as a character
-char-taken : (text : List ℕ) (set : List (ℕ × ℕ)) (at : ℕ) → at < length text → slice_index text at < 128 → in_set set (slice_index text at) ≡ true
-    → char_size set text at ≡ Some 1
-unfolding char_size
-char-taken text set at within low is =
-    let bs : List ℕ = drop at text in
-    let first : slice_index bs 0 ≡ slice_index text at = get_or-drop at text 0 0 ∙ ap (slice_index text) (let z : at + 0 ≡ at = omega arith in z) in
-    let some : 0 < length bs = omega (arith, length-drop at text, within) in
-    let small : slice_index bs 0 < 128 = omega (arith, first, low) in
-    let whole = value-1 (length bs) (slice_index bs 0) (slice_index bs 1) (slice_index bs 2) (slice_index bs 3) (some, small) in
-    ap (λ (p : Decoded). size_in set p.size p.char) whole ∙ ap (λ (m : ℕ). if in_set set m then Some 1 else None) first
-    ∙ ap (λ (b : Bool). if b then Some 1 else None) is
 
 second : (a b : Bool) → (a && b) ≡ true → b ≡ true
 second true b e = e
@@ -98,9 +76,9 @@ module _ (text : List ℕ) (spots : List Spot) (falls : ClosesFall spots) where
 
       cases : (s : Spot) → spot_at spots r ≡ s → LeadsTo s q → takes_byte s (slice_index text t.run.at) ≡ true → gives text spots r t ≡ gives text spots q (later t)
       cases (spot.Bytes set f) k leads takes =
-          on (spot.Bytes set f) (byte_size set text) f k refl leads.1 refl (byte-taken text set t.run.at within takes)
+          on (spot.Bytes set f) (byte_size set text) f k refl leads.1 refl (byte-size text set t.run.at within ∙ ap one_if takes)
       cases (spot.Chars set f) k leads takes =
-          on (spot.Chars set f) (char_size set text) f k refl leads.1 refl (char-taken text set t.run.at within low (second _ _ takes))
+          on (spot.Chars set f) (char_size set text) f k refl leads.1 refl (char-size text set t.run.at within low ∙ ap one_if (second _ _ takes))
       cases (spot.Look l f) k leads takes = absurd (true≢false (sym leads.0))
       cases (spot.Jump f) k leads takes = absurd (true≢false (sym leads.0))
       cases (spot.Split a b) k leads takes = absurd (true≢false (sym leads.0))

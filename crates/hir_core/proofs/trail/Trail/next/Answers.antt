@@ -1,13 +1,9 @@
-use Rattle.std.proofs.Common.{◌++◌, Some, sym, ap, ◌∙◌}
-use Rattle.std.specs.Prelude.{reverse}
-use Rattle.std.specs.Option.{option_to_list}
-use Rattle.hir_core.specs.Trails.{stops_of}
-use Rattle.hir_core.proofs.trail.TrailLemmas.{comes-back, stops-none}
+use Rattle.std.proofs.Common.{◌≡◌, IfOk, sym, subst}
+use Rattle.hir_core.specs.Trails.{Stop, ComesBack, way_of, stops_of}
+use Rattle.hir_core.proofs.trail.TrailLemmas.{stops-none}
 use Rattle.hir_core.proofs.trail.Trail.next.Goals as goal
 
-pub returns-in-Try : goal.returns-in-Try
-returns-in-Try c =
-    stops-none c.args.on c.args.self.now (sym c.if-is_some.ensures)
-    ∙ comes-back c.loop-frame.self.frames.items c.pop.new.self.items c.in-Try.spot c.in-Try.at c.loop-frame.self.at (reverse c.loop-frame.self.starts.items)
-    c.loop-frame.self.groups.items (stops_of c.args.self.now)
-    (c.pop.ensures.items ∙ ap (λ o. c.pop.new.self.items ++ option_to_list o) (c.in-Some.is ∙ ap Some c.in-Try.is)) c.loop-frame.invariant
+pub returns : goal.returns
+returns c =
+    subst (λ ps. IfOk c.come_back.result (λ next. ComesBack next ps (way_of c.come_back.new.self) (stops_of c.come_back.new.self)))
+    (sym (stops-none c.args.on c.args.self.now (sym c.if-is_some.ensures))) c.come_back.ensures

@@ -1,6 +1,6 @@
 use Rattle.std.proofs.Common.{◌≡◌, length}
 use Rattle.hir_core.specs.Trails.{stops_of}
-use Rattle.hir_core.proofs.trail.Trail.next.Given as goal
+use Rattle.hir_core.proofs.trail.Trail.come_back.Given as goal
 
 -- the alternatives are those of the start
 abbrev pub invariant-loop-frame : goal.invariant-loop-frame
