@@ -1,5 +1,5 @@
-use Rattle.std.proofs.Common.{◌≡◌, IfOk, sym, subst}
-use Rattle.hir_core.specs.Trails.{Stop, ComesBack, way_of, stops_of}
+use Rattle.std.proofs.Common.{IfOk, sym, subst}
+use Rattle.hir_core.specs.Trails.{ComesBack, way_of, stops_of}
 use Rattle.hir_core.proofs.trail.TrailLemmas.{stops-none}
 use Rattle.hir_core.proofs.trail.Trail.next.Goals as goal
 
