@@ -1,10 +1,10 @@
 -- How a command ends that prints what it answers, and what is printed of what goes wrong.
-use Rattle.std.specs.Prelude.{◌≡◌, ◌≢◌, ℕ, IsTrue, List, ◌++◌, Result, Ok, Err, None, codes, ⊤}
+use Rattle.std.specs.Prelude.{◌≡◌, ℕ, IsTrue, List, ◌++◌, Result, Ok, Err, codes, ⊤}
 use Rattle.sd_io.specs.Streams.{SinkState}
 use Rattle.sd_io.specs.declared.fault.Failed.{Failed}
 use Rattle.sd_course.specs.Course.{Course, SinkFailed, AppendsPrefix}
 use Rattle.error_line.specs.ErrorLine.{PrintsText}
-use Rattle.sd_words.specs.Matched.{texts_of}
+use Rattle.sd_words.specs.Command.{is_taken}
 use Rattle.sd_core.specs.declared.error.Error.{Error}
 use Rattle.sd_core.specs.declared.ended.Why.{Why}
 use Rattle.sd_core.specs.declared.ended.Why.TheVariants as why
@@ -28,7 +28,7 @@ TellsText text err = (result : Result (Unit {0}) Failed) × PrintsText text resu
 
 -- The text of an end: it is fixed for a report that isn't written, and for words that the command takes but that ask for nothing.
 abbrev pub IsErrorText : List (List ℕ) → Why → List ℕ → Type 0
-IsErrorText words why.Usage text = texts_of words ≢ None → text ≡ codes "not a valid command line"
+IsErrorText words why.Usage text = IsTrue (is_taken words) → text ≡ codes "not a valid command line"
 IsErrorText words why.Print text = text ≡ codes "the report could not be written"
 IsErrorText words _ text = ⊤
 

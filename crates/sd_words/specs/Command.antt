@@ -1,6 +1,7 @@
 -- The command whose words are read, as a parse sees it.
-use Rattle.std.specs.Prelude.{ℕ, List, [], ◌∷◌, ◌++◌, Option, Some, None, true, codes}
-use Rattle.clap.specs.Words.{App, Rule, Text, new_rule}
+use Rattle.std.specs.Prelude.{ℕ, Bool, List, [], ◌∷◌, ◌++◌, Option, Some, None, true, codes}
+use Rattle.clap.specs.Words.{App, Rule, Text, fault_of, new_rule}
+use Rattle.clap.specs.Walk.{is_empty}
 use Rattle.clap.specs.Simple.{new_shape}
 use Rattle.clap.specs.declared.builder.action.ArgAction.TheVariants.{Append, Set, SetTrue}
 
@@ -36,21 +37,18 @@ options =
     ∷ option (codes "ignore") None
     ∷ []
 
--- the two texts that must be there
-abbrev pub find : Rule
-find = record (word (codes "find")) { required = true }
-
-abbrev pub replace_with : Rule
-replace_with = record (word (codes "replace-with")) { required = true }
-
--- each further word is a use of its own, so there may be any number of them
-abbrev pub rest : Rule
-rest = record (word (codes "words")) { action = Some Append }
-
--- what comes after the options
+-- what comes after the options: two texts that must be there, and any number of further words, each a use of its own
 abbrev pub words : List Rule
-words = find ∷ replace_with ∷ rest ∷ []
+words =
+    record (word (codes "find")) { required = true }
+    ∷ record (word (codes "replace-with")) { required = true }
+    ∷ record (word (codes "words")) { action = Some Append }
+    ∷ []
 
--- the command takes the words after the program's name
+-- the command, which is given the words after the program's name
 abbrev pub command : App
 command = record { top = record (new_shape (codes "sd")) { rules = flags ++ options ++ words; no_binary_name = true }; subs = [] }
+
+-- the command takes these words
+abbrev pub is_taken : List Text → Bool
+is_taken words = is_empty (fault_of command words)

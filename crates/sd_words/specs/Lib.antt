@@ -1,9 +1,7 @@
 pub mod Command
 pub mod Number
-pub mod Matched
 pub mod Order
 pub mod Refusal
 pub mod OrderRead
-pub mod MatchedRead
 pub mod Plain
 pub mod Examples

@@ -1,10 +1,10 @@
 -- Plain words: options, each at most once, as words of their own, then `--`, then two or more words.
-use Rattle.std.specs.Prelude.{◌≡◌, ◌==◌, ◌&&◌, Bool, true, false, not, List, [], ◌∷◌, ◌++◌, Option, Some, None, codes, find, option_and_then}
+use Rattle.std.specs.Prelude.{◌≡◌, ◌==◌, ◌&&◌, ◌||◌, Bool, true, false, not, List, [], ◌∷◌, ◌++◌, Option, Some, None, codes, find, option_and_then, unwrap_or}
 use Rattle.std.specs.List.{list_any}
 use Rattle.std.specs.Str.{bytes_eq}
 use Rattle.clap.specs.Words.{Text}
-use Rattle.sd_words.specs.Matched.{Texts}
-use Rattle.sd_words.specs.Order.{order_by, order_of}
+use Rattle.sd_words.specs.Number.{number_of}
+use Rattle.sd_words.specs.Order.{order_if, order_of}
 use Rattle.sd_words.specs.declared.options.Options.{Options}
 
 -- a flag
@@ -120,16 +120,15 @@ abbrev pub value_of : Key → List Part → Option Text
 value_of key parts = option_and_then part_value (find (λ part. bytes_eq (part_name part) (key_name key)) parts)
 
 -- the table: each option with its field
-abbrev pub table : List Part → Text → Text → List Text → Texts
+abbrev pub table : List Part → Text → Text → List Text → Options
 table parts find_word replace_word rest = record {
   preview = is_on preview parts;
-  fixed_strings = is_on fixed_strings parts;
-  string_mode = is_on string_mode parts;
+  literal_mode = is_on fixed_strings parts || is_on string_mode parts;
   line_mode = is_on line_mode parts;
-  limit = value_of limit parts;
+  replacements = unwrap_or (option_and_then number_of (value_of limit parts)) 0;
   flags = value_of flags parts;
   root = value_of root parts;
-  demo = value_of demo parts;
+  demo = option_and_then number_of (value_of demo parts);
   apply = value_of apply parts;
   ignore = value_of ignore parts;
   find = find_word;
@@ -137,10 +136,10 @@ table parts find_word replace_word rest = record {
   words = rest;
 }
 
--- plain words are taken, and their order is the table's
+-- plain words are taken, and their order is the table's, where its numbers are numbers and what is given may stand together
 abbrev pub PlainWordsHaveTheTable : Type 0
 PlainWordsHaveTheTable = (parts : List Part) (find_word replace_word : Text) (rest : List Text) → are_plain parts ≡ true
-    → order_of (plain_words parts find_word replace_word rest) ≡ order_by (table parts find_word replace_word rest)
+    → order_of (plain_words parts find_word replace_word rest) ≡ order_if (value_of limit parts) (value_of demo parts) (table parts find_word replace_word rest)
 
 -- these texts, and no option but maybe a root
 abbrev pub options_of : Option Text → Text → Text → List Text → Options

@@ -1,59 +1,79 @@
-//! The texts that a parse gives to the flags, the options and the words.
+//! What a parse gives to the flags, the options and the words.
 
-ghost use Rattle.std.specs.Prelude.{◌≡◌, map, option_map};
+ghost use Rattle.std.specs.Prelude.{◌≡◌, [], IfOk, map, option_map, unwrap_or};
 ghost use Rattle.clap.specs.Words.{all_of, first_of, found_of, rows_of};
-ghost use Rattle.sd_words.specs.Matched as form;
-ghost use Rattle.sd_words.specs.MatchedRead.{texts_read};
+ghost use Rattle.sd_words.specs.Order as form;
+ghost use Rattle.sd_words.specs.OrderRead.{number_or_usage};
 
+use crate::OptionsFault;
+use crate::number::number;
 use clap::ArgMatches;
-
-/// The texts of a parse, as they stand in the words.
-#[derive(Clone, Copy)]
-pub struct Matched<'m, 'a> {
-    pub preview: bool,
-    pub fixed_strings: bool,
-    pub string_mode: bool,
-    pub line_mode: bool,
-    pub limit: Option<&'a str>,
-    pub flags: Option<&'a str>,
-    pub root: Option<&'a str>,
-    pub demo: Option<&'a str>,
-    pub apply: Option<&'a str>,
-    pub ignore: Option<&'a str>,
-    pub find: &'a str,
-    pub replace_with: &'a str,
-    pub words: Option<&'m [&'a str]>,
-}
-
-/// Reads the texts off the matches.
-pub fn read_matched<'m, 'a>(matches: &'m ArgMatches<'a>) -> Matched<'m, 'a>
-    ensures { texts_read result ≡ form.texts_in (rows_of (found_of matches.now)) }
-{
-    Matched {
-        preview: is_set(matches, "preview"),
-        fixed_strings: is_set(matches, "fixed-strings"),
-        string_mode: is_set(matches, "string-mode"),
-        line_mode: is_set(matches, "line-mode"),
-        limit: value(matches, "max-replacements"),
-        flags: value(matches, "flags"),
-        root: value(matches, "root"),
-        demo: value(matches, "demo"),
-        apply: value(matches, "apply"),
-        ignore: value(matches, "ignore"),
-        find: value(matches, "find").unwrap_or(""),
-        replace_with: value(matches, "replace-with").unwrap_or(""),
-        words: values(matches, "words"),
-    }
-}
+use sd_base::{NoMemory, Text, Texts};
+use std::alloc::Global;
 
 /// Whether a flag was used. Its text is then `true`, and else `false`.
-fn is_set(matches: &ArgMatches<'_>, name: &str) -> bool
+pub fn is_set(matches: &ArgMatches<'_>, name: &str) -> bool
     ensures { result ≡ form.is_set name.now (rows_of (found_of matches.now)) }
 {
     match value(matches, name) {
         Some(text) => text == "true",
         None => false,
     }
+}
+
+/// The number of an option, where it is given, or `Usage` where its text is no number.
+pub fn number_given(matches: &ArgMatches<'_>, name: &str) -> Result<Option<u64>, OptionsFault>
+    ensures { result ≡ number_or_usage (first_of name.now (rows_of (found_of matches.now))) }
+{
+    match value(matches, name) {
+        Some(text) => match number(text) {
+            Some(n) => Ok(Some(n)),
+            None => Err(OptionsFault::Usage(None)),
+        },
+        None => Ok(None),
+    }
+}
+
+/// A copy of the text of an option, where it is given.
+pub fn text_given(
+    alloc: Global,
+    matches: &ArgMatches<'_>,
+    name: &str,
+) -> Result<Option<Text>, NoMemory>
+    ensures { IfOk result (λ text. text ≡ first_of name.now (rows_of (found_of matches.now))) }
+{
+    match value(matches, name) {
+        Some(text) => Ok(Some(Text::new(alloc, text)?)),
+        None => Ok(None),
+    }
+}
+
+/// A copy of a word, which is empty where there is none.
+pub fn word(alloc: Global, matches: &ArgMatches<'_>, name: &str) -> Result<Text, NoMemory>
+    ensures { IfOk result (λ text. text ≡ unwrap_or (first_of name.now (rows_of (found_of matches.now))) []) }
+{
+    Text::new(alloc, value(matches, name).unwrap_or(""))
+}
+
+/// Copies of all words of a name.
+pub fn words(alloc: Global, matches: &ArgMatches<'_>, name: &str) -> Result<Texts, NoMemory>
+    ensures { IfOk result (λ texts. texts ≡ unwrap_or (all_of name.now (rows_of (found_of matches.now))) []) }
+{
+    match values(matches, name) {
+        Some(texts) => all_owned(alloc, texts),
+        None => Ok(Texts::new(alloc)),
+    }
+}
+
+/// Copies of texts.
+fn all_owned(alloc: Global, texts: &[&str]) -> Result<Texts, NoMemory>
+    ensures { IfOk result (λ owned. owned ≡ map (λ s. s.now) texts.now) }
+{
+    let mut owned = Texts::new(alloc);
+    for text in texts {
+        owned.push(text)?;
+    }
+    Ok(owned)
 }
 
 /// The first text of an option or a word.

@@ -1,17 +1,16 @@
 //! What the words of a command line ask for.
 
-ghost use Rattle.std.specs.Prelude.{◌≡◌, ◌≤◌, ℕ, IfOk, MatchResult, Some, map, not};
-ghost use Rattle.clap.specs.Walk.{is_empty};
+ghost use Rattle.std.specs.Prelude.{◌≡◌, ◌≤◌, ℕ, IfOk, MatchResult, None, Some, map, if◌then◌else◌};
+ghost use Rattle.clap.specs.Words.{found_of, rows_of};
 ghost use Rattle.sd_words.specs.Order as form;
-ghost use Rattle.sd_words.specs.OrderRead.{Refuses, RefusesTexts, or_usage};
-ghost use Rattle.sd_words.specs.MatchedRead.{text_of, texts_lent, texts_read};
+ghost use Rattle.sd_words.specs.OrderRead.{Refuses, RefusesRows};
 
 use crate::OptionsFault;
 use crate::command::command;
 use crate::fault::refusal;
-use crate::matched::{Matched, read_matched};
-use crate::number::number;
-use sd_base::{NoMemory, Text, Texts, Words};
+use crate::matched::{is_set, number_given, text_given, word, words};
+use clap::ArgMatches;
+use sd_base::{NoMemory, Text, Words};
 use std::alloc::Global;
 
 /// What a command line asks for.
@@ -56,37 +55,81 @@ impl Options {
         let texts = lent(alloc, words)?;
         let command = command(alloc)?;
         match command.try_get_matches_from(texts.as_slice()) {
-            Ok(matches) => Options::of(alloc, &read_matched(&matches)),
+            Ok(matches) => Options::of(alloc, &matches),
             Err(error) => Err(refusal(alloc, &error)),
         }
     }
 
-    /// The options of matched texts.
-    fn of(alloc: Global, texts: &Matched<'_, '_>) -> Result<Options, OptionsFault>
-        ensures read { MatchResult result (λ options. form.order_by (texts_read texts.now) ≡ Some options) (RefusesTexts (texts_read texts.now)) }
+    /// The options of a parse, where they may stand together.
+    fn of(alloc: Global, matches: &ArgMatches<'_>) -> Result<Options, OptionsFault>
+        ensures read { MatchResult result (λ options. form.order_in (rows_of (found_of matches.now)) ≡ Some options) (RefusesRows (rows_of (found_of matches.now))) }
         ensures demo { IfOk result (λ options. (n : ℕ) → options.demo ≡ Some n → n ≤ form.demo_max) }
     {
-        if !stand_together(texts) {
+        let options = Options::given(alloc, matches)?;
+        if !options.stand_together() {
             return Err(OptionsFault::Usage(None));
         }
-        let replacements = limit(texts.limit)?;
-        let demo = demo(texts.demo)?;
+        Ok(options)
+    }
+
+    /// The options of a parse, whether or not they may stand together.
+    fn given(alloc: Global, matches: &ArgMatches<'_>) -> Result<Options, OptionsFault>
+        ensures { MatchResult result (λ options. form.order_in (rows_of (found_of matches.now)) ≡ (if form.stand_together options then Some options else None))
+            (RefusesRows (rows_of (found_of matches.now))) }
+    {
+        let limit = number_given(matches, "max-replacements")?;
+        let demo = number_given(matches, "demo")?;
         Ok(Options {
-            preview: texts.preview,
-            literal_mode: texts.fixed_strings || texts.string_mode,
-            line_mode: texts.line_mode,
-            replacements,
-            flags: owned(alloc, texts.flags)?,
-            root: owned(alloc, texts.root)?,
+            preview: is_set(matches, "preview"),
+            literal_mode: is_set(matches, "fixed-strings") || is_set(matches, "string-mode"),
+            line_mode: is_set(matches, "line-mode"),
+            replacements: limit.unwrap_or(0),
+            flags: text_given(alloc, matches, "flags")?,
+            root: text_given(alloc, matches, "root")?,
             demo,
-            apply: owned(alloc, texts.apply)?,
-            ignore: owned(alloc, texts.ignore)?,
-            find: Text::new(alloc, texts.find)?,
-            replace_with: Text::new(alloc, texts.replace_with)?,
-            words: all_owned(alloc, texts.words)?,
+            apply: text_given(alloc, matches, "apply")?,
+            ignore: text_given(alloc, matches, "ignore")?,
+            find: word(alloc, matches, "find")?,
+            replace_with: word(alloc, matches, "replace-with")?,
+            words: words(alloc, matches, "words")?,
         })
     }
+
+    /// Whether all that is given may stand together.
+    fn stand_together(&self) -> bool
+        ensures { result ≡ form.stand_together self.now }
+    {
+        !(self.demo_clashes() || self.apply_clashes() || self.ignore_clashes())
+    }
+
+    /// Whether a demo is too great, or stands with a root or with preview.
+    fn demo_clashes(&self) -> bool
+        ensures { result ≡ form.demo_clashes self.now }
+    {
+        match self.demo {
+            Some(n) => n > DEMO_MAX || self.root.is_some() || self.preview,
+            None => false,
+        }
+    }
+
+    /// Whether a plan is applied with a root, a demo, preview or words after the first two.
+    fn apply_clashes(&self) -> bool
+        ensures { result ≡ form.apply_clashes self.now }
+    {
+        self.apply.is_some()
+            && (self.root.is_some() || self.demo.is_some() || self.preview || self.words.len() > 0)
+    }
+
+    /// Whether rules to ignore by stand without a root, or with preview.
+    fn ignore_clashes(&self) -> bool
+        ensures { result ≡ form.ignore_clashes self.now }
+    {
+        self.ignore.is_some() && (self.root.is_none() || self.preview)
+    }
 }
+
+/// The greatest number of a demo.
+const DEMO_MAX: u64 = 100_000;
 
 /// The words, lent.
 fn lent<'w>(alloc: Global, words: &'w Words) -> Result<Vec<&'w str>, NoMemory>
@@ -97,90 +140,4 @@ fn lent<'w>(alloc: Global, words: &'w Words) -> Result<Vec<&'w str>, NoMemory>
         texts.push(words.get(i))?;
     }
     Ok(texts)
-}
-
-/// Whether all that is given may stand together.
-fn stand_together(texts: &Matched<'_, '_>) -> bool
-    ensures { result ≡ form.stand_together (texts_read texts.now) }
-{
-    !(demo_clashes(texts) || apply_clashes(texts) || ignore_clashes(texts))
-}
-
-/// Whether a demo stands with a root or with preview.
-fn demo_clashes(texts: &Matched<'_, '_>) -> bool
-    ensures { result ≡ form.demo_clashes (texts_read texts.now) }
-{
-    texts.demo.is_some() && (texts.root.is_some() || texts.preview)
-}
-
-/// Whether a plan is applied with a root, a demo, preview or words after the first two.
-fn apply_clashes(texts: &Matched<'_, '_>) -> bool
-    ensures { result ≡ form.apply_clashes (texts_read texts.now) }
-{
-    texts.apply.is_some()
-        && (texts.root.is_some() || texts.demo.is_some() || texts.preview || has_words(texts))
-}
-
-/// Whether rules to ignore by stand without a root, or with preview.
-fn ignore_clashes(texts: &Matched<'_, '_>) -> bool
-    ensures { result ≡ form.ignore_clashes (texts_read texts.now) }
-{
-    texts.ignore.is_some() && (texts.root.is_none() || texts.preview)
-}
-
-/// Whether words stand after the first two.
-fn has_words(texts: &Matched<'_, '_>) -> bool
-    ensures { result ≡ not (is_empty (texts_read texts.now).words) }
-{
-    texts.words.is_some_and(|words| !words.is_empty())
-}
-
-/// The limit, which is 0 where it isn't given.
-fn limit(text: Option<&str>) -> Result<u64, OptionsFault>
-    ensures { result ≡ or_usage (form.limit_of (text_of text.entry)) }
-{
-    match text {
-        Some(text) => number(text).ok_or(OptionsFault::Usage(None)),
-        None => Ok(0),
-    }
-}
-
-/// The greatest number of a demo.
-const DEMO_MAX: u64 = 100_000;
-
-/// The number of a demo, where it is given.
-fn demo(text: Option<&str>) -> Result<Option<u64>, OptionsFault>
-    ensures read { result ≡ or_usage (form.demo_of (text_of text.entry)) }
-    ensures few { IfOk result (λ demo. (n : ℕ) → demo ≡ Some n → n ≤ form.demo_max) }
-{
-    match text {
-        Some(text) => match number(text) {
-            Some(n) if n <= DEMO_MAX => Ok(Some(n)),
-            _ => Err(OptionsFault::Usage(None)),
-        },
-        None => Ok(None),
-    }
-}
-
-/// A copy of a text, where it is given.
-fn owned(alloc: Global, text: Option<&str>) -> Result<Option<Text>, NoMemory>
-    ensures { IfOk result (λ owned. owned ≡ text_of text.entry) }
-{
-    match text {
-        Some(text) => Ok(Some(Text::new(alloc, text)?)),
-        None => Ok(None),
-    }
-}
-
-/// Copies of texts; none where they aren't given.
-fn all_owned(alloc: Global, texts: Option<&[&str]>) -> Result<Texts, NoMemory>
-    ensures { IfOk result (λ owned. owned ≡ texts_lent texts.entry) }
-{
-    let mut owned = Texts::new(alloc);
-    if let Some(items) = texts {
-        for text in items {
-            owned.push(text)?;
-        }
-    }
-    Ok(owned)
 }

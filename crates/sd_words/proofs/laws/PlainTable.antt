@@ -11,15 +11,15 @@ use Rattle.clap.specs.Faults.{check_fault, default_fault, defaults_fault, entere
 use Rattle.clap.specs.Kinds.{Kinds, check_kinds, or_else}
 use Rattle.clap.specs.Simple.{built, entered}
 use Rattle.clap.specs.Takes.{is_given}
-use Rattle.clap.specs.Words.{fault_of, first_of, matches_of}
+use Rattle.clap.specs.Words.{all_of, fault_of, first_of, matches_of}
 use Rattle.clap.specs.declared.parser.matches.ValueSource.TheVariants.{DefaultValue}
 use Rattle.clap.specs.declared.builder.value_parser.Reading.{Reading}
 use Rattle.clap.proofs.WalkLemmas.{both, find-map}
 use Rattle.sd_words.specs.Command.{command}
+use Rattle.sd_words.specs.Number.{number_of}
 use Rattle.sd_words.specs.Plain as plain
 use Rattle.sd_words.specs.Plain.{Flag, Key, Part, FileWordsAskForTheirFiles, PlainWordsHaveTheTable, TreeWordsAskForTheirTree, are_plain, flag_name, given, is_on, key_name, on, part_name, part_value, plain_words, table, value_of}
-use Rattle.sd_words.specs.Matched.{is_set, texts_in, texts_of, values_of}
-use Rattle.sd_words.specs.Order.{order_by, order_of}
+use Rattle.sd_words.specs.Order.{is_set, options_in, order_if, order_in, order_of}
 use Rattle.sd_words.proofs.laws.PlainWalk.{at_row_end, held, logical, part_row, row, rules, shape}
 use Rattle.sd_words.proofs.laws.PlainRest.{all_rows, flag_no_key, key_no_flag, no_find, no_replace, no_words, options_rows, plain_walked, rest_rows, two_rows}
 
@@ -218,29 +218,31 @@ module _ (parts : List Part) (first second : Text) (rest : List Text) where
   replace_row : with_id (codes "replace-with") final ≡ Some (row (codes "replace-with") (second ∷ []))
   replace_row = word_row (codes "replace-with") parts first second rest no_replace
 
-  rest_field : values_of (codes "words") final ≡ rest
+  rest_field : unwrap_or (all_of (codes "words") final) [] ≡ rest
   rest_field = ap (λ o. unwrap_or (option_map (λ (r : Row). r.values) o) []) (word_row (codes "words") parts first second rest no_words) ∙ go rest
     where
       go : (ws : List Text) → unwrap_or (option_map (λ (r : Row). r.values) (in_the_end (codes "words") (with_id (codes "words") (two_rows first second ++ rest_rows ws)))) [] ≡ ws
       go [] = refl
       go (word ∷ ws) = refl
 
-  texts_are : texts_in final ≡ table parts first second rest
-  texts_are = λ i. record {
+  options_are : options_in final ≡ table parts first second rest
+  options_are = λ i. record {
     preview = flag_field plain.preview i;
-    fixed_strings = flag_field plain.fixed_strings i;
-    string_mode = flag_field plain.string_mode i;
+    literal_mode = flag_field plain.fixed_strings i || flag_field plain.string_mode i;
     line_mode = flag_field plain.line_mode i;
-    limit = key_field plain.limit i;
+    replacements = unwrap_or (option_and_then number_of (key_field plain.limit i)) 0;
     flags = key_field plain.flags i;
     root = key_field plain.root i;
-    demo = key_field plain.demo i;
+    demo = option_and_then number_of (key_field plain.demo i);
     apply = key_field plain.apply i;
     ignore = key_field plain.ignore i;
     find = ap (λ o. unwrap_or (first_value o) []) find_row i;
     replace_with = ap (λ o. unwrap_or (first_value o) []) replace_row i;
     words = rest_field i;
   }
+
+  order_is : order_in final ≡ order_if (value_of plain.limit parts) (value_of plain.demo parts) (table parts first second rest)
+  order_is = λ i. order_if (key_field plain.limit i) (key_field plain.demo i) (options_are i)
 
 -- ---- nothing refuses them
 
@@ -297,9 +299,7 @@ plain_words_read parts first second rest are =
     ∙ ap₂ (λ a b. or_else a (or_else b (check_fault shape (finished rules (held end.0 end.1)) false))) end.5 (quiet_defaults rules (logical end.0 end.1) quiet_rules)
     ∙ nothing_missing (finished rules (held end.0 end.1)) given_first given_second in
     let matched : matches_of command words ≡ fold with_default last rules = ap (λ (w : Walk). finished rules w.held) end.3 ∙ rows_are in
-    let texts : texts_of words ≡ Some (table parts first second rest) =
-    ap₂ (λ (k : Kinds) rs. cond (is_empty k) (Some (texts_in rs)) None) no_fault matched ∙ ap Some (texts_are parts first second rest) in
-    ap (option_and_then order_by) texts
+    ap₂ (λ (k : Kinds) rs. cond (is_empty k) (order_in rs) None) no_fault matched ∙ order_is parts first second rest
 
 pub tree_words_read : TreeWordsAskForTheirTree
 tree_words_read dir first second globs e = plain_words_read (given plain.root plain.long dir ∷ []) first second globs (ap (λ b. b && true) e)
