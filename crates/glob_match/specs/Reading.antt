@@ -59,12 +59,11 @@ found p more = Some (record { token = token.Piece p; more = more })
 -- the members of a class: `a-z` is a range, and every other symbol a member
 abbrev pub ranges_of : List Symbol → List CharacterRange
 ranges_of [] = []
-ranges_of (a ∷ []) = record { first = character_of a; last = character_of a } ∷ []
-ranges_of (a ∷ b ∷ []) = record { first = character_of a; last = character_of a } ∷ ranges_of (b ∷ [])
 ranges_of (a ∷ b ∷ c ∷ body) = elim (is_sign 45 b) [
   | true ↦ record { first = character_of a; last = character_of c } ∷ ranges_of body
   | false ↦ record { first = character_of a; last = character_of a } ∷ ranges_of (b ∷ c ∷ body)
 ]
+ranges_of (a ∷ body) = record { first = character_of a; last = character_of a } ∷ ranges_of body
 
 -- a class of a first member and so many others, up to its `]`
 abbrev pub class_of : Bool → Symbol → List Symbol → Option ℕ → Option Found
@@ -136,43 +135,35 @@ abbrev pub brace_before : Options → Rest → Rest
 brace_before all (outside left) = outside (brace all left)
 brace_before all (inside left others rest) = inside (brace all left) others rest
 
-abbrev pub with_piece : Piece → Option Rest → Option Rest
-with_piece p rest = option_map (piece_before p) rest
-
 -- a brace's first option begins
-abbrev pub opened : Option Rest → Option Rest
-opened None = None
-opened (Some (outside left)) = None
-opened (Some (inside left others rest)) = Some (brace_before (option left others) rest)
+abbrev pub opened : Rest → Option Rest
+opened (outside left) = None
+opened (inside left others rest) = Some (brace_before (option left others) rest)
 
 -- an option ends, and another begins
-abbrev pub parted : Option Rest → Option Rest
-parted None = None
-parted (Some (outside left)) = None
-parted (Some (inside left others rest)) = Some (inside no_pieces (option left others) rest)
+abbrev pub parted : Rest → Option Rest
+parted (outside left) = None
+parted (inside left others rest) = Some (inside no_pieces (option left others) rest)
 
--- the last option ends
-abbrev pub closed : Option Rest → Option Rest
-closed rest = option_map (inside no_pieces no_options) rest
-
--- Tokens as pieces, within so many open braces, at most ten. Each brace is closed. Outside braces `,` and `}` are characters.
+-- Tokens as pieces, within so many open braces, at most ten. Each brace is closed: its last option ends there. Outside braces `,` and `}`
+-- are characters.
 abbrev pub rest_of : ℕ → List Token → Option Rest
 rest_of zero [] = Some (outside no_pieces)
 rest_of (suc depth) [] = None
-rest_of depth (token.Piece p ∷ tokens) = with_piece p (rest_of depth tokens)
-rest_of depth (token.Open ∷ tokens) = elim (depth == 10) [ true ↦ None | false ↦ opened (rest_of (suc depth) tokens) ]
-rest_of zero (token.Comma ∷ tokens) = with_piece (One (Character 44)) (rest_of zero tokens)
-rest_of (suc depth) (token.Comma ∷ tokens) = parted (rest_of (suc depth) tokens)
-rest_of zero (token.Close ∷ tokens) = with_piece (One (Character 125)) (rest_of zero tokens)
-rest_of (suc depth) (token.Close ∷ tokens) = closed (rest_of depth tokens)
+rest_of depth (token.Piece p ∷ tokens) = option_map (piece_before p) (rest_of depth tokens)
+rest_of depth (token.Open ∷ tokens) = elim (depth == 10) [ true ↦ None | false ↦ option_and_then opened (rest_of (suc depth) tokens) ]
+rest_of zero (token.Comma ∷ tokens) = option_map (piece_before (One (Character 44))) (rest_of zero tokens)
+rest_of (suc depth) (token.Comma ∷ tokens) = option_and_then parted (rest_of (suc depth) tokens)
+rest_of zero (token.Close ∷ tokens) = option_map (piece_before (One (Character 125))) (rest_of zero tokens)
+rest_of (suc depth) (token.Close ∷ tokens) = option_map (inside no_pieces no_options) (rest_of depth tokens)
 
-abbrev pub all_outside : Option Rest → Option Pieces
-all_outside None = None
-all_outside (Some (outside left)) = Some left
-all_outside (Some (inside left others rest)) = None
+-- the pieces, where all braces are closed
+abbrev pub all_outside : Rest → Option Pieces
+all_outside (outside left) = Some left
+all_outside (inside left others rest) = None
 
 abbrev pub pieces_of_tokens : Option (List Token) → Option Pieces
-pieces_of_tokens tokens = option_and_then (λ read. all_outside (rest_of 0 read)) tokens
+pieces_of_tokens tokens = option_and_then (λ read. option_and_then all_outside (rest_of 0 read)) tokens
 
 abbrev pub pieces_of_symbols : Option (List Symbol) → Option Pieces
 pieces_of_symbols symbols = option_and_then (λ read. pieces_of_tokens (tokens_from 0 true read)) symbols

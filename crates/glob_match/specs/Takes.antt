@@ -1,5 +1,5 @@
 -- What globs take of a path, as a list of characters. A path of n characters has the places 0 to n between them.
-use Rattle.std.specs.Prelude.{◌≡◌, ◌≢◌, ◌⊎◌, ◌+◌, ◌-◌, ◌<◌, ◌≤◌, ℕ, zero, suc, Bool, true, false, List, [], ◌∷◌, length, slice_get, Option, Some, None}
+use Rattle.std.specs.Prelude.{◌≡◌, ◌≢◌, ◌⊎◌, ◌+◌, ◌-◌, ◌<◌, ◌≤◌, ℕ, zero, suc, Bool, true, false, List, [], ◌∷◌, length, slice_get, Some, IsSomeAnd}
 use Rattle.glob_match.specs.declared.piece.CharacterRange.{CharacterRange}
 use Rattle.glob_match.specs.declared.piece.Piece.{Piece}
 use Rattle.glob_match.specs.declared.piece.Single.{Single}
@@ -54,11 +54,6 @@ abbrev pub FitsUnder : ℕ → Pieces → List ℕ → Type 0
 FitsUnder zero pieces path = Takes pieces path 0 (length path)
 FitsUnder (suc others) pieces path = ¬ (FitsUnder others pieces path)
 
--- an invalid glob has no pieces, and fits nothing whatever its `!`s
-abbrev pub FitsRead : ℕ → Option Pieces → List ℕ → Type 0
-FitsRead signs None path = ⊥
-FitsRead signs (Some pieces) path = FitsUnder signs pieces path
-
--- a glob fits a path, both by their characters
+-- A glob fits a path, both by their characters. An invalid glob has no pieces, and fits nothing whatever its `!`s.
 abbrev pub Fits : List ℕ → List ℕ → Type 0
-Fits glob path = FitsRead (negations glob) (pieces_of glob) path
+Fits glob path = IsSomeAnd (pieces_of glob) (λ pieces. FitsUnder (negations glob) pieces path)

@@ -1,5 +1,6 @@
 -- Where the tokens that are left lead, from the places reached and the open braces.
 use Rattle.std.proofs.Common.{◌≡◌, ◌↔◌, ◌⊎◌, inl, inr, ℕ, zero, suc, ◌+◌, ◌==◌, Bool, true, false, List, [], ◌∷◌, ◌++◌, All, length, reverse, Option, Some, None, arith, refl, sym, subst, ap, ◌∙◌, length-append}
+use Rattle.std.specs.Prelude.{option_map, option_and_then}
 use Rattle.std.proofs.lemmas.List.{reverse-append}
 use Rattle.std.proofs.lemmas.List.Elements.{All-append, All-cons, All-nil, All-pop}
 use Rattle.glob_match.specs.declared.piece.Single.TheVariants.{Character}
@@ -10,7 +11,7 @@ use Rattle.glob_match.specs.declared.piece.Token.TheVariants as token
 use Rattle.glob_match.specs.Pieces.{Pieces, Options}
 use Rattle.glob_match.specs.Pieces.Pieces.{no_pieces, piece, brace}
 use Rattle.glob_match.specs.Pieces.Options.{no_options, option}
-use Rattle.glob_match.specs.Reading.{Rest, piece_before, brace_before, with_piece, opened, parted, closed, rest_of, all_outside, pieces_of_tokens}
+use Rattle.glob_match.specs.Reading.{Rest, piece_before, brace_before, opened, parted, rest_of, all_outside, pieces_of_tokens}
 use Rattle.glob_match.specs.Reading.Rest.{outside, inside}
 use Rattle.glob_match.specs.Takes.{PieceTakes, Takes, OptionTakes}
 use Rattle.glob_match.specs.Places.{Holds, IsStep, IsStartAlone, IsUnion, IsNowhere, IsReached, OpenBrace, IsOfPlaces}
@@ -83,26 +84,26 @@ LeadsRight depth left path stack places pieces = (rest : Rest) × (rest_of depth
 
 -- ---- one token
 
-pub piece_rest : (p : Piece) (o : Option Rest) (rest : Rest) → with_piece p o ≡ Some rest → (next : Rest) × (o ≡ Some next) × (rest ≡ piece_before p next)
+pub piece_rest : (p : Piece) (o : Option Rest) (rest : Rest) → option_map (piece_before p) o ≡ Some rest → (next : Rest) × (o ≡ Some next) × (rest ≡ piece_before p next)
 piece_rest p None rest e = absurd (cc)
 piece_rest p (Some next) rest e = (next, refl, cc)
 
-pub opened_rest : (o : Option Rest) (rest : Rest) → opened o ≡ Some rest → (left : Pieces) × (others : Options) × (next : Rest) × (o ≡ Some (inside left others next)) × (rest ≡ brace_before (option left others) next)
+pub opened_rest : (o : Option Rest) (rest : Rest) → option_and_then opened o ≡ Some rest → (left : Pieces) × (others : Options) × (next : Rest) × (o ≡ Some (inside left others next)) × (rest ≡ brace_before (option left others) next)
 opened_rest None rest e = absurd (cc)
 opened_rest (Some (outside left)) rest e = absurd (cc)
 opened_rest (Some (inside left others next)) rest e = (left, others, next, refl, cc)
 
-pub parted_rest : (o : Option Rest) (rest : Rest) → parted o ≡ Some rest → (left : Pieces) × (others : Options) × (next : Rest) × (o ≡ Some (inside left others next)) × (rest ≡ inside no_pieces (option left others) next)
+pub parted_rest : (o : Option Rest) (rest : Rest) → option_and_then parted o ≡ Some rest → (left : Pieces) × (others : Options) × (next : Rest) × (o ≡ Some (inside left others next)) × (rest ≡ inside no_pieces (option left others) next)
 parted_rest None rest e = absurd (cc)
 parted_rest (Some (outside left)) rest e = absurd (cc)
 parted_rest (Some (inside left others next)) rest e = (left, others, next, refl, cc)
 
-pub closed_rest : (o : Option Rest) (rest : Rest) → closed o ≡ Some rest → (next : Rest) × (o ≡ Some next) × (rest ≡ inside no_pieces no_options next)
+pub closed_rest : (o : Option Rest) (rest : Rest) → option_map (inside no_pieces no_options) o ≡ Some rest → (next : Rest) × (o ≡ Some next) × (rest ≡ inside no_pieces no_options next)
 closed_rest None rest e = absurd (cc)
 closed_rest (Some next) rest e = (next, refl, cc)
 
 -- a piece's set of places is the step's
-after_step : (p : Piece) (o : Option Rest) (rest : Rest) (path : List ℕ) (stack : List OpenBrace) (places next : List Bool) (pieces : Pieces) → with_piece p o ≡ Some rest
+after_step : (p : Piece) (o : Option Rest) (rest : Rest) (path : List ℕ) (stack : List OpenBrace) (places next : List Bool) (pieces : Pieces) → option_map (piece_before p) o ≡ Some rest
     → ((to : ℕ) → LeadsOn rest path (Holds places) stack to ↔ Takes pieces path 0 to) → IsStep p path places next → (r : Rest) × (o ≡ Some r) × ((to : ℕ) → LeadsOn r path (Holds next) stack to ↔ Takes pieces path 0 to)
 after_step p o rest path stack places next pieces is these step =
     let split = piece_rest p o rest is in
@@ -115,7 +116,7 @@ after_step p o rest path stack places next pieces is these step =
       ),
     )
 
-pub piece_is : (depth : ℕ) (p : Piece) (left : List Token) → rest_of depth (token.Piece p ∷ left) ≡ with_piece p (rest_of depth left)
+pub piece_is : (depth : ℕ) (p : Piece) (left : List Token) → rest_of depth (token.Piece p ∷ left) ≡ option_map (piece_before p) (rest_of depth left)
 piece_is zero p left = refl
 piece_is (suc depth) p left = refl
 
@@ -124,11 +125,11 @@ right_piece : (depth : ℕ) (p : Piece) (left : List Token) (path : List ℕ) (s
 right_piece depth p left path stack places next pieces (rest, is, these) step = after_step p (rest_of depth left) rest path stack places next pieces (sym (piece_is depth p left) ∙ is) these step
 
 -- a brace opened at depth ten is none
-pub open_is : (depth : ℕ) (left : List Token) (rest : Rest) → rest_of depth (token.Open ∷ left) ≡ Some rest → opened (rest_of (suc depth) left) ≡ Some rest
+pub open_is : (depth : ℕ) (left : List Token) (rest : Rest) → rest_of depth (token.Open ∷ left) ≡ Some rest → option_and_then opened (rest_of (suc depth) left) ≡ Some rest
 open_is zero left rest is = is
 open_is (suc depth) left rest is = go (suc depth == 10) refl
   where
-    go : (b : Bool) → (suc depth == 10) ≡ b → opened (rest_of (suc (suc depth)) left) ≡ Some rest
+    go : (b : Bool) → (suc depth == 10) ≡ b → option_and_then opened (rest_of (suc (suc depth)) left) ≡ Some rest
     go true e = absurd (let none = rw (e, rest_of) at is in cc)
     go false e = rw (e, rest_of) at is
 
@@ -223,7 +224,7 @@ none_or_last (x ∷ xs) = elim (none_or_last xs) [
 ]
 
 -- a sign outside braces
-right_plain : (sign : ℕ) (t : Token) (left : List Token) (path : List ℕ) (braces after : List OpenBrace) (places next : List Bool) (pieces : Pieces) → rest_of 0 (t ∷ left) ≡ with_piece (One (Character sign)) (rest_of 0 left)
+right_plain : (sign : ℕ) (t : Token) (left : List Token) (path : List ℕ) (braces after : List OpenBrace) (places next : List Bool) (pieces : Pieces) → rest_of 0 (t ∷ left) ≡ option_map (piece_before (One (Character sign))) (rest_of 0 left)
     → TokensLeadRight (t ∷ left) path braces places pieces → IsPlain sign path braces places after next → braces ≡ [] → TokensLeadRight left path after next pieces
 right_plain sign t left path braces after places next pieces is right plain none =
     let step = plain none in
@@ -313,7 +314,7 @@ matched_none tokens path places n all start = record {
   right = λ pieces is. at_first pieces (rest_of 0 tokens) is refl;
 }
   where
-    at_first : (whole : Pieces) (o : Option Rest) → all_outside o ≡ Some whole → rest_of 0 tokens ≡ o → TokensLeadRight tokens path [] places whole
+    at_first : (whole : Pieces) (o : Option Rest) → option_and_then all_outside o ≡ Some whole → rest_of 0 tokens ≡ o → TokensLeadRight tokens path [] places whole
     at_first whole None e is = absurd (cc)
     at_first whole (Some (inside left others rest)) e is = absurd (cc)
     at_first whole (Some (outside left)) e is = (

@@ -1,5 +1,6 @@
 -- From where the rest of a glob goes on, one token more at a time from the glob's end.
 use Rattle.std.proofs.Common.{◌≡◌, ◌↔◌, inl, inr, ℕ, zero, suc, ◌+◌, ◌<◌, Bool, List, [], ◌∷◌, ◌++◌, All, length, reverse, drop, get_or, Option, Some, None, IsSome, arith, refl, sym, subst, ap, ◌∙◌, add-one}
+use Rattle.std.specs.Prelude.{option_map, option_and_then}
 use Rattle.std.proofs.lemmas.List.{reverse-append}
 use Rattle.std.proofs.lemmas.List.Elements.{All-nil}
 use Rattle.glob_match.specs.declared.piece.Single.TheVariants.{Character}
@@ -10,7 +11,7 @@ use Rattle.glob_match.specs.declared.piece.Token.TheVariants as token
 use Rattle.glob_match.specs.Pieces.{Pieces, Options}
 use Rattle.glob_match.specs.Pieces.Pieces.{no_pieces}
 use Rattle.glob_match.specs.Pieces.Options.{no_options, option}
-use Rattle.glob_match.specs.Reading.{Rest, piece_before, brace_before, with_piece, rest_of, all_outside, pieces_of_tokens}
+use Rattle.glob_match.specs.Reading.{Rest, piece_before, brace_before, rest_of, all_outside, pieces_of_tokens}
 use Rattle.glob_match.specs.Reading.Rest.{outside, inside}
 use Rattle.glob_match.specs.Takes.{PieceTakes, OptionTakes}
 use Rattle.glob_match.specs.Places.{Holds, IsUnion, IsNowhere, OpenBrace, IsOfPlaces}
@@ -141,7 +142,7 @@ StandsOneBefore depth t left path braces places rest = (next : Rest) × (rest_of
 
 -- a piece, or a sign outside braces
 piece_back : (p : Piece) (depth : ℕ) (left : List Token) (path : List ℕ) (braces after : List OpenBrace) (places next : List Bool) (rest : Rest) → StandsBefore depth left path braces places → IsPieceBack p path braces places after next
-    → with_piece p (rest_of depth left) ≡ Some rest → (r : Rest) × (rest_of depth left ≡ Some r) × IsBefore rest path next (reverse after)
+    → option_map (piece_before p) (rest_of depth left) ≡ Some rest → (r : Rest) × (rest_of depth left ≡ Some r) × IsBefore rest path next (reverse after)
 piece_back p depth left path braces after places next rest before step is =
     let split = piece_rest p (rest_of depth left) rest is in
     let moved = before_piece p split.0 path (reverse braces) places next (before split.0 split.1) step.1 in
@@ -271,7 +272,7 @@ onward_more depth t left path braces after places next sets grown so_far step is
           subst (λ (all : List (List Bool)). AreOnward depth (t ∷ left) path (reverse all)) (sym is_grown) there;
     }
 
-some_rest : (o : Option Rest) → IsSome (all_outside o) → (rest : Rest) × (o ≡ Some rest)
+some_rest : (o : Option Rest) → IsSome (option_and_then all_outside o) → (rest : Rest) × (o ≡ Some rest)
 some_rest None some = absurd (cc)
 some_rest (Some rest) some = (rest, refl)
 

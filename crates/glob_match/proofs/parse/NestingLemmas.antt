@@ -1,11 +1,14 @@
 -- Whether braces nest well, token by token.
 use Rattle.std.proofs.Common.{◌≡◌, ◌↔◌, ◌==◌, ℕ, zero, suc, Bool, true, false, List, [], ◌∷◌, Option, Some, None, IsSome, ◌+◌, ◌<◌, length, drop, get_or, arith, refl, sym, ap, subst, ◌∙◌}
+use Rattle.glob_match.specs.Pieces.Options.{no_options}
+use Rattle.glob_match.specs.Pieces.Pieces.{no_pieces}
+use Rattle.std.specs.Prelude.{option_map, option_and_then}
 use Rattle.std.proofs.lemmas.Bool.{ne_eqb}
 use Rattle.glob_match.proofs.parse.ReadingLemmas.{drop_next}
 use Rattle.glob_match.specs.declared.piece.Piece.{Piece}
 use Rattle.glob_match.specs.declared.piece.Token.{Token}
 use Rattle.glob_match.specs.declared.piece.Token.TheVariants as token
-use Rattle.glob_match.specs.Reading.{Rest, with_piece, opened, parted, closed, rest_of, all_outside, pieces_of_tokens}
+use Rattle.glob_match.specs.Reading.{Rest, opened, parted, rest_of, all_outside, pieces_of_tokens, piece_before}
 use Rattle.glob_match.specs.Reading.Rest.{outside, inside}
 
 -- within so many open braces, the tokens close each and never open an eleventh
@@ -32,7 +35,7 @@ IsTold true depth (Some rest) = IsWithin depth rest
 IsTold false depth None = Unit {0}
 IsTold false depth (Some rest) = ⊥
 
-told_piece : (b : Bool) (depth : ℕ) (p : Piece) (o : Option Rest) → IsTold b depth o → IsTold b depth (with_piece p o)
+told_piece : (b : Bool) (depth : ℕ) (p : Piece) (o : Option Rest) → IsTold b depth o → IsTold b depth (option_map (piece_before p) o)
 told_piece true depth p None h = h
 told_piece true zero p (Some (outside left)) h = h
 told_piece true zero p (Some (inside left others rest)) h = h
@@ -41,7 +44,7 @@ told_piece true (suc depth) p (Some (inside left others rest)) h = h
 told_piece false depth p None h = h
 told_piece false depth p (Some rest) h = h
 
-told_open : (b : Bool) (depth : ℕ) (o : Option Rest) → IsTold b (suc depth) o → IsTold b depth (opened o)
+told_open : (b : Bool) (depth : ℕ) (o : Option Rest) → IsTold b (suc depth) o → IsTold b depth (option_and_then opened o)
 told_open true depth None h = h
 told_open true depth (Some (outside left)) h = absurd h
 told_open true zero (Some (inside left others (outside after))) h = h
@@ -51,14 +54,14 @@ told_open true (suc depth) (Some (inside left others (inside after more rest))) 
 told_open false depth None h = h
 told_open false depth (Some rest) h = absurd h
 
-told_comma : (b : Bool) (depth : ℕ) (o : Option Rest) → IsTold b (suc depth) o → IsTold b (suc depth) (parted o)
+told_comma : (b : Bool) (depth : ℕ) (o : Option Rest) → IsTold b (suc depth) o → IsTold b (suc depth) (option_and_then parted o)
 told_comma true depth None h = h
 told_comma true depth (Some (outside left)) h = absurd h
 told_comma true depth (Some (inside left others rest)) h = h
 told_comma false depth None h = h
 told_comma false depth (Some rest) h = absurd h
 
-told_close : (b : Bool) (depth : ℕ) (o : Option Rest) → IsTold b depth o → IsTold b (suc depth) (closed o)
+told_close : (b : Bool) (depth : ℕ) (o : Option Rest) → IsTold b depth o → IsTold b (suc depth) (option_map (inside no_pieces no_options) o)
 told_close true depth None h = h
 told_close true depth (Some rest) h = h
 told_close false depth None h = h
@@ -73,8 +76,8 @@ nests_told zero (token.Open ∷ tokens) = told_open (nests 1 tokens) zero (rest_
 nests_told (suc depth) (token.Open ∷ tokens) =
     by (suc depth == 10) (told_open (nests (suc (suc depth)) tokens) (suc depth) (rest_of (suc (suc depth)) tokens) (nests_told (suc (suc depth)) tokens))
   where
-    by : (b : Bool) → IsTold (nests (suc (suc depth)) tokens) (suc depth) (opened (rest_of (suc (suc depth)) tokens))
-        → IsTold (elim b as (λ _. Bool) [ true ↦ false | false ↦ nests (suc (suc depth)) tokens ]) (suc depth) (elim b as (λ _. Option Rest) [ true ↦ None | false ↦ opened (rest_of (suc (suc depth)) tokens) ])
+    by : (b : Bool) → IsTold (nests (suc (suc depth)) tokens) (suc depth) (option_and_then opened (rest_of (suc (suc depth)) tokens))
+        → IsTold (elim b as (λ _. Bool) [ true ↦ false | false ↦ nests (suc (suc depth)) tokens ]) (suc depth) (elim b as (λ _. Option Rest) [ true ↦ None | false ↦ option_and_then opened (rest_of (suc (suc depth)) tokens) ])
     by true h = tt
     by false h = h
 nests_told zero (token.Comma ∷ tokens) = told_piece (nests zero tokens) zero _ (rest_of zero tokens) (nests_told zero tokens)
@@ -82,7 +85,7 @@ nests_told (suc depth) (token.Comma ∷ tokens) = told_comma (nests (suc depth) 
 nests_told zero (token.Close ∷ tokens) = told_piece (nests zero tokens) zero _ (rest_of zero tokens) (nests_told zero tokens)
 nests_told (suc depth) (token.Close ∷ tokens) = told_close (nests depth tokens) depth (rest_of depth tokens) (nests_told depth tokens)
 
-told_some : (b : Bool) (o : Option Rest) → IsTold b 0 o → (b ≡ true) ↔ IsSome (all_outside o)
+told_some : (b : Bool) (o : Option Rest) → IsTold b 0 o → (b ≡ true) ↔ IsSome (option_and_then all_outside o)
 told_some true None h = absurd h
 told_some true (Some (outside left)) h = ((λ _. refl), (λ _. refl))
 told_some true (Some (inside left others rest)) h = absurd h

@@ -1,5 +1,6 @@
 -- The walk over a glob's tokens: the captures end up as those of the first derivation.
 use Rattle.std.proofs.Common.{◌≡◌, ◌≢◌, inl, inr, ℕ, suc, ◌<◌, ◌≤◌, Bool, List, [], ◌∷◌, ◌++◌, All, length, reverse, set, Option, Some, None, refl, sym, ap, subst, ◌∙◌, arith, length-append, length-set}
+use Rattle.std.specs.Prelude.{option_map, option_and_then}
 use Rattle.std.proofs.lemmas.List.{append-nil}
 use Rattle.std.proofs.lemmas.List.Elements.{All-append, All-cons, All-nil, All-pop}
 use Rattle.glob_match.specs.declared.piece.Single.TheVariants.{Character}
@@ -14,7 +15,7 @@ use Rattle.glob_match.specs.declared.walk.Choice.{Choice}
 use Rattle.glob_match.specs.Pieces.{Pieces, Options}
 use Rattle.glob_match.specs.Pieces.Pieces.{no_pieces, piece, brace}
 use Rattle.glob_match.specs.Pieces.Options.{no_options, option}
-use Rattle.glob_match.specs.Reading.{Rest, piece_before, brace_before, with_piece, rest_of, all_outside, pieces_of_tokens}
+use Rattle.glob_match.specs.Reading.{Rest, piece_before, brace_before, rest_of, all_outside, pieces_of_tokens}
 use Rattle.glob_match.specs.Reading.Rest.{outside, inside}
 use Rattle.glob_match.specs.Takes.{PieceTakes, Takes, OptionTakes}
 use Rattle.glob_match.specs.Places.{Holds}
@@ -272,7 +273,7 @@ passes_in choices start passes = subst (λ (cs : List Choice). PassesIn cs start
 -- ---- one token
 
 -- a piece, or a sign that is one
-token_piece : (p : Piece) (left : List Token) (path : List ℕ) (whole : Pieces) (next : List Bool) (old new : Stand) (rest : Rest) → with_piece p (rest_of (length old.choices) left) ≡ Some rest
+token_piece : (p : Piece) (left : List Token) (path : List ℕ) (whole : Pieces) (next : List Bool) (old new : Stand) (rest : Rest) → option_map (piece_before p) (rest_of (length old.choices) left) ≡ Some rest
     → IsRight rest (reverse old.choices) path whole old.place old.captures → IsOnwardFrom (length old.choices) left path next → IsPieceStep p path next old new → RightFrom left path whole new
 token_piece p left path whole next old new rest is right (after, there, onward) step =
     let split = piece_rest p (rest_of (length old.choices) left) rest is in
@@ -449,8 +450,8 @@ token_right (token.Piece p) left path whole next old new all (rest, is, right) o
 token_right token.Open left path whole next old new all right onward step = token_open left path whole next old new right onward step
 token_right token.Comma left path whole next old new all (rest, is, right) onward step = elim (none_or_last old.choices) [
   | inl none ↦
-      let plain : rest_of (length old.choices) (token.Comma ∷ left) ≡ with_piece (One (Character 44)) (rest_of (length old.choices) left) =
-      subst (λ (cs : List Choice). rest_of (length cs) (token.Comma ∷ left) ≡ with_piece (One (Character 44)) (rest_of (length cs) left)) (sym none) refl in
+      let plain : rest_of (length old.choices) (token.Comma ∷ left) ≡ option_map (piece_before (One (Character 44))) (rest_of (length old.choices) left) =
+      subst (λ (cs : List Choice). rest_of (length cs) (token.Comma ∷ left) ≡ option_map (piece_before (One (Character 44))) (rest_of (length cs) left)) (sym none) refl in
       token_piece (One (Character 44)) left path whole next old new rest (sym plain ∙ is) right onward (step.0 none)
   | inr some ↦
       let both = innermost_numbered (length old.captures) old.choices some.0 some.1 some.2 all in
@@ -460,8 +461,8 @@ token_right token.Comma left path whole next old new all (rest, is, right) onwar
 ]
 token_right token.Close left path whole next old new all (rest, is, right) onward step = elim (none_or_last old.choices) [
   | inl none ↦
-      let plain : rest_of (length old.choices) (token.Close ∷ left) ≡ with_piece (One (Character 125)) (rest_of (length old.choices) left) =
-      subst (λ (cs : List Choice). rest_of (length cs) (token.Close ∷ left) ≡ with_piece (One (Character 125)) (rest_of (length cs) left)) (sym none) refl in
+      let plain : rest_of (length old.choices) (token.Close ∷ left) ≡ option_map (piece_before (One (Character 125))) (rest_of (length old.choices) left) =
+      subst (λ (cs : List Choice). rest_of (length cs) (token.Close ∷ left) ≡ option_map (piece_before (One (Character 125))) (rest_of (length cs) left)) (sym none) refl in
       let depth : length old.choices ≡ 0 = ap length none in
       let there : IsOnwardFrom (length old.choices) left path next =
       subst (λ (k : ℕ). IsOnwardFrom k left path next) (ap (λ (k : ℕ). depth_after k token.Close) depth ∙ sym depth) onward in
@@ -487,7 +488,7 @@ walked_none tokens path sets after = record {
   right = λ whole is takes. at_first whole (rest_of 0 tokens) is takes refl;
 }
   where
-    at_first : (whole : Pieces) (o : Option Rest) → all_outside o ≡ Some whole → Takes whole path 0 (length path) → rest_of 0 tokens ≡ o → RightFrom tokens path whole first_stand
+    at_first : (whole : Pieces) (o : Option Rest) → option_and_then all_outside o ≡ Some whole → Takes whole path 0 (length path) → rest_of 0 tokens ≡ o → RightFrom tokens path whole first_stand
     at_first whole None e takes is = absurd (cc)
     at_first whole (Some (inside left others rest)) e takes is = absurd (cc)
     at_first whole (Some (outside left)) e takes is =

@@ -1,4 +1,5 @@
 use Rattle.std.proofs.Common.{◌≡◌, ◌↔◌, ◌==◌, ◌<◌, ◌≤◌, ℕ, suc, Bool, true, false, List, [], ◌∷◌, All, map, length, drop, get_or, Option, Some, None, inl, inr, arith, refl, sym, subst, ap, ◌∙◌, length-drop, drop-cons}
+use Rattle.std.specs.Prelude.{option_map, option_and_then, IsSomeAnd}
 use Rattle.std.proofs.Math.ListN.{drop_of_length-le}
 use Rattle.std.proofs.lemmas.Bool.{ne_eqb, cases_eq}
 use Rattle.std.proofs.lemmas.Option.{slice_get_within, slice_get-get_or, get_or_from_slice_get}
@@ -12,9 +13,9 @@ use Rattle.glob_match.specs.declared.piece.Token.TheVariants as token
 use Rattle.glob_match.specs.Pieces.{Pieces}
 use Rattle.glob_match.specs.Pieces.Pieces.{no_pieces, piece}
 use Rattle.glob_match.specs.Laws.{IsPlain}
-use Rattle.glob_match.specs.Reading.{Rest, before, found, negations, symbols_after, token_at, tokens_from, with_piece, rest_of, all_outside, pieces_of_tokens, pieces_of_symbols, pieces_of}
+use Rattle.glob_match.specs.Reading.{Rest, before, found, negations, symbols_after, token_at, tokens_from, rest_of, all_outside, pieces_of_tokens, pieces_of_symbols, pieces_of, piece_before}
 use Rattle.glob_match.specs.Reading.Rest.{outside}
-use Rattle.glob_match.specs.Takes.{Takes, FitsRead}
+use Rattle.glob_match.specs.Takes.{Takes, FitsUnder}
 use Rattle.glob_match.proofs.parse.ReadingLemmas.{plain_first, token_first}
 use Rattle.glob_match.proofs.laws.plain_fits_itself.Goals as goal
 
@@ -36,24 +37,24 @@ abbrev pub rests : Option (List Token) → Option Rest
 rests None = None
 rests (Some tokens) = rest_of 0 tokens
 
-rests_piece : (c : ℕ) (o : Option (List Token)) → rests (before (token.Piece (One (Character c))) o) ≡ with_piece (One (Character c)) (rests o)
+rests_piece : (c : ℕ) (o : Option (List Token)) → rests (before (token.Piece (One (Character c))) o) ≡ option_map (piece_before (One (Character c))) (rests o)
 rests_piece c None = refl
 rests_piece c (Some tokens) = refl
 
-rests_comma : (o : Option (List Token)) → rests (before token.Comma o) ≡ with_piece (One (Character 44)) (rests o)
+rests_comma : (o : Option (List Token)) → rests (before token.Comma o) ≡ option_map (piece_before (One (Character 44))) (rests o)
 rests_comma None = refl
 rests_comma (Some tokens) = refl
 
-rests_close : (o : Option (List Token)) → rests (before token.Close o) ≡ with_piece (One (Character 125)) (rests o)
+rests_close : (o : Option (List Token)) → rests (before token.Close o) ≡ option_map (piece_before (One (Character 125))) (rests o)
 rests_close None = refl
 rests_close (Some tokens) = refl
 
 -- a plain character is a piece of itself
-plain_one : (c : ℕ) (starts : Bool) (text : List Symbol) → IsPlain c → rests (tokens_from 0 starts (Plain c ∷ text)) ≡ with_piece (One (Character c)) (rests (tokens_from 0 (c == 47) text))
+plain_one : (c : ℕ) (starts : Bool) (text : List Symbol) → IsPlain c → rests (tokens_from 0 starts (Plain c ∷ text)) ≡ option_map (piece_before (One (Character c))) (rests (tokens_from 0 (c == 47) text))
 plain_one c starts text plain = elim (cases_eq c 44) [
-  | inl same ↦ subst (λ (x : ℕ). rests (tokens_from 0 starts (Plain x ∷ text)) ≡ with_piece (One (Character x)) (rests (tokens_from 0 (x == 47) text))) (sym same) (rests_comma (tokens_from 0 (44 == 47) text))
+  | inl same ↦ subst (λ (x : ℕ). rests (tokens_from 0 starts (Plain x ∷ text)) ≡ option_map (piece_before (One (Character x))) (rests (tokens_from 0 (x == 47) text))) (sym same) (rests_comma (tokens_from 0 (44 == 47) text))
   | inr o1 ↦ elim (cases_eq c 125) [
-    | inl same ↦ subst (λ (x : ℕ). rests (tokens_from 0 starts (Plain x ∷ text)) ≡ with_piece (One (Character x)) (rests (tokens_from 0 (x == 47) text))) (sym same) (rests_close (tokens_from 0 (125 == 47) text))
+    | inl same ↦ subst (λ (x : ℕ). rests (tokens_from 0 starts (Plain x ∷ text)) ≡ option_map (piece_before (One (Character x))) (rests (tokens_from 0 (x == 47) text))) (sym same) (rests_close (tokens_from 0 (125 == 47) text))
     | inr o2 ↦
         let is : token_at starts (Plain c) text ≡ found (One (Character c)) 0 =
         rw (ne_eqb c 91 plain.no_class, ne_eqb c 42 plain.no_star, ne_eqb c 63 plain.no_mark, ne_eqb c 123 plain.no_brace, ne_eqb c 44 o1, ne_eqb c 125 o2, token_at) refl in
@@ -63,11 +64,11 @@ plain_one c starts text plain = elim (cases_eq c 44) [
 
 plain_rests : (glob : List ℕ) (starts : Bool) → All IsPlain glob → rests (tokens_from 0 starts (map Plain glob)) ≡ Some (outside (characters glob))
 plain_rests [] starts all = refl
-plain_rests (c ∷ glob) starts all = plain_one c starts (map Plain glob) (All-head IsPlain c glob all) ∙ ap (with_piece (One (Character c))) (plain_rests glob (c == 47) (All-tail IsPlain c glob all))
+plain_rests (c ∷ glob) starts all = plain_one c starts (map Plain glob) (All-head IsPlain c glob all) ∙ ap (option_map (piece_before (One (Character c)))) (plain_rests glob (c == 47) (All-tail IsPlain c glob all))
 
 of_rests : (o : Option (List Token)) (whole : Pieces) → rests o ≡ Some (outside whole) → pieces_of_tokens o ≡ Some whole
 of_rests None whole is = absurd (cc)
-of_rests (Some tokens) whole is = ap all_outside is
+of_rests (Some tokens) whole is = ap (option_and_then all_outside) is
 
 plain_pieces : (glob : List ℕ) → All IsPlain glob → pieces_of glob ≡ Some (characters glob)
 plain_pieces glob all =
@@ -101,6 +102,6 @@ plain_takes (c ∷ glob) path from le = (
 
 pub returns : goal.returns
 returns c = λ glob path all.
-    let takes : FitsRead 0 (Some (characters glob)) path ↔ (path ≡ glob) = plain_takes glob path 0 (omega arith) in
-    let read : FitsRead 0 (pieces_of glob) path ↔ (path ≡ glob) = subst (λ (o : Option Pieces). FitsRead 0 o path ↔ (path ≡ glob)) (sym (plain_pieces glob all)) takes in
-    subst (λ (n : ℕ). FitsRead n (pieces_of glob) path ↔ (path ≡ glob)) (sym (plain_signs glob all)) read
+    let takes : IsSomeAnd (Some (characters glob)) (λ pieces. FitsUnder 0 pieces path) ↔ (path ≡ glob) = plain_takes glob path 0 (omega arith) in
+    let read : IsSomeAnd (pieces_of glob) (λ pieces. FitsUnder 0 pieces path) ↔ (path ≡ glob) = subst (λ (o : Option Pieces). IsSomeAnd o (λ pieces. FitsUnder 0 pieces path) ↔ (path ≡ glob)) (sym (plain_pieces glob all)) takes in
+    subst (λ (n : ℕ). IsSomeAnd (pieces_of glob) (λ pieces. FitsUnder n pieces path) ↔ (path ≡ glob)) (sym (plain_signs glob all)) read
