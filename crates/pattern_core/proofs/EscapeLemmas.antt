@@ -6,17 +6,18 @@ use Rattle.pattern_syntax.specs.declared.flags.Flags.{Flags}
 use Rattle.pattern_syntax.specs.Flags.{has}
 use Rattle.unicode.specs.Binary.{is_white_space}
 use Rattle.pattern_syntax.specs.Sets.{closed, folds_with_another}
-use Rattle.pattern_syntax.specs.Atom.{Atom, character, escaped, all, is_escapable, write_atom}
+use Rattle.pattern_syntax.specs.Atom.{Atom, character, escaped, is_escapable, write_atom}
 use Rattle.pattern_syntax.specs.Syntax.{Syntax, end, single, atom, write, Fine, is_special}
 use Rattle.pattern_syntax.specs.SetTree.{SetTree, literal, trees}
 use Rattle.pattern_syntax.specs.Reads.{Row, Found, Reads, found_of, branches, single_part, class_tree, joined as joined_rows, sequence, at_depth, put, names_of}
 use Rattle.pattern_core.specs.Escape.{is_meta, escaped_char, escaped_text, encoded, joined, joined_all, text_of, texts_of, EscapedIsReadAsItself}
+use Rattle.std.specs.List.{list_all}
 
 -- a test that all members pass
-pub has_all : (p : ℕ → Bool) (cs : List ℕ) (c : ℕ) → all p cs ≡ true → has c cs ≡ true → p c ≡ true
+pub has_all : (p : ℕ → Bool) (cs : List ℕ) (c : ℕ) → list_all p cs ≡ true → has c cs ≡ true → p c ≡ true
 has_all p [] c every h = cc
 has_all p (d ∷ cs) c every h =
-    let parts = and_parts (p d) (all p cs) every in
+    let parts = and_parts (p d) (list_all p cs) every in
     ⊎_elim (λ same. subst (λ z. p z ≡ true) (eqb-true d c same) parts.0) (has_all p cs c parts.1) (or_cases (d == c) (has c cs) h)
 
 meta_escapable : (c : ℕ) → is_meta c ≡ true → is_escapable c ≡ true

@@ -9,7 +9,7 @@ use Rattle.pattern_syntax.specs.declared.flags.Flags.{Flags}
 use Rattle.pattern_syntax.specs.Flags.{Blank, write_blanks, FineBlanks, is_nil}
 use Rattle.pattern_syntax.specs.Sets.{Set, negated_if, ascii_names, ascii_set, value_of}
 use Rattle.pattern_syntax.specs.Atom.{Atom, write_atom, single_of}
-use Rattle.pattern_syntax.specs.Class.{Head, Inside, close, pass, one, range, named, nested, operation, Operation, write_inside, write_head, write_name, write_operation, FineInside, FineHead, FineMember, FineSecond, fits, makes_range, in_order, begins_name, is_negated, head_literals, atom_set, range_set, inside_set, inside_depth, inside_literals, listed}
+use Rattle.pattern_syntax.specs.Class.{Head, Inside, close, pass, one, range, named, nested, operation, Operation, write_inside, write_head, write_name, write_operation, FineInside, FineHead, FineMember, FineSecond, fits, makes_range, in_order, begins_name, head_literals, atom_set, range_set, inside_set, inside_depth, inside_literals, listed}
 use Rattle.pattern_syntax.specs.ClassProgress.{ClassPart, ClassLevel, start, literals_in, in_both, part_of, whole_class, with_member, bracketed, with_operation, AfterClass, RestClass, leave_class}
 
 max_zero : (d : ℕ) → max d 0 ≡ d
@@ -82,7 +82,7 @@ module _ (F : Type 0) where
     names : (negated : Bool) (name t : List ℕ) → is_some (value_of ascii_names name) ≡ true → w ≡ write_name negated name t
         → RestClass F k after (name_member k negated name l) t found → GoesOn k after l w found
     nests : (h : Head) (t : List ℕ) → begins_name w ≡ false → FineHead k h t → w ≡ write_head h t
-        → RestClass F k (leave_class F k (is_negated h) l after) (start h) t found → GoesOn k after l w found
+        → RestClass F k (leave_class F k (is_some h.negated) l after) (start h) t found → GoesOn k after l w found
     operates : (o : Operation) (t : List ℕ) → w ≡ write_operation o t → RestClass F k after (with_operation k o l) t found → GoesOn k after l w found
 
   moved : (after : AfterClass F) (a b : ClassPart) (v : List ℕ) (found : F) → a ≡ b → after a v found → after b v found
@@ -90,7 +90,7 @@ module _ (F : Type 0) where
 
   whole_nested : (k : Flags) (h : Head) (q p : Inside) (l : ClassLevel)
       → whole_class k l (nested h q p)
-      ≡ whole_class k (with_member (bracketed k (is_negated h) (whole_class k (start h) q)).set (bracketed k (is_negated h) (whole_class k (start h) q)).depth (bracketed k (is_negated h) (whole_class k (start h) q)).literals l) p
+      ≡ whole_class k (with_member (bracketed k (is_some h.negated) (whole_class k (start h) q)).set (bracketed k (is_some h.negated) (whole_class k (start h) q)).depth (bracketed k (is_some h.negated) (whole_class k (start h) q)).literals l) p
   whole_nested k h q p l =
       same_part _ _ _ _ _ refl
       (in_more l.literals (head_literals h ++ inside_literals q) (inside_literals p)
@@ -162,7 +162,7 @@ module _ (F : Type 0) where
   )
 
   pub came_nest : (k : Flags) (after : AfterClass F) (l : ClassLevel) (h : Head) (t : List ℕ) (found : F) → begins_name (write_head h t) ≡ false → FineHead k h t
-      → RestClass F k (leave_class F k (is_negated h) l after) (start h) t found → RestClass F k after l (write_head h t) found
+      → RestClass F k (leave_class F k (is_some h.negated) l after) (start h) t found → RestClass F k after l (write_head h t) found
   came_nest k after l h t found apart fine (q, u, f, e, (p, v, g, i, s)) =
       let inside : t ≡ write_inside q (write_inside p v) = e ∙ ap (write_inside q) i in (
         nested h q p,

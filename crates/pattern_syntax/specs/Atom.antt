@@ -2,10 +2,11 @@
 use Rattle.std.specs.Int.{is_in_range}
 use Rattle.std.specs.Prelude.{◌≡◌, ℕ, Bool, true, false, List, [], ◌∷◌, ◌++◌, codes, ◌==◌, ◌&&◌, ◌||◌, nat_le, nat_lt, not, length, map, if◌then◌else◌, Option, Some, None, is_some}
 use Rattle.std.specs.Char.{is_digit}
-use Rattle.std.specs.Str.Parse.{digits_value_after}
+use Rattle.std.specs.Str.Parse.{digits_value_after, digits_value}
 use Rattle.pattern_syntax.specs.declared.flags.Flags.{Flags}
 use Rattle.pattern_syntax.specs.Flags.{Blank, write_blanks, FineBlanks, has, is_nil}
 use Rattle.pattern_syntax.specs.Sets.{is_scalar, category_named}
+use Rattle.std.specs.List.{list_all}
 
 -- a digit or a letter, and the blanks before it
 pub record Digit : Type 0 where
@@ -58,9 +59,6 @@ spelt ds = map (λ (d : Digit). d.digit) ds
 abbrev pub number : ℕ → ℕ → List Digit → ℕ
 number base high ds = digits_value_after base high (spelt ds)
 
-abbrev pub octal_number : ℕ → List ℕ → ℕ
-octal_number high ds = digits_value_after 8 high ds
-
 -- what `\a` and its like are
 abbrev pub control_of : ℕ → Option ℕ
 control_of letter =
@@ -78,15 +76,11 @@ single_of (escaped c) = Some c
 single_of (control letter) = control_of letter
 single_of (coded letter ds) = Some (number 16 0 ds)
 single_of (braced letter before ds behind) = Some (number 16 0 ds)
-single_of (octal ds) = Some (octal_number 0 ds)
+single_of (octal ds) = Some (digits_value 8 ds)
 single_of _ = None
 
-abbrev pub all : (ℕ → Bool) → List ℕ → Bool
-all f [] = true
-all f (c ∷ cs) = f c && all f cs
-
 abbrev pub are_hex : List Digit → Bool
-are_hex ds = all (λ d. is_digit d 16) (spelt ds)
+are_hex ds = list_all (λ d. is_digit d 16) (spelt ds)
 
 abbrev pub is_octal_digit : ℕ → Bool
 is_octal_digit = is_in_range 48 55
@@ -115,7 +109,8 @@ FineAtom k (coded letter ds) t =
 FineAtom k (braced letter before ds behind) t =
     FineBraced k before ds behind × ((not (is_nil ds) && nat_lt 0 (coded_length letter) && are_hex ds && is_scalar (number 16 0 ds)) ≡ true)
 FineAtom k (octal ds) t =
-    (k.octal && not (is_nil ds) && nat_le (length ds) 3 && all is_octal_digit ds && not (nat_lt (length ds) 3 && octal_next t)) ≡ true
+    (k.octal && not (is_nil ds) && nat_le (length ds) 3 && list_all is_octal_digit ds
+    && not (nat_lt (length ds) 3 && octal_next t)) ≡ true
 FineAtom k (perl letter) t = has letter (codes "dswDSW") ≡ true
 FineAtom k (category letter before c) t =
     FineBlanks k before (c ∷ t) × ((k.unicode && has letter (codes "pP") && is_some (category_named (c ∷ []))) ≡ true)

@@ -6,8 +6,9 @@ use Rattle.std.specs.Option.{option_map_or}
 use Rattle.unicode.specs.Binary.{is_white_space}
 use Rattle.pattern_syntax.specs.declared.flags.Flags.{Flags}
 use Rattle.pattern_syntax.specs.Flags.{Blank, write_blanks, FineBlanks, has, begins, rest, seen, seen_if, is_nil}
-use Rattle.pattern_syntax.specs.Atom.{Atom, character, coded, braced, octal, number, octal_number, write_atom, FineAtom, single_of, perl, category, category_braced, spelt}
+use Rattle.pattern_syntax.specs.Atom.{Atom, character, coded, braced, octal, number, write_atom, FineAtom, single_of, perl, category, category_braced, spelt}
 use Rattle.pattern_syntax.specs.Sets.{Set, none_of, union, negated_if, closed, ascii_names, ascii_set, value_of, perl_set, category_set}
+use Rattle.std.specs.Str.Parse.{digits_value}
 
 pub data Operation : Type 0 where
   both : Operation
@@ -85,7 +86,7 @@ abbrev pub is_byte : Atom → Bool
 is_byte (character c) = nat_lt c 128
 is_byte (coded letter ds) = (letter == 120) || nat_lt (number 16 0 ds) 128
 is_byte (braced letter bs ds cs) = nat_lt (number 16 0 ds) 128
-is_byte (octal ds) = nat_lt (octal_number 0 ds) 128
+is_byte (octal ds) = nat_lt (digits_value 8 ds) 128
 is_byte _ = true
 
 abbrev pub fits : Flags → Atom → Bool
@@ -147,9 +148,6 @@ FineInside k (nested h q p) t =
 FineInside k (operation o p) t = FineInside k p t
 
 -- THE SET
-abbrev pub is_negated : Head → Bool
-is_negated h = is_some h.negated
-
 -- the leading members
 abbrev pub head_set : Head → Set
 head_set h c = ((c == 45) && not (is_nil h.dashes)) || ((c == 93) && is_some h.bracket)
@@ -192,18 +190,16 @@ inside_set k w u (pass b p) = inside_set k w u p
 inside_set k w u (one a p) = inside_set k w (union u (atom_set k a)) p
 inside_set k w u (range a bs cs b p) = inside_set k w (union u (range_set (single_of a) (single_of b))) p
 inside_set k w u (named negated name p) = inside_set k w (union u (negated_if negated k (ascii_set name))) p
-inside_set k w u (nested h q p) = inside_set k w (union u (negated_if (is_negated h) k (inside_set k nothing (head_set h) q))) p
+inside_set k w u (nested h q p) =
+    inside_set k w (union u (negated_if (is_some h.negated) k (inside_set k nothing (head_set h) q))) p
 inside_set k w u (operation o p) = inside_set k (waits (side k w u) o) none_of p
 
 abbrev pub class_set : Flags → Head → Inside → Set
-class_set k h p = negated_if (is_negated h) k (inside_set k nothing (head_set h) p)
+class_set k h p = negated_if (is_some h.negated) k (inside_set k nothing (head_set h) p)
 
 -- HOW DEEP IT NESTS
-abbrev pub one_if : Bool → ℕ
-one_if b = if b then 1 else 0
-
 abbrev pub head_count : Head → ℕ
-head_count h = length h.dashes + one_if (is_some h.bracket)
+head_count h = length h.dashes + (if is_some h.bracket then 1 else 0)
 
 abbrev pub union_depth : ℕ → ℕ → ℕ
 union_depth count deepest = if nat_lt count 2 then deepest else deepest + 1

@@ -18,7 +18,7 @@ use Rattle.pattern_syntax.specs.declared.classes.steps.Step.TheVariants as step
 use Rattle.pattern_syntax.specs.Flags.{Blank, write_blanks, FineBlanks, has, begins, rest, seen}
 use Rattle.pattern_syntax.specs.Sets.{Set, negated_if, ascii_names, ascii_set, value_of}
 use Rattle.pattern_syntax.specs.Atom.{Atom, character, write_atom, FineAtom, single_of}
-use Rattle.pattern_syntax.specs.Class.{Head, Inside, Operation, both, minus, either, Waiting, nothing, waits, write_head, write_inside, write_name, write_operation, FineHead, FineInside, FineSecond, is_member, is_negated, fits, begins_name, atom_set}
+use Rattle.pattern_syntax.specs.Class.{Head, Inside, Operation, both, minus, either, Waiting, nothing, waits, write_head, write_inside, write_name, write_operation, FineHead, FineInside, FineSecond, is_member, fits, begins_name, atom_set}
 use Rattle.pattern_syntax.specs.ClassProgress.{ClassPart, ClassLevel, start, part_of, whole_class, bracketed, AfterClass, RestClass, leave_class}
 use Rattle.pattern_syntax.specs.Readers.{IsSet, GoesOnTo}
 
@@ -113,7 +113,7 @@ module _ (k : Flags) (text : List ℕ) where
     pub written : drop at text ≡ write_head head (write_inside inside found.1)
     pub fine_head : FineHead k head (write_inside inside found.1)
     pub fine_inside : FineInside k inside found.1
-    pub part : found.0 ≡ bracketed k (is_negated head) (whole_class k (start head) inside)
+    pub part : found.0 ≡ bracketed k (is_some head.negated) (whole_class k (start head) inside)
 
   -- what can be found from the place is what the state goes on to
   pub record Begun (at : ℕ) (s : Reading) : Type 0 where
@@ -136,7 +136,7 @@ IsNextRead k text at c (Some next) = NextAt k text at c next
 IsNextRead k text at c None = begins c (seen k (drop at text)) ≡ false
 
 abbrev pub IsHead : ClassHead → Head → Type 0
-IsHead read h = (read.negated ≡ is_negated h) × (read.dashes ≡ length h.dashes) × (read.bracket ≡ is_some h.bracket)
+IsHead read h = (read.negated ≡ is_some h.negated) × (read.dashes ≡ length h.dashes) × (read.bracket ≡ is_some h.bracket)
 
 pub record HeadAt (k : Flags) (text : List ℕ) (at : ℕ) (read : ClassHead) (next : ℕ) : Type 0 where
   pub head : Head

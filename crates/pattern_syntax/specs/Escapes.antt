@@ -5,8 +5,9 @@ use Rattle.pattern_syntax.specs.declared.flags.Flags.{Flags}
 use Rattle.pattern_syntax.specs.declared.readings.Member.{Member}
 use Rattle.pattern_syntax.specs.Flags.{has, seen, is_nil}
 use Rattle.pattern_syntax.specs.Sets.{is_scalar}
-use Rattle.pattern_syntax.specs.Atom.{Atom, escaped, control, coded, braced, octal, perl, category, category_braced, write_atom, FineAtom, all, is_octal_digit}
+use Rattle.pattern_syntax.specs.Atom.{Atom, escaped, control, coded, braced, octal, perl, category, category_braced, write_atom, FineAtom, is_octal_digit}
 use Rattle.pattern_syntax.specs.Readers.{EscapeAt}
+use Rattle.std.specs.List.{list_all}
 
 -- a `\` stands at the place, and the letter behind it
 abbrev pub IsEscapeLetter : List ℕ → ℕ → ℕ → Type 0
@@ -39,7 +40,7 @@ spelled_number high (c ∷ cs) = spelled_number (high * 16 + digit_value c) cs
 
 -- hexadecimal digits, which spell the number of a character
 abbrev pub are_code : List ℕ → Bool
-are_code cs = not (is_nil cs) && all (λ d. is_digit d 16) cs && is_scalar (spelled_number 0 cs)
+are_code cs = not (is_nil cs) && list_all (λ d. is_digit d 16) cs && is_scalar (spelled_number 0 cs)
 
 -- an octal digit of this value stands at the place
 pub record OctalDigitAt (text : List ℕ) (at value : ℕ) : Type 0 where

@@ -1,14 +1,14 @@
 -- What the readers of an opening's parts answer.
-use Rattle.std.specs.Prelude.{◌≡◌, ◌<◌, ◌≤◌, ℕ, ◌+◌, Bool, true, false, List, [], ◌∷◌, ◌++◌, codes, ◌&&◌, ◌||◌, not, drop, length, slice_range, Option, Some, None}
+use Rattle.std.specs.Prelude.{◌≡◌, ◌<◌, ◌≤◌, ℕ, ◌+◌, Bool, true, false, List, [], ◌∷◌, ◌++◌, codes, ◌&&◌, ◌||◌, not, drop, length, slice_range, Option, Some, None, unwrap_or}
 use Rattle.pattern_syntax.specs.declared.flags.Flags.{Flags}
 use Rattle.pattern_syntax.specs.declared.readings.Opening.{Opening}
 use Rattle.pattern_syntax.specs.declared.readings.Opening.TheVariants as opening
-use Rattle.pattern_syntax.specs.Atom.{all}
-use Rattle.pattern_syntax.specs.Flags.{FlagList, apply, letters_of, write_off, write_flags, FineFlags, Blank, has, begins, is_nil}
+use Rattle.pattern_syntax.specs.Flags.{FlagList, apply, write_off, write_flags, FineFlags, Blank, has, begins, is_nil}
 use Rattle.pattern_syntax.specs.Runs.{is_flag, comes}
-use Rattle.pattern_syntax.specs.Syntax.{named, flagged, write_p, is_name}
+use Rattle.pattern_syntax.specs.Syntax.{named, flagged, is_name, write_p}
 use Rattle.pattern_syntax.specs.Tokens.{Token, set, opens}
 use Rattle.pattern_syntax.specs.Readers.{GoesOnTo}
+use Rattle.std.specs.List.{list_all}
 
 -- ---- flag lists
 
@@ -28,8 +28,8 @@ pub record IsOffRead (text : List ℕ) (at next : ℕ) : Type 0 where
   pub onward : at ≤ next
   pub within : next ≤ length text
   pub written : drop at text ≡ write_off off (drop next text)
-  pub letters : all is_flag (letters_of off) ≡ true
-  pub letters_are : letters_of off ≡ slice_range text (at + 1) next
+  pub letters : list_all is_flag (unwrap_or off []) ≡ true
+  pub letters_are : unwrap_or off [] ≡ slice_range text (at + 1) next
   pub ends : comes is_flag (drop at text) ≡ false → off_ends off (drop next text) ≡ true
 
 -- a `:` or `)` comes next
@@ -82,7 +82,7 @@ write_marked (plain l) t = write_flags l (codes ":" ++ t)
 write_marked (called p name) t = write_p p (codes "<" ++ name ++ codes ">" ++ t)
 
 abbrev pub FineMarked : Marked → Type 0
-FineMarked (sets l) = FineFlags l × (is_nil (l.on ++ letters_of l.off) ≡ false)
+FineMarked (sets l) = FineFlags l × (is_nil (l.on ++ unwrap_or l.off []) ≡ false)
 FineMarked (plain l) = FineFlags l
 FineMarked (called p name) = is_name name ≡ true
 

@@ -47,9 +47,6 @@ choice row = united alternation row.trees row.depth
 abbrev pub joined : List Row → Part
 joined branches = choice (row_of (map sequence branches))
 
-abbrev pub edge_look : Edge → Bool → Look
-edge_look e = (edge_of e).1
-
 -- with `u` off `\xHH` is that one byte
 abbrev pub literal_bytes : Flags → Atom → ℕ → List ℕ
 literal_bytes k (coded letter ds) c = if (letter == 120) && not k.unicode then c ∷ [] else encode_utf8 c
@@ -110,7 +107,7 @@ single_part k (atom a) = at_depth 0 (one_tree k a (single_of a))
 single_part k dot = at_depth 0 (class_tree k (complement k (line_end k)))
 single_part k caret = at_depth 0 (looks (line_look look.Start look.StartLF look.StartCRLF k))
 single_part k dollar = at_depth 0 (looks (line_look look.End look.EndLF look.EndCRLF k))
-single_part k (look_at e) = at_depth 0 (looks (edge_look e k.unicode))
+single_part k (look_at e) = at_depth 0 (looks ((edge_of e).1 k.unicode))
 single_part k (class h p) = at_depth (class_depth h p) (class_tree k (class_set k h p))
 
 -- the items of each branch, under flags, where so many groups have numbers before
@@ -128,28 +125,27 @@ abbrev pub own_name : Kind → List (List ℕ)
 own_name (named bs p name) = name ∷ []
 own_name _ = []
 
+-- what groups and single parts have, in order
+abbrev pub gathered : {A : Type 0} → (Kind → List A) → (Single → List A) → Syntax → List A
+gathered of_group of_single end = []
+gathered of_group of_single (bar p) = gathered of_group of_single p
+gathered of_group of_single (pass b p) = gathered of_group of_single p
+gathered of_group of_single (set bs l p) = gathered of_group of_single p
+gathered of_group of_single (single s rs p) = of_single s ++ gathered of_group of_single p
+gathered of_group of_single (group m q rs p) = of_group m ++ gathered of_group of_single q ++ gathered of_group of_single p
+
 -- the names of groups, in order
 abbrev pub names_of : Syntax → List (List ℕ)
-names_of end = []
-names_of (bar p) = names_of p
-names_of (pass b p) = names_of p
-names_of (set bs l p) = names_of p
-names_of (single s rs p) = names_of p
-names_of (group m q rs p) = own_name m ++ names_of q ++ names_of p
+names_of p = gathered own_name (λ s. []) p
 
--- the literal characters, in order
 abbrev pub single_literals : Single → List ℕ
 single_literals (atom a) = listed (single_of a)
 single_literals (class h p) = head_literals h ++ inside_literals p
 single_literals _ = []
 
+-- the literal characters, in order
 abbrev pub literals_of : Syntax → List ℕ
-literals_of end = []
-literals_of (bar p) = literals_of p
-literals_of (pass b p) = literals_of p
-literals_of (set bs l p) = literals_of p
-literals_of (single s rs p) = single_literals s ++ literals_of p
-literals_of (group k q rs p) = literals_of q ++ literals_of p
+literals_of p = gathered (λ m. []) single_literals p
 
 pub record Found : Type 0 where
   pub part : Part

@@ -10,8 +10,8 @@ use Rattle.unicode.specs.Perl.{is_digit_char, is_space_char, is_word_char}
 use Rattle.unicode.specs.Sets.{in_set}
 use Rattle.ucd_sets.specs.declared.set.Set.{Set as Named}
 use Rattle.ucd_sets.specs.declared.set.Set.TheVariants.{Category, CategoryGroup}
-use Rattle.ucd_category.specs.declared.GeneralCategory.TheVariants as category
-use Rattle.ucd_category.specs.declared.GeneralCategoryGroup.TheVariants as group
+use Rattle.ucd_category.specs.declared.GeneralCategory.TheVariants.{UppercaseLetter, LowercaseLetter, TitlecaseLetter, ModifierLetter, OtherLetter, NonspacingMark, SpacingMark, EnclosingMark, DecimalNumber, LetterNumber, OtherNumber, ConnectorPunctuation, DashPunctuation, OpenPunctuation, ClosePunctuation, InitialPunctuation, FinalPunctuation, OtherPunctuation, MathSymbol, CurrencySymbol, ModifierSymbol, OtherSymbol, SpaceSeparator, LineSeparator, ParagraphSeparator, Control, Format, PrivateUse, Unassigned}
+use Rattle.ucd_category.specs.declared.GeneralCategoryGroup.TheVariants.{Letter, Mark, Number, Punctuation, Symbol, Separator, Other}
 use Rattle.pattern_syntax.specs.declared.flags.Flags.{Flags}
 
 abbrev pub Set : Type 0
@@ -37,14 +37,9 @@ abbrev pub negated_if : Bool → Flags → Set → Set
 negated_if negated k s = if negated then complement k s else s
 
 -- FOLDING
--- a pair leads to it from a member
-abbrev pub image : List (ℕ × ℕ) → Set → Set
-image [] s c = false
-image (p ∷ ps) s c = ((p.1 == c) && s p.0) || image ps s c
-
--- with all characters that have the simple case folding of a member
+-- with all characters that have the simple case folding of a member: a pair leads to one from a member
 abbrev pub with_alike : Set → Set
-with_alike s c = s c || image fold_pairs s c
+with_alike s c = s c || list_any (λ (p : ℕ × ℕ). (p.1 == c) && s p.0) fold_pairs
 
 -- with the other case of each ASCII letter
 abbrev pub with_cases : Set → Set
@@ -87,27 +82,22 @@ ascii_names =
 -- the names of general categories, in lower case
 abbrev pub category_names : List (List ℕ × Named)
 category_names =
-    (codes "l", CategoryGroup group.Letter) ∷ (codes "m", CategoryGroup group.Mark) ∷ (codes "n", CategoryGroup group.Number)
-    ∷ (codes "p", CategoryGroup group.Punctuation) ∷ (codes "s", CategoryGroup group.Symbol) ∷ (codes "z", CategoryGroup group.Separator)
-    ∷ (codes "c", CategoryGroup group.Other)
-    ∷ (codes "lu", Category category.UppercaseLetter) ∷ (codes "ll", Category category.LowercaseLetter) ∷ (codes "lt", Category category.TitlecaseLetter)
-    ∷ (codes "lm", Category category.ModifierLetter) ∷ (codes "lo", Category category.OtherLetter)
-    ∷ (codes "mn", Category category.NonspacingMark) ∷ (codes "mc", Category category.SpacingMark) ∷ (codes "me", Category category.EnclosingMark)
-    ∷ (codes "nd", Category category.DecimalNumber) ∷ (codes "nl", Category category.LetterNumber) ∷ (codes "no", Category category.OtherNumber)
-    ∷ (codes "pc", Category category.ConnectorPunctuation) ∷ (codes "pd", Category category.DashPunctuation) ∷ (codes "ps", Category category.OpenPunctuation)
-    ∷ (codes "pe", Category category.ClosePunctuation) ∷ (codes "pi", Category category.InitialPunctuation) ∷ (codes "pf", Category category.FinalPunctuation)
-    ∷ (codes "po", Category category.OtherPunctuation)
-    ∷ (codes "sm", Category category.MathSymbol) ∷ (codes "sc", Category category.CurrencySymbol) ∷ (codes "sk", Category category.ModifierSymbol)
-    ∷ (codes "so", Category category.OtherSymbol)
-    ∷ (codes "zs", Category category.SpaceSeparator) ∷ (codes "zl", Category category.LineSeparator) ∷ (codes "zp", Category category.ParagraphSeparator)
-    ∷ (codes "cc", Category category.Control) ∷ (codes "cf", Category category.Format) ∷ (codes "co", Category category.PrivateUse)
-    ∷ (codes "cn", Category category.Unassigned) ∷ []
-
-abbrev pub or_none : Option Set → Set
-or_none s = unwrap_or s none_of
+    (codes "l", CategoryGroup Letter) ∷ (codes "m", CategoryGroup Mark) ∷ (codes "n", CategoryGroup Number)
+    ∷ (codes "p", CategoryGroup Punctuation) ∷ (codes "s", CategoryGroup Symbol) ∷ (codes "z", CategoryGroup Separator)
+    ∷ (codes "c", CategoryGroup Other) ∷ (codes "lu", Category UppercaseLetter) ∷ (codes "ll", Category LowercaseLetter)
+    ∷ (codes "lt", Category TitlecaseLetter) ∷ (codes "lm", Category ModifierLetter) ∷ (codes "lo", Category OtherLetter)
+    ∷ (codes "mn", Category NonspacingMark) ∷ (codes "mc", Category SpacingMark) ∷ (codes "me", Category EnclosingMark)
+    ∷ (codes "nd", Category DecimalNumber) ∷ (codes "nl", Category LetterNumber) ∷ (codes "no", Category OtherNumber)
+    ∷ (codes "pc", Category ConnectorPunctuation) ∷ (codes "pd", Category DashPunctuation)
+    ∷ (codes "ps", Category OpenPunctuation) ∷ (codes "pe", Category ClosePunctuation) ∷ (codes "pi", Category InitialPunctuation)
+    ∷ (codes "pf", Category FinalPunctuation) ∷ (codes "po", Category OtherPunctuation) ∷ (codes "sm", Category MathSymbol)
+    ∷ (codes "sc", Category CurrencySymbol) ∷ (codes "sk", Category ModifierSymbol) ∷ (codes "so", Category OtherSymbol)
+    ∷ (codes "zs", Category SpaceSeparator) ∷ (codes "zl", Category LineSeparator) ∷ (codes "zp", Category ParagraphSeparator)
+    ∷ (codes "cc", Category Control) ∷ (codes "cf", Category Format) ∷ (codes "co", Category PrivateUse)
+    ∷ (codes "cn", Category Unassigned) ∷ []
 
 abbrev pub ascii_set : List ℕ → Set
-ascii_set name = or_none (value_of ascii_names name)
+ascii_set name = unwrap_or (value_of ascii_names name) none_of
 
 -- a general category by its name, ASCII case ignored
 abbrev pub category_named : List ℕ → Option Named
@@ -119,13 +109,9 @@ characters s c = is_scalar c && s c
 abbrev pub named_set : Option Named → Set
 named_set name = option_map_or (λ (n : Named). characters (in_set n)) name none_of
 
--- closed under folding
-abbrev pub closed_category : Flags → List ℕ → Set
-closed_category k name = closed k (named_set (category_named name))
-
 -- `\p` and the name, or `\P` where it is negated: closed under folding before negation
 abbrev pub category_set : Flags → Bool → List ℕ → Set
-category_set k negated name = negated_if negated k (closed_category k name)
+category_set k negated name = negated_if negated k (closed k (named_set (category_named name)))
 
 -- `\d`, `\s` and `\w`
 abbrev pub digits_of : Flags → Set

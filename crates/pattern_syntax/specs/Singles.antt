@@ -1,13 +1,13 @@
 -- What is read of the single items of each kind.
-use Rattle.std.specs.Prelude.{◌≡◌, ℕ, Bool, false, List, ◌∷◌, ◌==◌, ◌&&◌, ◌||◌, drop, Option, Some, None, if◌then◌else◌}
+use Rattle.std.specs.Prelude.{◌≡◌, ℕ, Bool, false, List, ◌∷◌, ◌==◌, ◌&&◌, ◌||◌, drop, Option, Some, None, if◌then◌else◌, ◌++◌}
 use Rattle.hir_tree.specs.declared.look.Look.{Look}
 use Rattle.pattern_syntax.specs.declared.flags.Flags.{Flags}
 use Rattle.pattern_syntax.specs.declared.readings.Item.{Item}
 use Rattle.pattern_syntax.specs.Sets.{closed, folds_with_another}
 use Rattle.pattern_syntax.specs.Class.{is_blank_start}
-use Rattle.pattern_syntax.specs.Syntax.{Single, dot, caret, dollar, Edge, text_start, text_end, edge, no_edge, word_start, word_end, half_start, half_end, left, right, write_edge, write_single, FineLook, is_special}
+use Rattle.pattern_syntax.specs.Syntax.{Single, dot, caret, dollar, Edge, text_start, text_end, edge, no_edge, word_start, word_end, half_start, half_end, left, right, write_single, FineLook, is_special, edge_of}
 use Rattle.pattern_syntax.specs.SetTree.{SetTree, literal}
-use Rattle.pattern_syntax.specs.Reads.{edge_look, class_tree}
+use Rattle.pattern_syntax.specs.Reads.{class_tree}
 use Rattle.pattern_syntax.specs.Readers.{GoesOnTo, SingleAt}
 
 -- ---- looks
@@ -16,9 +16,9 @@ use Rattle.pattern_syntax.specs.Readers.{GoesOnTo, SingleAt}
 pub record EdgeAt (k : Flags) (text : List ℕ) (at : ℕ) (read : Look) (next : ℕ) : Type 0 where
   pub edge : Edge
   pub goes_on : GoesOnTo text at next
-  pub written : drop at text ≡ write_edge edge (drop next text)
+  pub written : drop at text ≡ (edge_of edge).0 ++ (drop next text)
   pub fine : FineLook edge (drop next text)
-  pub is : read ≡ edge_look edge k.unicode
+  pub is : read ≡ (edge_of edge).1 k.unicode
 
 -- `\b` and a name in braces
 abbrev pub IsNamedEdge : Edge → Type 0
@@ -48,7 +48,7 @@ IsAnyEdge e = Unit {0}
 -- what is read of the looks of a kind
 abbrev pub IsEdgeRead : (Edge → Type 0) → Flags → List ℕ → ℕ → Option (Look × ℕ) → Type 0
 IsEdgeRead Kind k text at (Some read) = EdgeAt k text at read.0 read.1
-IsEdgeRead Kind k text at None = (e : Edge) (t : List ℕ) → Kind e → drop at text ≡ write_edge e t → FineLook e t → ⊥
+IsEdgeRead Kind k text at None = (e : Edge) (t : List ℕ) → Kind e → drop at text ≡ (edge_of e).0 ++ t → FineLook e t → ⊥
 
 -- the look of a letter alone
 abbrev pub short_edge : ℕ → Option Edge
@@ -58,7 +58,7 @@ short_edge letter =
 
 abbrev pub look_of : Bool → Option Edge → Option Look
 look_of unicode None = None
-look_of unicode (Some e) = Some (edge_look e unicode)
+look_of unicode (Some e) = Some ((edge_of e).1 unicode)
 
 -- ---- other items
 

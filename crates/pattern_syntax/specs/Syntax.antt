@@ -1,15 +1,15 @@
 -- How a pattern is put together, how it is written, and where it may stand.
 use Rattle.std.specs.Char.{is_ascii_digit}
-use Rattle.std.specs.Prelude.{◌≡◌, ℕ, ◌^◌, Bool, true, false, List, [], ◌∷◌, ◌++◌, codes, ◌&&◌, ◌||◌, nat_lt, nat_le, not, if◌then◌else◌}
-use Rattle.std.specs.List.{list_any}
-use Rattle.std.specs.Str.Parse.{digits_value_after}
+use Rattle.std.specs.Prelude.{◌≡◌, ℕ, ◌^◌, Bool, true, false, List, [], ◌∷◌, ◌++◌, codes, ◌&&◌, ◌||◌, nat_lt, nat_le, not, if◌then◌else◌, unwrap_or}
+use Rattle.std.specs.List.{list_any, list_all}
+use Rattle.std.specs.Str.Parse.{digits_value}
 use Rattle.unicode.specs.Binary.{is_white_space}
 use Rattle.hir_tree.specs.declared.look.Look.{Look}
 use Rattle.hir_tree.specs.declared.look.Look.TheVariants as looks
 use Rattle.pattern_syntax.specs.declared.flags.Flags.{Flags}
-use Rattle.pattern_syntax.specs.Flags.{FlagList, apply, letters_of, write_flags, FineFlags, Blank, write_blanks, FineBlanks, has, begins, rest, is_nil}
+use Rattle.pattern_syntax.specs.Flags.{FlagList, apply, write_flags, FineFlags, Blank, write_blanks, FineBlanks, has, begins, rest, is_nil}
 use Rattle.pattern_syntax.specs.Sets.{is_ascii_word}
-use Rattle.pattern_syntax.specs.Atom.{Atom, character, write_atom, FineAtom, all}
+use Rattle.pattern_syntax.specs.Atom.{Atom, character, write_atom, FineAtom}
 use Rattle.pattern_syntax.specs.Class.{Head, Inside, write_head, write_inside, FineHead, FineInside, is_blank_start}
 
 pub data Edge : Type 0 where
@@ -84,15 +84,12 @@ edge_of left = (codes "\\<", λ u. if u then looks.WordStartUnicode else looks.W
 edge_of right = (codes "\\>", λ u. if u then looks.WordEndUnicode else looks.WordEndAscii)
 
 -- THE TEXT: each is written before a text `t`
-abbrev pub write_edge : Edge → List ℕ → List ℕ
-write_edge e t = (edge_of e).0 ++ t
-
 abbrev pub write_single : Single → List ℕ → List ℕ
 write_single (atom a) t = write_atom a t
 write_single dot t = codes "." ++ t
 write_single caret t = codes "^" ++ t
 write_single dollar t = codes "$" ++ t
-write_single (look e) t = write_edge e t
+write_single (look e) t = (edge_of e).0 ++ t
 write_single (class h p) t = write_head h (write_inside p t)
 
 abbrev pub write_number : Number → List ℕ → List ℕ
@@ -151,15 +148,13 @@ FineSingle k (look e) t = FineLook e t
 FineSingle k (class h p) t = FineHead k h (write_inside p t) × FineInside k p t
 FineSingle k _ t = Unit {0}
 
-abbrev pub value_from : ℕ → List ℕ → ℕ
-value_from high ds = digits_value_after 10 high ds
-
 abbrev pub value : Number → ℕ
-value n = value_from 0 n.digits
+value n = digits_value 10 n.digits
 
 abbrev pub fine_number : Number → Bool
 fine_number n =
-    all is_white_space n.before && all is_white_space n.behind && not (is_nil n.digits) && all is_ascii_digit n.digits && nat_lt (value n) (2 ^ 32)
+    list_all is_white_space n.before && list_all is_white_space n.behind && not (is_nil n.digits)
+    && list_all is_ascii_digit n.digits && nat_lt (value n) (2 ^ 32)
 
 abbrev pub fine_count : Count → Bool
 fine_count (exactly n) = fine_number n
@@ -170,13 +165,10 @@ fine_count _ = true
 abbrev pub is_braced : Count → Bool
 is_braced n = begins 123 (write_count n [])
 
-abbrev pub is_optional : Count → Bool
-is_optional n = begins 63 (write_count n [])
-
 -- a `?` that comes next swaps the greed
 abbrev pub swaps_next : Count → List Repeated → Bool
 swaps_next n [] = false
-swaps_next n (r ∷ rs) = is_optional r.count && (is_braced n || is_nil r.before)
+swaps_next n (r ∷ rs) = begins 63 (write_count r.count []) && (is_braced n || is_nil r.before)
 
 -- blanks stand between braces and a `?` alone, and such a `?` is no repetition
 abbrev pub fine_swap : Repeated → List Repeated → Bool
@@ -192,7 +184,7 @@ FineRepeats k (r ∷ rs) t =
 -- ASCII letters, digits and `_`, not begun by a digit
 abbrev pub is_name : List ℕ → Bool
 is_name [] = false
-is_name (c ∷ cs) = not (is_ascii_digit c) && all is_ascii_word (c ∷ cs)
+is_name (c ∷ cs) = not (is_ascii_digit c) && list_all is_ascii_word (c ∷ cs)
 
 abbrev pub FineKind : Flags → Kind → Type 0
 FineKind k numbered = Unit {0}
@@ -207,7 +199,8 @@ abbrev pub Fine : Flags → Syntax → List ℕ → Type 0
 Fine k end t = Unit {0}
 Fine k (bar p) t = Fine k p t
 Fine k (pass b p) t = FineBlanks k (b ∷ []) (write p t) × Fine k p t
-Fine k (set bs l p) t = FineBlanks k bs (codes "?") × FineFlags l × (is_nil (l.on ++ letters_of l.off) ≡ false) × Fine (apply l k) p t
+Fine k (set bs l p) t =
+    FineBlanks k bs (codes "?") × FineFlags l × (is_nil (l.on ++ unwrap_or l.off []) ≡ false) × Fine (apply l k) p t
 Fine k (single s rs p) t = let w = write p t in FineSingle k s (write_repeats rs w) × FineRepeats k rs w × Fine k p t
 Fine k (group m q rs p) t =
     let w = write p t in FineKind k m × Fine (inside_flags m k) q (codes ")" ++ write_repeats rs w) × FineRepeats k rs w × Fine k p t

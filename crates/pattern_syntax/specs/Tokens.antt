@@ -1,8 +1,8 @@
 -- The tokens of a pattern, as they are read from left to right.
-use Rattle.std.specs.Prelude.{◌≡◌, ℕ, Bool, true, false, List, ◌++◌, codes, ◌&&◌, ◌||◌, if◌then◌else◌}
+use Rattle.std.specs.Prelude.{◌≡◌, ℕ, Bool, true, false, List, ◌++◌, codes, ◌&&◌, ◌||◌, if◌then◌else◌, unwrap_or, []}
 use Rattle.pattern_syntax.specs.declared.flags.Flags.{Flags}
-use Rattle.pattern_syntax.specs.Flags.{FlagList, letters_of, write_flags, FineFlags, Blank, write_blanks, FineBlanks, begins, seen, is_nil}
-use Rattle.pattern_syntax.specs.Syntax.{Single, Repeated, Count, Kind, numbered, named, flagged, write_single, write_count, write_swap, write_kind, FineSingle, FineKind, fine_count, is_braced}
+use Rattle.pattern_syntax.specs.Flags.{FlagList, write_flags, FineFlags, Blank, write_blanks, FineBlanks, begins, seen, is_nil}
+use Rattle.pattern_syntax.specs.Syntax.{Single, Repeated, Count, Kind, numbered, named, flagged, write_single, write_count, write_kind, FineSingle, FineKind, fine_count, is_braced, write_swap}
 
 -- what stands at a place, but white space, comments and repetitions
 pub data Token : Type 0 where
@@ -28,7 +28,7 @@ FineOpen k (flagged bs l) t = FineKind k (flagged bs l)
 
 abbrev pub FineToken : Flags → Token → List ℕ → Type 0
 FineToken k bar t = Unit {0}
-FineToken k (set bs l) t = FineBlanks k bs (codes "?") × FineFlags l × (is_nil (l.on ++ letters_of l.off) ≡ false)
+FineToken k (set bs l) t = FineBlanks k bs (codes "?") × FineFlags l × (is_nil (l.on ++ unwrap_or l.off []) ≡ false)
 FineToken k (item s) t = FineSingle k s t
 FineToken k (opens m) t = FineOpen k m t
 FineToken k closes t = Unit {0}

@@ -2,11 +2,11 @@
 
 ghost use Rattle.std.specs.Prelude.{◌≡◌, ◌<◌, ◌≤◌, true, IfOk, length};
 ghost use Rattle.std.specs.Str.{encode_utf8_all};
-ghost use Rattle.pattern_syntax.specs.Atom.{all};
 ghost use Rattle.pattern_syntax.specs.Sets.{is_ascii_word};
 ghost use Rattle.pattern_syntax.specs.Syntax.{is_name};
 ghost use Rattle.pattern_syntax.specs.Readers.{IsOpeningRead};
 ghost use Rattle.pattern_syntax.specs.OpeningReaders.{IsAngleRead, IsNamedRead, IsFlaggedRead, IsMarkedRead};
+ghost use Rattle.std.specs.List.{list_all};
 
 use crate::blanks::behind_blanks;
 use crate::flag_lists::read_flags;
@@ -30,7 +30,7 @@ fn behind_angle(text: &[char], at: usize) -> Option<usize>
 
 /// Whether ASCII letters, digits and `_` are a name: there are some, and the first is no digit.
 fn is_name(word: &[char]) -> bool
-    requires { all is_ascii_word word.now ≡ true }
+    requires { list_all is_ascii_word word.now ≡ true }
     ensures { result ≡ is_name word.now }
 {
     !word.is_empty() && !matches!(word[0], '0'..='9')

@@ -2,11 +2,11 @@
 
 ghost use Rattle.std.specs.Char.{is_ascii_digit};
 ghost use Rattle.std.specs.Prelude.{◌≡◌, ◌<◌, ◌≤◌, true, IfOk, SomeIff, drop, length, ◌^◌};
-ghost use Rattle.pattern_syntax.specs.Atom.{all};
 ghost use Rattle.pattern_syntax.specs.Flags.{begins};
-ghost use Rattle.pattern_syntax.specs.Syntax.{value_from};
 ghost use Rattle.pattern_syntax.specs.Readers.{IsRepetitionRead};
 ghost use Rattle.pattern_syntax.specs.CountReaders.{IsNumberRead, IsCountRead, IsSwapRead};
+ghost use Rattle.std.specs.List.{list_all};
+ghost use Rattle.std.specs.Str.Parse.{digits_value};
 
 use crate::blanks::behind_blanks;
 use crate::runs::{CharKind, behind, is_next};
@@ -28,8 +28,8 @@ pub(crate) struct Counted {
 
 /// The number that digits spell, if it is below 2^32.
 fn number_of(digits: &[char]) -> Option<u32>
-    requires { all is_ascii_digit digits.now ≡ true }
-    ensures { SomeIff result (value_from 0 digits.now < 2 ^ 32) (value_from 0 digits.now) }
+    requires { list_all is_ascii_digit digits.now ≡ true }
+    ensures { SomeIff result (digits_value 10 digits.now < 2 ^ 32) (digits_value 10 digits.now) }
 {
     let mut number: u32 = 0;
     for digit in digits {

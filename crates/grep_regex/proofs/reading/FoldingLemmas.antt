@@ -1,11 +1,11 @@
 -- A text that is read is read with letters folded or not, with the same depth, groups, names and literals.
-use Rattle.std.proofs.Common.{◌≡◌, ℕ, ◌+◌, ◌==◌, ◌&&◌, max, map, Bool, true, false, if◌then◌else◌, Option, Some, None, List, [], ◌∷◌, ◌++◌, codes, not, refl, sym, ap, ap₂, ◌∙◌, subst}
+use Rattle.std.proofs.Common.{◌≡◌, ℕ, ◌+◌, ◌==◌, ◌&&◌, max, map, Bool, true, false, if◌then◌else◌, Option, Some, None, List, [], ◌∷◌, ◌++◌, codes, not, refl, sym, ap, ap₂, ◌∙◌, subst, unwrap_or}
 use Rattle.pattern_syntax.specs.declared.flags.Flags.{Flags}
-use Rattle.pattern_syntax.specs.Flags.{FlagList, apply, set_flag, set_flags, letters_of, Blank, white, comment, write_blanks, FineBlanks}
+use Rattle.pattern_syntax.specs.Flags.{FlagList, apply, set_flag, set_flags, Blank, white, comment, write_blanks, FineBlanks}
 use Rattle.pattern_syntax.specs.Atom.{Atom, character, escaped, control, coded, braced, octal, perl, category, category_braced, single_of, Digit, write_digits, write_atom, FineSpaced, FineBraced, FineAtom}
 use Rattle.pattern_syntax.specs.Class.{Head, Inside, atom_set, close, pass as pass_in, one, range, named as named_class, nested, operation, write_after, write_dashes, write_inside, FineMember, FineSecond, FineCaret, FineDashes, FineBracket, FineHead, FineInside, xor}
 use Rattle.pattern_syntax.specs.Flags.{is_nil}
-use Rattle.pattern_syntax.specs.Syntax.{Syntax, end, bar, pass, set, single, group, Single, atom, dot, caret, dollar, look, class, Count, optional, star, plus, exactly, at_least, between, value, Kind, numbered, named, flagged, Repeated, inside_flags, write, write_count, write_swap, write_repeats, Fine, FineAlone, FineSingle, FineRepeats, FineKind}
+use Rattle.pattern_syntax.specs.Syntax.{Syntax, end, bar, pass, set, single, group, Single, atom, dot, caret, dollar, look, class, Count, optional, star, plus, exactly, at_least, between, value, Kind, numbered, named, flagged, Repeated, inside_flags, write, write_count, write_repeats, Fine, FineAlone, FineSingle, FineRepeats, FineKind, write_swap}
 use Rattle.pattern_syntax.specs.Sets.{Set, closed, folds_with_another}
 use Rattle.pattern_syntax.specs.SetTree.{SetTree, SetTrees, empty, literal, repetition, capture, concat, alternation, more, trees}
 use Rattle.pattern_syntax.specs.Reads.{Part, Row, Found, at_depth, in_front, row_of, united, sequence, joined, literal_bytes, class_tree, repeat, count_tree, grouped, own, captures, put, one_tree, single_part, branches, found_of}
@@ -45,8 +45,8 @@ flags_kept v (letter ∷ letters) w k =
 apply_kept : (l : FlagList) → Keeps (apply l)
 apply_kept l w k =
     let on = flags_kept true l.on w k in
-    let off = flags_kept false (letters_of l.off) on.0 (set_flags true l.on k) in
-    (off.0, ap (set_flags false (letters_of l.off)) on.1 ∙ off.1)
+    let off = flags_kept false (unwrap_or l.off []) on.0 (set_flags true l.on k) in
+    (off.0, ap (set_flags false (unwrap_or l.off [])) on.1 ∙ off.1)
 
 inside_kept : (m : Kind) → Keeps (inside_flags m)
 inside_kept numbered w k = (w, refl)

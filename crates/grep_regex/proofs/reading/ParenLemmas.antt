@@ -7,7 +7,7 @@ use Rattle.pattern_syntax.specs.declared.flags.Flags.{Flags}
 use Rattle.pattern_syntax.specs.Flags.{FlagList, Blank, white, comment, write_blanks, write_off, write_flags}
 use Rattle.pattern_syntax.specs.Atom.{Atom, character, escaped, control, coded, braced, octal, perl, category, category_braced, Digit, write_digits, write_braced, write_atom}
 use Rattle.pattern_syntax.specs.Class.{Head, Inside, close, pass as pass_in, one, range, named as named_class, nested, operation, Operation, both, minus, either, write_after, write_dashes, write_head, write_operation, write_name, write_inside}
-use Rattle.pattern_syntax.specs.Syntax.{Syntax, end, bar, pass, set, single, group, Single, atom, dot, caret, dollar, look, class, Edge, text_start, text_end, edge, no_edge, word_start, word_end, half_start, half_end, left, right, Number, Count, optional, star, plus, exactly, at_least, between, Kind, numbered, named, flagged, Repeated, write, write_edge, write_single, write_number, write_count, write_swap, write_repeats, write_p, write_kind}
+use Rattle.pattern_syntax.specs.Syntax.{Syntax, end, bar, pass, set, single, group, Single, atom, dot, caret, dollar, look, class, Edge, text_start, text_end, edge, no_edge, word_start, word_end, half_start, half_end, left, right, Number, Count, optional, star, plus, exactly, at_least, between, Kind, numbered, named, flagged, Repeated, write, write_single, write_number, write_count, write_repeats, write_kind, edge_of, write_p, write_swap}
 use Rattle.pattern_syntax.specs.Reads.{Found, Reads, own, captures}
 use Rattle.pattern_core.specs.Escape.{is_meta, escaped_text}
 
@@ -130,7 +130,7 @@ inside_parens (operation o p) t =
     let first = operation_parens o (write_inside p t) in
     omega arith
 
-edge_parens : (e : Edge) (t : List ℕ) → parens t ≤ parens (write_edge e t)
+edge_parens : (e : Edge) (t : List ℕ) → parens t ≤ parens ((edge_of e).0 ++ t)
 edge_parens text_start t = omega arith
 edge_parens text_end t = omega arith
 edge_parens edge t = omega arith

@@ -1,11 +1,11 @@
 -- A reading goes on with the repetition that comes next of an item.
-use Rattle.std.proofs.Common.{◌≡◌, ℕ, Bool, true, false, List, [], ◌∷◌, ◌==◌, ◌||◌, ◌&&◌, not, if◌then◌else◌, eqb-true, refl, sym, ap, ◌∙◌, subst, true≢false}
+use Rattle.std.proofs.Common.{◌≡◌, ℕ, Bool, true, false, List, [], ◌∷◌, ◌==◌, ◌||◌, ◌&&◌, not, if◌then◌else◌, eqb-true, refl, sym, ap, ◌∙◌, subst, true≢false, codes}
 use Rattle.ucd_props.proofs.Computing.{ucd_props}
 use Rattle.unicode.specs.Binary.{is_white_space}
 use Rattle.pattern_syntax.proofs.BlanksLemmas.{seen_behind}
 use Rattle.pattern_syntax.specs.declared.flags.Flags.{Flags}
 use Rattle.pattern_syntax.specs.Flags.{Blank, white, comment, write_blanks, FineBlanks, begins, seen, is_nil}
-use Rattle.pattern_syntax.specs.Syntax.{Count, optional, star, plus, exactly, at_least, between, Repeated, is_braced, is_optional, swaps_next, fine_count, write_count, write_swap, write_repeats, FineRepeats}
+use Rattle.pattern_syntax.specs.Syntax.{Count, optional, star, plus, exactly, at_least, between, Repeated, is_braced, swaps_next, fine_count, write_count, write_repeats, FineRepeats, write_swap}
 use Rattle.pattern_syntax.specs.Reads.{Part, Found, repeat}
 use Rattle.pattern_syntax.specs.Tokens.{write_repeated, swap_comes, FineRepeated}
 use Rattle.pattern_core.specs.Progress.{Gathered, Level, push, After, Rest, RestItem}
@@ -16,7 +16,7 @@ use Rattle.pattern_core.proofs.parsing.TokenLemmas.{count_clear, no_mark, no_mar
 abbrev pub OneRepeated : Type 0
 OneRepeated = (k : Flags) (r q : Repeated) (s t : List ℕ) → write_repeated r s ≡ write_repeated q t → FineRepeated k r s → FineRepeated k q t → (r ≡ q) × (s ≡ t)
 
-count_mark : (m : Count) (t : List ℕ) → begins 63 (write_count m t) ≡ is_optional m
+count_mark : (m : Count) (t : List ℕ) → begins 63 (write_count m t) ≡ begins 63 (write_count m [])
 count_mark optional t = refl
 count_mark star t = refl
 count_mark plus t = refl
@@ -46,11 +46,11 @@ and_false true = refl
 
 -- both words on a `?` that comes next say the same
 mark_by : (k : Flags) (d : Bool) (before : List Blank) (m : Count) (w : List ℕ) → FineBlanks k before (write_count m w)
-    → begins 63 (if d then seen k (write_blanks before (write_count m w)) else write_blanks before (write_count m w)) ≡ (is_optional m && (d || is_nil before))
+    → begins 63 (if d then seen k (write_blanks before (write_count m w)) else write_blanks before (write_count m w)) ≡ (begins 63 (write_count m []) && (d || is_nil before))
 mark_by k true before m w f =
-    ap (begins 63) (seen_behind k before (write_count m w) f (λ _. count_clear m w)) ∙ count_mark m w ∙ and_true (is_optional m)
-mark_by k false [] m w f = count_mark m w ∙ and_true (is_optional m)
-mark_by k false (b ∷ bs) m w f = blank_mark k b bs (write_count m w) f ∙ and_false (is_optional m)
+    ap (begins 63) (seen_behind k before (write_count m w) f (λ _. count_clear m w)) ∙ count_mark m w ∙ and_true (begins 63 (write_count m []))
+mark_by k false [] m w f = count_mark m w ∙ and_true (begins 63 (write_count m []))
+mark_by k false (b ∷ bs) m w f = blank_mark k b bs (write_count m w) f ∙ and_false (begins 63 (write_count m []))
 
 and_shift : (a b s n : Bool) → (a && (b && (s || not n))) ≡ (a && b && (s || (if n then false else true)))
 and_shift false b s n = refl

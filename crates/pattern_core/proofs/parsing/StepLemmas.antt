@@ -1,7 +1,7 @@
 -- One step of a reading, both ways.
-use Rattle.std.proofs.Common.{◌≡◌, ℕ, ◌+◌, max, false, List, [], ◌∷◌, ◌++◌, codes, map, append_assoc, refl, sym, ap, ◌∙◌, subst, zero-add, arith}
+use Rattle.std.proofs.Common.{◌≡◌, ℕ, ◌+◌, max, false, List, [], ◌∷◌, ◌++◌, codes, map, append_assoc, refl, sym, ap, ◌∙◌, subst, zero-add, arith, unwrap_or}
 use Rattle.pattern_syntax.specs.declared.flags.Flags.{Flags}
-use Rattle.pattern_syntax.specs.Flags.{FlagList, apply, letters_of, Blank, write_blanks, FineBlanks, write_flags, FineFlags, is_nil}
+use Rattle.pattern_syntax.specs.Flags.{FlagList, apply, Blank, write_blanks, FineBlanks, write_flags, FineFlags, is_nil}
 use Rattle.pattern_syntax.specs.Syntax.{Syntax, end, bar, pass, set, single, group, Single, Repeated, Kind, inside_flags, write, write_single, write_repeats, write_kind, Fine, FineSingle, FineRepeats, FineKind}
 use Rattle.pattern_syntax.specs.SetTree.{SetTree, empty}
 use Rattle.pattern_syntax.specs.Reads.{Part, Row, Found, Reads, found_of, at_depth, no_parts, in_front, row_of, put, joined, single_part, single_literals, literals_of, names_of, repeat, own, own_name, captures, branches, sequence, choice}
@@ -92,7 +92,7 @@ pub data Goes (after : After) (k : Flags) (n : Gathered) (l : Level) (w : List �
   ends : after (whole l (no_parts ∷ [])) n w found → Goes after k n l w found
   bars : (t : List ℕ) → w ≡ 124 ∷ t → Rest after k n (close_branch l) t found → Goes after k n l w found
   passes : (b : Blank) (t : List ℕ) → FineBlanks k (b ∷ []) t → w ≡ write_blanks (b ∷ []) t → Rest after k n l t found → Goes after k n l w found
-  sets : (bs : List Blank) (f : FlagList) (t : List ℕ) → FineBlanks k bs (codes "?") → FineFlags f → is_nil (f.on ++ letters_of f.off) ≡ false → w ≡ write_set bs f t
+  sets : (bs : List Blank) (f : FlagList) (t : List ℕ) → FineBlanks k bs (codes "?") → FineFlags f → is_nil (f.on ++ unwrap_or f.off []) ≡ false → w ≡ write_set bs f t
       → Rest after (apply f k) n (push (at_depth 0 empty) l) t found → Goes after k n l w found
   items : (s : Single) (t : List ℕ) → FineSingle k s t → w ≡ write_single s t
       → RestItem after k (with_literals (single_literals s) n) l (single_part k s) t found → Goes after k n l w found
@@ -168,7 +168,7 @@ pub came_pass : (after : After) (k : Flags) (n : Gathered) (l : Level) (b : Blan
 came_pass after k n l b t found fine (p, u, f, e, s) = (pass b p, u, (subst (FineBlanks k (b ∷ [])) e fine, f), ap (write_blanks (b ∷ [])) e, s)
 
 pub came_set : (after : After) (k : Flags) (n : Gathered) (l : Level) (bs : List Blank) (g : FlagList) (t : List ℕ) (found : Found)
-    → FineBlanks k bs (codes "?") → FineFlags g → is_nil (g.on ++ letters_of g.off) ≡ false
+    → FineBlanks k bs (codes "?") → FineFlags g → is_nil (g.on ++ unwrap_or g.off []) ≡ false
     → Rest after (apply g k) n (push (at_depth 0 empty) l) t found → Rest after k n l (write_set bs g t) found
 came_set after k n l bs g t found a b c (p, u, f, e, s) = (
   set bs g p,

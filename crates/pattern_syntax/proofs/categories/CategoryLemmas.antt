@@ -7,7 +7,7 @@ use Rattle.regex_class.specs.Ranges.{in_ranges}
 use Rattle.pattern_syntax.specs.declared.flags.Flags.{Flags}
 use Rattle.pattern_syntax.specs.declared.readings.Member.TheVariants.{Set}
 use Rattle.pattern_syntax.specs.Flags.{write_blanks, FineBlanks, has}
-use Rattle.pattern_syntax.specs.Sets.{is_any, complement, negated_if, category_named, closed_category, category_set}
+use Rattle.pattern_syntax.specs.Sets.{is_any, complement, negated_if, category_named, category_set, closed, named_set}
 use Rattle.pattern_syntax.specs.Atom.{Atom, category, category_braced, Digit, spelt, write_atom, FineAtom}
 use Rattle.pattern_syntax.specs.Readers.{EscapeAt, IsSet}
 use Rattle.pattern_syntax.specs.Escapes.{IsEscapeLetter, Spells, SpelledAt, BracesAt, in_braces, IsCategory, IsCategoryBraced}
@@ -31,14 +31,14 @@ category_parts k letter cs h =
 
 -- ---- the set, by the letter
 
-pub own_set : (k : Flags) (letter : ℕ) (name : List ℕ) (class : Class) → (letter ≡ 80 → ⊥) → IsSet class (closed_category k name)
+pub own_set : (k : Flags) (letter : ℕ) (name : List ℕ) (class : Class) → (letter ≡ 80 → ⊥) → IsSet class (closed k (named_set (category_named name)))
     → IsSet class (category_set k (letter == 80) name)
-own_set k letter name class other is x = is x ∙ ap (λ b. negated_if b k (closed_category k name) x) (sym (not_same letter 80 other))
+own_set k letter name class other is x = is x ∙ ap (λ b. negated_if b k (closed k (named_set (category_named name))) x) (sym (not_same letter 80 other))
 
-pub others_set : (k : Flags) (letter : ℕ) (name : List ℕ) (class others : Class) → letter ≡ 80 → IsSet class (closed_category k name)
+pub others_set : (k : Flags) (letter : ℕ) (name : List ℕ) (class others : Class) → letter ≡ 80 → IsSet class (closed k (named_set (category_named name)))
     → IsSet others (complement k (in_ranges class.ranges.items)) → IsSet others (category_set k (letter == 80) name)
 others_set k letter name class others same is rest x =
-    rest x ∙ ap (λ b. is_any k x && not b) (is x) ∙ ap (λ b. negated_if b k (closed_category k name) x) (sym (eq-eqb letter 80 same))
+    rest x ∙ ap (λ b. is_any k x && not b) (is x) ∙ ap (λ b. negated_if b k (closed k (named_set (category_named name))) x) (sym (eq-eqb letter 80 same))
 
 -- ---- one letter
 

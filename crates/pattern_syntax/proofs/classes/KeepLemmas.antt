@@ -12,7 +12,7 @@ use Rattle.pattern_syntax.specs.declared.classes.steps.Reading.{Reading}
 use Rattle.pattern_syntax.specs.Flags.{seen}
 use Rattle.pattern_syntax.specs.Sets.{ascii_names, value_of}
 use Rattle.pattern_syntax.specs.Atom.{Atom, write_atom, single_of}
-use Rattle.pattern_syntax.specs.Class.{Head, close, Operation, write_head, write_inside, write_name, write_operation, FineHead, FineInside, FineSecond, fits, in_order, makes_range, begins_name, is_negated, head_literals, inside_literals}
+use Rattle.pattern_syntax.specs.Class.{Head, close, Operation, write_head, write_inside, write_name, write_operation, FineHead, FineInside, FineSecond, fits, in_order, makes_range, begins_name, head_literals, inside_literals}
 use Rattle.pattern_syntax.specs.ClassProgress.{ClassPart, ClassLevel, start, literals_in, whole_class, with_member, bracketed, with_operation, AfterClass, RestClass, leave_class}
 use Rattle.pattern_syntax.specs.ClassReading.{Frame, framed, frame_of, level_of, code_part, Found, last, after_all, Goes, Continues, Advances, Ends, ClassFrom, Begun, IsAtomAt, begins_member, behind_dash}
 use Rattle.pattern_syntax.specs.Readers.{ClassAt, IsClassRead, GoesOnTo}
@@ -151,7 +151,7 @@ module _ (k : Flags) (text : List ℕ) where
   pushed : (s t : Reading) → t.outer.items ≡ s.outer.items ++ s.class ∷ [] → outer_of t ≡ outer_of s ++ frame_of s.class ∷ []
   pushed s t e = ap (map frame_of) e ∙ map-append frame_of s.outer.items (s.class ∷ [])
 
-  pub nest_keeps : (s t : Reading) (h : Head) → t.outer.items ≡ s.outer.items ++ s.class ∷ [] → frame_of t.class ≡ framed (is_negated h) (start h)
+  pub nest_keeps : (s t : Reading) (h : Head) → t.outer.items ≡ s.outer.items ++ s.class ∷ [] → frame_of t.class ≡ framed (is_some h.negated) (start h)
       → s.at < length text → get_or text s.at 0 ≡ 91 → begins_name (drop s.at text) ≡ false → FineHead k h (drop t.at text)
       → drop s.at text ≡ write_head h (drop t.at text) → GoesOnTo text s.at t.at → Advances k text s t
   unfolding Goes
@@ -159,13 +159,13 @@ module _ (k : Flags) (text : List ℕ) where
       let more = after_more k (last k) (outer_of s) (frame_of s.class) in record {
         on = λ found x.
             moved k _ _ _ _ _ _ found (sym (pushed s t o)) (sym f) refl
-            (subst (λ (after : Bool → AfterClass Found). RestClass Found k (after (is_negated h)) (start h) (drop t.at text) found) (sym more)
+            (subst (λ (after : Bool → AfterClass Found). RestClass Found k (after (is_some h.negated)) (start h) (drop t.at text) found) (sym more)
             (nest_on Found k (after_of k s) (level_of s.class) found h (drop t.at text) (drop s.at text) (drop (s.at + 1) text) none fine written
             (here text s.at 91 lt is) x));
         back = λ found x.
             subst (λ w. RestClass Found k (after_of k s) (level_of s.class) w found) (sym written)
             (came_nest Found k (after_of k s) (level_of s.class) h (drop t.at text) found (ap begins_name (sym written) ∙ none) fine
-            (subst (λ (after : Bool → AfterClass Found). RestClass Found k (after (is_negated h)) (start h) (drop t.at text) found) more
+            (subst (λ (after : Bool → AfterClass Found). RestClass Found k (after (is_some h.negated)) (start h) (drop t.at text) found) more
             (moved k _ _ _ _ _ _ found (pushed s t o) f refl x)));
         more = goes.0;
         within = goes.1;
@@ -232,7 +232,7 @@ module _ (k : Flags) (text : List ℕ) where
   -- ---- the whole class
 
   came_back : (at : ℕ) (s : Reading) (h : Head) (found : Found) → FineHead k h (drop s.at text) → drop at text ≡ write_head h (drop s.at text)
-      → RestClass Found k (last k (is_negated h)) (start h) (drop s.at text) found → ClassFrom k text at found
+      → RestClass Found k (last k (is_some h.negated)) (start h) (drop s.at text) found → ClassFrom k text at found
   came_back at s h found fine written (p, v, f, e, is) =
       let behind : v ≡ found.1 = sym (ap (λ (f : Found). f.1) is) in
       let there : drop s.at text ≡ write_inside p found.1 = e ∙ ap (write_inside p) behind in record {
@@ -244,14 +244,14 @@ module _ (k : Flags) (text : List ℕ) where
         part = ap (λ (f : Found). f.0) is;
       }
 
-  pub begun : (at : ℕ) (s : Reading) (h : Head) → s.outer.items ≡ [] → frame_of s.class ≡ framed (is_negated h) (start h) → FineHead k h (drop s.at text)
+  pub begun : (at : ℕ) (s : Reading) (h : Head) → s.outer.items ≡ [] → frame_of s.class ≡ framed (is_some h.negated) (start h) → FineHead k h (drop s.at text)
       → drop at text ≡ write_head h (drop s.at text) → GoesOnTo text at s.at → Begun k text at s
   unfolding Goes
   begun at s h none f fine written goes = record {
     on = λ found x.
         let same = one_head k x.head h (write_inside x.inside found.1) (drop s.at text) x.fine_head fine (sym x.written ∙ written) in
-        let part : found ≡ (bracketed k (is_negated h) (whole_class k (start h) x.inside), found.1) =
-        ap (λ (a : ClassPart). let f : Found = (a, found.1) in f) (x.part ∙ ap (λ h. bracketed k (is_negated h) (whole_class k (start h) x.inside)) same.0) in
+        let part : found ≡ (bracketed k (is_some h.negated) (whole_class k (start h) x.inside), found.1) =
+        ap (λ (a : ClassPart). let f : Found = (a, found.1) in f) (x.part ∙ ap (λ h. bracketed k (is_some h.negated) (whole_class k (start h) x.inside)) same.0) in
         moved k _ _ _ _ _ _ found (sym (ap (map frame_of) none)) (sym f) refl (x.inside, found.1, x.fine_inside, sym same.1, part);
     back = λ found x. came_back at s h found fine written (moved k _ _ _ _ _ _ found (ap (map frame_of) none) f refl x);
     more = goes.0;
@@ -276,7 +276,7 @@ module _ (k : Flags) (text : List ℕ) where
 
   pub begun_stuck : (at : ℕ) (s : Reading) → Begun k text at s → ((found : Found) → Continues k text s found → ⊥) → IsClassRead k text at None
   begun_stuck at s b none h p t written fine inside =
-      let found : Found = (bracketed k (is_negated h) (whole_class k (start h) p), t) in
+      let found : Found = (bracketed k (is_some h.negated) (whole_class k (start h) p), t) in
       none found (b.on found (record { head = h; inside = p; written = written; fine_head = fine; fine_inside = inside; part = refl }))
 
   pub at_end : (s : Reading) → length text ≤ s.at → (found : Found) → Continues k text s found → ⊥

@@ -8,7 +8,7 @@ use Rattle.pattern_syntax.specs.declared.flags.Flags.{Flags}
 use Rattle.pattern_syntax.specs.Flags.{Blank, white, comment, write_blanks, FineBlanks, has, begins, rest, seen}
 use Rattle.pattern_syntax.specs.Sets.{ascii_names, value_of}
 use Rattle.pattern_syntax.specs.Atom.{Atom, character, escaped, control, coded, braced, octal, perl, category, category_braced, write_atom, FineAtom, single_of}
-use Rattle.pattern_syntax.specs.Class.{Head, Inside, close, pass, one, range, named, nested, operation, write_inside, write_head, write_name, FineInside, FineHead, FineMember, FineSecond, fits, in_order, is_member, is_second, is_blank_start, makes_range, begins_name, is_negated}
+use Rattle.pattern_syntax.specs.Class.{Head, Inside, close, pass, one, range, named, nested, operation, write_inside, write_head, write_name, FineInside, FineHead, FineMember, FineSecond, fits, in_order, is_member, is_second, is_blank_start, makes_range, begins_name}
 use Rattle.pattern_syntax.specs.ClassProgress.{ClassLevel, start, whole_class, AfterClass, RestClass, leave_class}
 use Rattle.pattern_syntax.specs.ClassReading.{IsAtomAt, begins_member, behind_dash}
 use Rattle.pattern_syntax.specs.Readers.{IsEscape}
@@ -256,7 +256,7 @@ module _ (F : Type 0) (k : Flags) (after : AfterClass F) (l : ClassLevel) (found
   name_on negated name t w v known q o r = name_of negated name t w v known q o (goes_on F k after l w found r)
 
   nest_of : (h : Head) (t w v : List ℕ) → begins_name w ≡ false → FineHead k h t → w ≡ write_head h t → w ≡ 91 ∷ v → GoesOn F k after l w found
-      → RestClass F k (leave_class F k (is_negated h) l after) (start h) t found
+      → RestClass F k (leave_class F k (is_some h.negated) l after) (start h) t found
   nest_of h t w v none fine q o (closes u e s) = absurd (apart 91 93 refl (ap head (sym o ∙ e)))
   nest_of h t w v none fine q o (passes b u f e x) = absurd (not_blank k b u w 91 v open_no_blank f e o)
   nest_of h t w v none fine q o (ones a u f e x) = absurd (no_atom k a u w 91 v refl (no_member k 91 91 v refl refl) f.0 e o)
@@ -264,13 +264,13 @@ module _ (F : Type 0) (k : Flags) (after : AfterClass F) (l : ClassLevel) (found
   nest_of h t w v none fine q o (names m other u f e x) = absurd (true≢false (sym (name_begins m other u f) ∙ ap begins_name (sym e) ∙ none))
   nest_of h t w v none fine q o (nests g u apart f e x) =
       let same = one_head k g h u t f fine (sym e ∙ q) in
-      subst (λ g. RestClass F k (leave_class F k (is_negated g) l after) (start g) t found) same.0
-      (subst (λ t. RestClass F k (leave_class F k (is_negated g) l after) (start g) t found) same.1 x)
+      subst (λ g. RestClass F k (leave_class F k (is_some g.negated) l after) (start g) t found) same.0
+      (subst (λ t. RestClass F k (leave_class F k (is_some g.negated) l after) (start g) t found) same.1 x)
   nest_of h t w v none fine q o (operates p u e x) = absurd (apart (op_char p) 91 (op_no_open p) (ap head (sym (written_op p u) ∙ sym e ∙ o)))
 
   -- a `[` that begins no name begins a nested class
   pub nest_on : (h : Head) (t w v : List ℕ) → begins_name w ≡ false → FineHead k h t → w ≡ write_head h t → w ≡ 91 ∷ v → RestClass F k after l w found
-      → RestClass F k (leave_class F k (is_negated h) l after) (start h) t found
+      → RestClass F k (leave_class F k (is_some h.negated) l after) (start h) t found
   nest_on h t w v none fine q o r = nest_of h t w v none fine q o (goes_on F k after l w found r)
 
   -- the second end of a range, and the rest

@@ -2,13 +2,12 @@
 use Rattle.std.specs.Char.{is_ascii_lowercase}
 use Rattle.std.specs.Prelude.{is_some}
 use Rattle.std.proofs.Common.{◌≡◌, ℕ, Bool, true, false, ◌&&◌, ◌||◌, ◌⊎◌, inl, inr, ⊎_elim, if◌then◌else◌, List, [], ◌∷◌, ◌++◌, codes, drop, length, Option, Some, append_assoc, refl, sym, ap, ap₂, ◌∙◌, subst, true≢false, nat_eq}
-use Rattle.std.specs.List.{list_any, starts_with}
+use Rattle.std.specs.List.{list_any, starts_with, list_all}
 use Rattle.std.proofs.lemmas.Bool.{and_parts, and_from, or_cases}
 use Rattle.std.proofs.lemmas.Bool.Decides.{Decides-eqb}
 use Rattle.std.proofs.lemmas.List.{append-nil}
 use Rattle.std.proofs.lemmas.Slice.Eq.{starts_is}
 use Rattle.pattern_syntax.specs.Sets.{Set, ascii_names, same_text, value_of}
-use Rattle.pattern_syntax.specs.Atom.{all}
 use Rattle.pattern_syntax.specs.Class.{write_name, begins_name}
 use Rattle.pattern_syntax.specs.ClassReading.{open_name, after_letters}
 use Rattle.pattern_syntax.proofs.BlanksLemmas.{head, tail, apart}
@@ -40,24 +39,24 @@ same_text_true a b h =
 
 abbrev rows_small : Rows → Bool
 rows_small [] = true
-rows_small (row ∷ rows) = all is_ascii_lowercase row.0 && rows_small rows
+rows_small (row ∷ rows) = list_all is_ascii_lowercase row.0 && rows_small rows
 
 names_small : rows_small ascii_names ≡ true
 names_small = refl
 
-small_by : (row : List ℕ × Set) (rows : Rows) (name : List ℕ) (b : Bool) → same_text row.0 name ≡ b → all is_ascii_lowercase row.0 ≡ true
-    → (is_some (value_of rows name) ≡ true → all is_ascii_lowercase name ≡ true) → is_some (if b then Some row.1 else value_of rows name) ≡ true
-    → all is_ascii_lowercase name ≡ true
-small_by row rows name true e small more h = subst (λ n. all is_ascii_lowercase n ≡ true) (same_text_true row.0 name e) small
+small_by : (row : List ℕ × Set) (rows : Rows) (name : List ℕ) (b : Bool) → same_text row.0 name ≡ b → list_all is_ascii_lowercase row.0 ≡ true
+    → (is_some (value_of rows name) ≡ true → list_all is_ascii_lowercase name ≡ true) → is_some (if b then Some row.1 else value_of rows name) ≡ true
+    → list_all is_ascii_lowercase name ≡ true
+small_by row rows name true e small more h = subst (λ n. list_all is_ascii_lowercase n ≡ true) (same_text_true row.0 name e) small
 small_by row rows name false e small more h = more h
 
-small_in : (rows : Rows) (name : List ℕ) → rows_small rows ≡ true → is_some (value_of rows name) ≡ true → all is_ascii_lowercase name ≡ true
+small_in : (rows : Rows) (name : List ℕ) → rows_small rows ≡ true → is_some (value_of rows name) ≡ true → list_all is_ascii_lowercase name ≡ true
 small_in [] name s h = absurd (true≢false (sym h))
 small_in (row ∷ rows) name s h =
-    let parts = and_parts (all is_ascii_lowercase row.0) (rows_small rows) s in
+    let parts = and_parts (list_all is_ascii_lowercase row.0) (rows_small rows) s in
     small_by row rows name (same_text row.0 name) refl parts.0 (small_in rows name parts.1) h
 
-pub name_small : (name : List ℕ) → is_some (value_of ascii_names name) ≡ true → all is_ascii_lowercase name ≡ true
+pub name_small : (name : List ℕ) → is_some (value_of ascii_names name) ≡ true → list_all is_ascii_lowercase name ≡ true
 name_small name h = small_in ascii_names name names_small h
 
 -- ---- how a name is written
@@ -111,18 +110,18 @@ colon_ends c true t u e f more = ap (λ b. if b then after_letters t else c ∷ 
 colon_ends c false t u e f more = absurd (true≢false (sym f))
 
 -- behind its letters a name has a colon
-pub behind_name : (name t : List ℕ) → all is_ascii_lowercase name ≡ true → after_letters (name ++ (58 ∷ t)) ≡ 58 ∷ t
+pub behind_name : (name t : List ℕ) → list_all is_ascii_lowercase name ≡ true → after_letters (name ++ (58 ∷ t)) ≡ 58 ∷ t
 behind_name [] t h = refl
 behind_name (c ∷ name) t h =
-    let parts = and_parts (is_ascii_lowercase c) (all is_ascii_lowercase name) h in
+    let parts = and_parts (is_ascii_lowercase c) (list_all is_ascii_lowercase name) h in
     colon_ends c (is_ascii_lowercase c) (name ++ (58 ∷ t)) (58 ∷ t) refl parts.0 (behind_name name t parts.1)
 
 -- no name has a `^` for its first letter
-no_caret : (name t u : List ℕ) → all is_ascii_lowercase name ≡ true → name ++ (58 ∷ t) ≡ 94 ∷ u → ⊥
+no_caret : (name t u : List ℕ) → list_all is_ascii_lowercase name ≡ true → name ++ (58 ∷ t) ≡ 94 ∷ u → ⊥
 no_caret [] t u h e = apart 58 94 refl (ap head e)
 no_caret (c ∷ name) t u h e =
-    let parts = and_parts (is_ascii_lowercase c) (all is_ascii_lowercase name) h in
+    let parts = and_parts (is_ascii_lowercase c) (list_all is_ascii_lowercase name) h in
     true≢false (sym parts.0 ∙ ap is_ascii_lowercase (ap head e))
 
-pub caret_after : (name t : List ℕ) (u : List ℕ) → all is_ascii_lowercase name ≡ true → name ++ (58 ∷ t) ≡ 94 ∷ u → ⊥
+pub caret_after : (name t : List ℕ) (u : List ℕ) → list_all is_ascii_lowercase name ≡ true → name ++ (58 ∷ t) ≡ 94 ∷ u → ⊥
 caret_after name t u h e = no_caret name t u h e

@@ -7,7 +7,7 @@ use Rattle.std.proofs.lemmas.Bool.Decides.{nat_tests}
 use Rattle.unicode.specs.Binary.{is_uppercase}
 use Rattle.pattern_syntax.specs.declared.classes.heads.ClassHead.{ClassHead}
 use Rattle.pattern_syntax.specs.Flags.{Blank, is_nil}
-use Rattle.pattern_syntax.specs.Class.{Head, head_set, head_count, is_negated, one_if}
+use Rattle.pattern_syntax.specs.Class.{Head, head_set, head_count}
 use Rattle.pattern_syntax.specs.ClassProgress.{start}
 use Rattle.pattern_syntax.specs.ClassReading.{framed, held, IsHead}
 use Rattle.pattern_syntax.proofs.RangesLemmas.{same_set}
@@ -26,10 +26,10 @@ dash_of bs = 45
 abbrev brackets : Bool → List ℕ
 brackets b = if b then 93 ∷ [] else []
 
-any_literal : (ds : List (List Blank)) (b : Bool) → nat_lt 0 (length ds + one_if b) ≡ not (is_nil (map dash_of ds ++ brackets b))
+any_literal : (ds : List (List Blank)) (b : Bool) → nat_lt 0 (length ds + (if b then 1 else 0)) ≡ not (is_nil (map dash_of ds ++ brackets b))
 any_literal [] true = refl
 any_literal [] false = refl
-any_literal (d ∷ ds) b = more_than_none (length (d ∷ ds) + one_if b) (omega arith)
+any_literal (d ∷ ds) b = more_than_none (length (d ∷ ds) + (if b then 1 else 0)) (omega arith)
 
 no_upper : (ds : List (List Blank)) (b : Bool) → list_any is_uppercase (map dash_of ds ++ brackets b) ≡ false
 no_upper [] true = ap (λ x. x || false) bracket_small
@@ -43,11 +43,11 @@ leading_set dashes bracket h d b c =
 
 -- the class of which a head was read
 pub started : (head : ClassHead) (h : Head) (ranges : List (ℕ × ℕ)) (count : ℕ) → IsHead head h
-    → ((c : ℕ) → held ranges c ≡ ((c == 45 && nat_lt 0 head.dashes) || (c == 93 && head.bracket))) → count ≡ head.dashes + one_if head.bracket
+    → ((c : ℕ) → held ranges c ≡ ((c == 45 && nat_lt 0 head.dashes) || (c == 93 && head.bracket))) → count ≡ head.dashes + (if head.bracket then 1 else 0)
     → framed head.negated (record { waiting = (start h).waiting; union = held ranges; left = (start h).left; count = count; deepest = 0; literals = literals_as (nat_lt 0 count) false })
-    ≡ framed (is_negated h) (start h)
+    ≡ framed (is_some h.negated) (start h)
 started head h ranges count is members many =
-    let counted : count ≡ head_count h = many ∙ ap₂ (λ n b. n + one_if b) is.1 is.2 in
+    let counted : count ≡ head_count h = many ∙ ap₂ (λ n b. n + (if b then 1 else 0)) is.1 is.2 in
     same_frame _ _ _ _ _ _ _ _ _ _ _ _ _ _ is.0 refl
     (same_set _ _ (λ c. members c ∙ leading_set head.dashes head.bracket h is.1 is.2 c))
     refl counted refl
@@ -82,6 +82,6 @@ or_false false = refl
 pub second_none : (x y bracket : Bool) → bracket ≡ false → x ≡ (x || (y && bracket))
 second_none x y b e = or_false x ∙ ap (λ z. x || z) (sym (one_false y) ∙ ap (λ b. y && b) (sym e))
 
-pub byte_if : (b : Bool) → from_bool b ≡ one_if b
+pub byte_if : (b : Bool) → from_bool b ≡ (if b then 1 else 0)
 byte_if true = refl
 byte_if false = refl

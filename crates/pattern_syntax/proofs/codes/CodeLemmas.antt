@@ -8,12 +8,13 @@ use Rattle.pattern_syntax.specs.declared.readings.Member.{Member}
 use Rattle.pattern_syntax.specs.declared.readings.Member.TheVariants.{Character, HexByte}
 use Rattle.pattern_syntax.specs.Flags.{has, is_nil}
 use Rattle.pattern_syntax.specs.Sets.{is_scalar}
-use Rattle.pattern_syntax.specs.Atom.{Atom, coded, braced, Digit, write_digits, write_atom, FineAtom, spelt, all, are_hex, number, coded_length}
+use Rattle.pattern_syntax.specs.Atom.{Atom, coded, braced, Digit, write_digits, write_atom, FineAtom, spelt, are_hex, number, coded_length}
 use Rattle.pattern_syntax.specs.Readers.{EscapeAt, IsMember}
 use Rattle.pattern_syntax.specs.Escapes.{IsEscapeLetter, Spells, SpelledAt, BracesAt, in_braces, spelled_number, are_code, IsCoded, IsBraced}
 use Rattle.pattern_syntax.proofs.BlanksLemmas.{head, tail, cut_at}
 use Rattle.pattern_syntax.proofs.spelling.SpellingLemmas.{spelled_on, spells_digits, spells_braces, spells_same, braces_same, digits_spell, braces_spell}
 use Rattle.pattern_syntax.proofs.spelling.PlainLemmas.{hex_clear, hex_inner}
+use Rattle.std.specs.List.{list_all}
 
 abbrev is_hex : ℕ → Bool
 is_hex d = is_digit d 16
@@ -35,15 +36,15 @@ length_spelt (d ∷ ds) = ap suc (length_spelt ds)
 abbrev code_test : Bool → List Digit → Bool
 code_test m ds = not (is_nil ds) && m && are_hex ds && is_scalar (number 16 0 ds)
 
-code_parts : (cs : List ℕ) → are_code cs ≡ true → (is_nil cs ≡ false) × (all is_hex cs ≡ true) × (is_scalar (spelled_number 0 cs) ≡ true)
+code_parts : (cs : List ℕ) → are_code cs ≡ true → (is_nil cs ≡ false) × (list_all is_hex cs ≡ true) × (is_scalar (spelled_number 0 cs) ≡ true)
 code_parts [] h = absurd (true≢false (sym h))
 code_parts (c ∷ cs) h =
-    let outer = and_parts (true && all is_hex (c ∷ cs)) (is_scalar (spelled_number 0 (c ∷ cs))) h in (refl, (and_parts true (all is_hex (c ∷ cs)) outer.0).1, outer.1)
+    let outer = and_parts (true && list_all is_hex (c ∷ cs)) (is_scalar (spelled_number 0 (c ∷ cs))) h in (refl, (and_parts true (list_all is_hex (c ∷ cs)) outer.0).1, outer.1)
 
 code_tested : (m : Bool) (ds : List Digit) (cs : List ℕ) → m ≡ true → spelt ds ≡ cs → are_code cs ≡ true → code_test m ds ≡ true
 code_tested m ds cs e s h =
     let parts = code_parts cs h in
-    let hexes : are_hex ds ≡ true = ap (all is_hex) s ∙ parts.1 in
+    let hexes : are_hex ds ≡ true = ap (list_all is_hex) s ∙ parts.1 in
     let filled : not (is_nil ds) ≡ true = ap not (sym (nil_spelt ds) ∙ ap (λ (z : List ℕ). is_nil z) s ∙ parts.0) in
     let scalar : is_scalar (number 16 0 ds) ≡ true = ap is_scalar (number_spelt 0 ds ∙ ap (spelled_number 0) s) ∙ parts.2 in
     and_from (not (is_nil ds) && m && are_hex ds) (is_scalar (number 16 0 ds))
@@ -55,8 +56,8 @@ code_back m ds h =
     let inner = and_parts (not (is_nil ds) && m) (are_hex ds) outer.0 in
     let first = and_parts (not (is_nil ds)) m inner.0 in (
       first.1,
-      and_from (not (is_nil (spelt ds)) && all is_hex (spelt ds)) (is_scalar (spelled_number 0 (spelt ds)))
-          (and_from (not (is_nil (spelt ds))) (all is_hex (spelt ds)) (ap not (nil_spelt ds) ∙ first.0) inner.1) (ap is_scalar (sym (number_spelt 0 ds)) ∙ outer.1),
+      and_from (not (is_nil (spelt ds)) && list_all is_hex (spelt ds)) (is_scalar (spelled_number 0 (spelt ds)))
+          (and_from (not (is_nil (spelt ds))) (list_all is_hex (spelt ds)) (ap not (nil_spelt ds) ∙ first.0) inner.1) (ap is_scalar (sym (number_spelt 0 ds)) ∙ outer.1),
     )
 
 -- ---- two digits are a byte
@@ -71,7 +72,7 @@ pub small_code : (cs : List ℕ) → length cs ≡ 2 → are_code cs ≡ true �
 small_code [] n h = absurd (omega arith)
 small_code (a ∷ []) n h = absurd (omega arith)
 small_code (a ∷ b ∷ []) n h =
-    let hexes = and_parts (is_hex a) (all is_hex (b ∷ [])) (code_parts (a ∷ b ∷ []) h).1 in
+    let hexes = and_parts (is_hex a) (list_all is_hex (b ∷ [])) (code_parts (a ∷ b ∷ []) h).1 in
     two_digits (digit_value a) (digit_value b) (below_16 (digit_value a) hexes.0) (below_16 (digit_value b) (and_parts (is_hex b) true hexes.1).0)
 small_code (a ∷ b ∷ c ∷ cs) n h = absurd (omega arith)
 
@@ -188,11 +189,11 @@ pub too_great : (ds cs : List ℕ) (n : ℕ) → spelled_number n cs ≡ spelled
 too_great ds cs n e h =
     let more = number_grows n cs in
     let past : 0x10FFFF < spelled_number 0 ds = omega arith in
-    third_fails (not (is_nil ds)) (all is_hex ds) (is_scalar (spelled_number 0 ds)) (past_scalars (spelled_number 0 ds) past)
+    third_fails (not (is_nil ds)) (list_all is_hex ds) (is_scalar (spelled_number 0 ds)) (past_scalars (spelled_number 0 ds) past)
 
 -- what is left of the digits
 abbrev pub all_hex : List ℕ → Bool
-all_hex cs = all is_hex cs
+all_hex cs = list_all is_hex cs
 
 pub number_on : (ds : List ℕ) (i d n m : ℕ) → i < length ds → m ≡ n * 16 + digit_value (get_or ds i d) → spelled_number n (drop i ds) ≡ spelled_number 0 ds
     → spelled_number m (drop (i + 1) ds) ≡ spelled_number 0 ds

@@ -3,10 +3,10 @@ use Rattle.std.proofs.Common.{◌≡◌, ℕ, ◌+◌, ◌<◌, Bool, true, fals
 use Rattle.std.proofs.lemmas.Bool.{and_parts, and_from, and_left, and_right, both_ways, cases_Bool, eqb-true, eq-eqb, or_parts, or_from, or_left, or_right, or_cases, false_from_ne_true}
 use Rattle.std.proofs.lemmas.List.{take-append-drop, take_more}
 use Rattle.pattern_syntax.specs.Flags.{has, are_letters}
-use Rattle.pattern_syntax.specs.Atom.{all}
 use Rattle.pattern_syntax.specs.Runs.{is_flag}
 use Rattle.pattern_syntax.specs.OpeningReaders.{are_distinct}
 use Rattle.pattern_syntax.proofs.BlanksLemmas.{cut_at}
+use Rattle.std.specs.List.{list_all}
 
 has_not_more : (c x : ℕ) (xs : List ℕ) → has c xs ≡ false → (x == c) ≡ false → has c (xs ++ (x ∷ [])) ≡ false
 has_not_more c x [] h n = or_from (x == c) false n refl
@@ -58,35 +58,35 @@ has_skip : (c : ℕ) → (45 == c) ≡ false → (xs ys : List ℕ) → has c (x
 has_skip c n [] ys = ap (λ b. b || has c ys) n
 has_skip c n (x ∷ xs) ys = ap (λ b. (x == c) || b) (has_skip c n xs ys)
 
-no_dash : (cs : List ℕ) → all is_flag cs ≡ true → has 45 cs ≡ false
+no_dash : (cs : List ℕ) → list_all is_flag cs ≡ true → has 45 cs ≡ false
 no_dash [] h = refl
 no_dash (c ∷ cs) h =
-    let parts = and_parts (is_flag c) (all is_flag cs) h in or_from (c == 45) (has 45 cs) (turned 45 c (flag_no_dash c parts.0)) (no_dash cs parts.1)
+    let parts = and_parts (is_flag c) (list_all is_flag cs) h in or_from (c == 45) (has 45 cs) (turned 45 c (flag_no_dash c parts.0)) (no_dash cs parts.1)
 
 -- a `-` among letters doesn't matter
-pub distinct_skip : (xs ys : List ℕ) → all is_flag xs ≡ true → all is_flag ys ≡ true → are_distinct (xs ++ (45 ∷ ys)) ≡ are_distinct (xs ++ ys)
+pub distinct_skip : (xs ys : List ℕ) → list_all is_flag xs ≡ true → list_all is_flag ys ≡ true → are_distinct (xs ++ (45 ∷ ys)) ≡ are_distinct (xs ++ ys)
 distinct_skip [] ys a b = ap (λ z. not z && are_distinct ys) (no_dash ys b)
 distinct_skip (x ∷ xs) ys a b =
-    let parts = and_parts (is_flag x) (all is_flag xs) a in
+    let parts = and_parts (is_flag x) (list_all is_flag xs) a in
     ap₂ (λ p q. not p && q) (has_skip x (flag_no_dash x parts.0) xs ys) (distinct_skip xs ys parts.1 b)
 
-pub all_left : (p : ℕ → Bool) (xs ys : List ℕ) → all p (xs ++ ys) ≡ true → all p xs ≡ true
+pub all_left : (p : ℕ → Bool) (xs ys : List ℕ) → list_all p (xs ++ ys) ≡ true → list_all p xs ≡ true
 all_left p [] ys h = refl
-all_left p (x ∷ xs) ys h = let parts = and_parts (p x) (all p (xs ++ ys)) h in and_from (p x) (all p xs) parts.0 (all_left p xs ys parts.1)
+all_left p (x ∷ xs) ys h = let parts = and_parts (p x) (list_all p (xs ++ ys)) h in and_from (p x) (list_all p xs) parts.0 (all_left p xs ys parts.1)
 
-pub all_right : (p : ℕ → Bool) (xs ys : List ℕ) → all p (xs ++ ys) ≡ true → all p ys ≡ true
+pub all_right : (p : ℕ → Bool) (xs ys : List ℕ) → list_all p (xs ++ ys) ≡ true → list_all p ys ≡ true
 all_right p [] ys h = h
-all_right p (x ∷ xs) ys h = all_right p xs ys (and_parts (p x) (all p (xs ++ ys)) h).1
+all_right p (x ∷ xs) ys h = all_right p xs ys (and_parts (p x) (list_all p (xs ++ ys)) h).1
 
-pub all_both : (p : ℕ → Bool) (xs ys : List ℕ) → all p xs ≡ true → all p ys ≡ true → all p (xs ++ ys) ≡ true
+pub all_both : (p : ℕ → Bool) (xs ys : List ℕ) → list_all p xs ≡ true → list_all p ys ≡ true → list_all p (xs ++ ys) ≡ true
 all_both p [] ys a b = b
-all_both p (x ∷ xs) ys a b = let parts = and_parts (p x) (all p xs) a in and_from (p x) (all p (xs ++ ys)) parts.0 (all_both p xs ys parts.1 b)
+all_both p (x ∷ xs) ys a b = let parts = and_parts (p x) (list_all p xs) a in and_from (p x) (list_all p (xs ++ ys)) parts.0 (all_both p xs ys parts.1 b)
 
-pub letters_are_flags : (cs : List ℕ) → are_letters cs ≡ true → all is_flag cs ≡ true
+pub letters_are_flags : (cs : List ℕ) → are_letters cs ≡ true → list_all is_flag cs ≡ true
 letters_are_flags [] h = refl
 letters_are_flags (c ∷ cs) h =
     let parts = and_parts (is_flag c && not (has c cs)) (are_letters cs) h in
-    and_from (is_flag c) (all is_flag cs) (and_parts (is_flag c) (not (has c cs)) parts.0).0 (letters_are_flags cs parts.1)
+    and_from (is_flag c) (list_all is_flag cs) (and_parts (is_flag c) (not (has c cs)) parts.0).0 (letters_are_flags cs parts.1)
 
 pub letters_are_distinct : (cs : List ℕ) → are_letters cs ≡ true → are_distinct cs ≡ true
 letters_are_distinct [] h = refl
@@ -94,9 +94,9 @@ letters_are_distinct (c ∷ cs) h =
     let parts = and_parts (is_flag c && not (has c cs)) (are_letters cs) h in
     and_from (not (has c cs)) (are_distinct cs) (and_parts (is_flag c) (not (has c cs)) parts.0).1 (letters_are_distinct cs parts.1)
 
-pub letters_from : (cs : List ℕ) → all is_flag cs ≡ true → are_distinct cs ≡ true → are_letters cs ≡ true
+pub letters_from : (cs : List ℕ) → list_all is_flag cs ≡ true → are_distinct cs ≡ true → are_letters cs ≡ true
 letters_from [] a d = refl
 letters_from (c ∷ cs) a d =
-    let flags = and_parts (is_flag c) (all is_flag cs) a in
+    let flags = and_parts (is_flag c) (list_all is_flag cs) a in
     let parts = and_parts (not (has c cs)) (are_distinct cs) d in
     and_from (is_flag c && not (has c cs)) (are_letters cs) (and_from (is_flag c) (not (has c cs)) flags.0 parts.0) (letters_from cs flags.1 parts.1)

@@ -4,20 +4,20 @@ use Rattle.std.specs.Prelude.{is_some}
 use Rattle.std.proofs.Common.{◌≡◌, ℕ, zero, suc, ◌+◌, ◌<◌, ◌≤◌, Bool, true, false, List, [], ◌∷◌, codes, ◌==◌, ◌||◌, ◌&&◌, ◌⊎◌, ⊎_elim, not, nat_le, nat_lt, nat_eq, map, Option, Some, None, if◌then◌else◌, refl, sym, ap, ap₂, ◌∙◌, subst, true≢false, eqb-true, leb-true, arith}
 use Rattle.std.proofs.lemmas.Bool.{and_parts, or_cases}
 use Rattle.std.proofs.lemmas.Bool.Decides.{nat_tests}
-use Rattle.std.specs.List.{starts_with}
+use Rattle.std.specs.List.{starts_with, list_all}
 use Rattle.std.specs.Char.{is_digit, to_ascii_lowercase}
 use Rattle.ucd_props.proofs.Computing.{ucd_props}
 use Rattle.unicode.specs.Binary.{is_white_space}
 use Rattle.pattern_syntax.specs.Flags.{has}
 use Rattle.pattern_syntax.specs.Sets.{same_text, value_of, category_names, category_named}
-use Rattle.pattern_syntax.specs.Atom.{all, control_of, coded_length}
+use Rattle.pattern_syntax.specs.Atom.{control_of, coded_length}
 use Rattle.pattern_syntax.proofs.SameBlanks.{IsClear}
 
 -- a test that all members pass
-pub has_all : (p : ℕ → Bool) (cs : List ℕ) (c : ℕ) → all p cs ≡ true → has c cs ≡ true → p c ≡ true
+pub has_all : (p : ℕ → Bool) (cs : List ℕ) (c : ℕ) → list_all p cs ≡ true → has c cs ≡ true → p c ≡ true
 has_all p [] c every h = absurd (true≢false (sym h))
 has_all p (d ∷ cs) c every h =
-    let parts = and_parts (p d) (all p cs) every in
+    let parts = and_parts (p d) (list_all p cs) every in
     ⊎_elim (λ same. subst (λ z. p z ≡ true) (eqb-true d c same) parts.0) (has_all p cs c parts.1) (or_cases (d == c) (has c cs) h)
 
 -- the numbers from one on, so many, pass a test
@@ -149,12 +149,12 @@ found_passes p (row ∷ rows) name every f =
 lower_solid_by : (c : ℕ) → is_in_range 97 122 (to_ascii_lowercase c) ≡ true → is_solid c ≡ true
 lower_solid_by c h = grind (arith, nat_tests)
 
-lower_solid : (cs : List ℕ) → all (is_in_range 97 122) (map to_ascii_lowercase cs) ≡ true → all is_solid cs ≡ true
+lower_solid : (cs : List ℕ) → list_all (is_in_range 97 122) (map to_ascii_lowercase cs) ≡ true → list_all is_solid cs ≡ true
 lower_solid [] h = refl
 lower_solid (c ∷ cs) h =
-    let parts = and_parts (is_in_range 97 122 (to_ascii_lowercase c)) (all (is_in_range 97 122) (map to_ascii_lowercase cs)) h in
+    let parts = and_parts (is_in_range 97 122 (to_ascii_lowercase c)) (list_all (is_in_range 97 122) (map to_ascii_lowercase cs)) h in
     ap₂ ◌&&◌ (lower_solid_by c parts.0) (lower_solid cs parts.1)
 
 -- a category's name is of letters
-pub category_solid : (name : List ℕ) → is_some (category_named name) ≡ true → all is_solid name ≡ true
-category_solid name h = lower_solid name (found_passes (all (is_in_range 97 122)) category_names (map to_ascii_lowercase name) refl h)
+pub category_solid : (name : List ℕ) → is_some (category_named name) ≡ true → list_all is_solid name ≡ true
+category_solid name h = lower_solid name (found_passes (list_all (is_in_range 97 122)) category_names (map to_ascii_lowercase name) refl h)

@@ -8,11 +8,12 @@ use Rattle.ucd_props.proofs.Computing.{ucd_props}
 use Rattle.pattern_syntax.specs.declared.flags.Flags.{Flags}
 use Rattle.pattern_syntax.specs.Flags.{Blank, white, comment, write_blanks, FineBlanks, has, is_nil}
 use Rattle.pattern_syntax.specs.Sets.{is_scalar, category_named}
-use Rattle.pattern_syntax.specs.Atom.{Digit, Atom, character, escaped, control, coded, braced, octal, perl, category, category_braced, write_digits, write_atom, is_escapable, is_octal_digit, octal_next, are_hex, spelt, all, number, control_of, coded_length, FineSpaced, FineBraced, FineAtom}
+use Rattle.pattern_syntax.specs.Atom.{Digit, Atom, character, escaped, control, coded, braced, octal, perl, category, category_braced, write_digits, write_atom, is_escapable, is_octal_digit, octal_next, are_hex, spelt, number, control_of, coded_length, FineSpaced, FineBraced, FineAtom}
 use Rattle.pattern_syntax.specs.Readers.{IsEscape}
 use Rattle.pattern_syntax.proofs.BlanksLemmas.{apart}
 use Rattle.pattern_syntax.proofs.SameBlanks.{head, tail, IsClear, same_blanks}
 use Rattle.pattern_syntax.proofs.laws.CharacterLemmas.{has_all, is_solid, solid_clear, solid_apart, hex_solid, control_letters, code_letters, control_letter, code_letter, category_solid}
+use Rattle.std.specs.List.{list_all}
 
 -- ---- digits with blanks before them
 
@@ -26,14 +27,14 @@ one_digit k d e s t f g x y h =
     (ap (λ bs. digit_of bs d.digit) same.0 ∙ ap (λ c. digit_of e.before c) (ap head same.1), ap tail same.1)
 
 -- as many on both sides
-pub as_many_digits : (k : Flags) (ds es : List Digit) (s t : List ℕ) → FineSpaced k ds s → FineSpaced k es t → all is_solid (spelt ds) ≡ true
-    → all is_solid (spelt es) ≡ true → length ds ≡ length es → write_digits ds s ≡ write_digits es t → (ds ≡ es) × (s ≡ t)
+pub as_many_digits : (k : Flags) (ds es : List Digit) (s t : List ℕ) → FineSpaced k ds s → FineSpaced k es t → list_all is_solid (spelt ds) ≡ true
+    → list_all is_solid (spelt es) ≡ true → length ds ≡ length es → write_digits ds s ≡ write_digits es t → (ds ≡ es) × (s ≡ t)
 as_many_digits k [] [] s t f g x y n h = (refl, h)
 as_many_digits k [] (e ∷ es) s t f g x y n h = absurd (omega (n, arith))
 as_many_digits k (d ∷ ds) [] s t f g x y n h = absurd (omega (n, arith))
 as_many_digits k (d ∷ ds) (e ∷ es) s t f g x y n h =
-    let left = and_parts (is_solid d.digit) (all is_solid (spelt ds)) x in
-    let right = and_parts (is_solid e.digit) (all is_solid (spelt es)) y in
+    let left = and_parts (is_solid d.digit) (list_all is_solid (spelt ds)) x in
+    let right = and_parts (is_solid e.digit) (list_all is_solid (spelt es)) y in
     let first = one_digit k d e (write_digits ds s) (write_digits es t) f.0 g.0 left.0 right.0 h in
     let more = as_many_digits k ds es s t f.1 g.1 left.1 right.1 (omega (n, arith)) first.1 in
     (ap (λ d. d ∷ ds) first.0 ∙ ap (λ ds. e ∷ ds) more.0, more.1)
@@ -54,17 +55,17 @@ no_end k bs e s t f g y h =
 
 -- up to the end of the braces
 pub to_the_brace : (k : Flags) (ds es : List Digit) (bs cs : List Blank) (s t : List ℕ) → FineSpaced k ds (write_blanks bs (125 ∷ s)) → FineSpaced k es (write_blanks cs (125 ∷ t))
-    → FineBlanks k bs (125 ∷ s) → FineBlanks k cs (125 ∷ t) → all is_solid (spelt ds) ≡ true → all is_solid (spelt es) ≡ true
+    → FineBlanks k bs (125 ∷ s) → FineBlanks k cs (125 ∷ t) → list_all is_solid (spelt ds) ≡ true → list_all is_solid (spelt es) ≡ true
     → write_digits ds (write_blanks bs (125 ∷ s)) ≡ write_digits es (write_blanks cs (125 ∷ t)) → (ds ≡ es) × (bs ≡ cs) × (s ≡ t)
 to_the_brace k [] [] bs cs s t f g a b x y h =
     let same = same_blanks k bs cs (125 ∷ s) (125 ∷ t) a b (brace_clear s) (brace_clear t) h in (refl, same.0, ap tail same.1)
 to_the_brace k [] (e ∷ es) bs cs s t f g a b x y h =
-    absurd (no_end k bs e s (write_digits es (write_blanks cs (125 ∷ t))) a g.0 (and_parts (is_solid e.digit) (all is_solid (spelt es)) y).0 h)
+    absurd (no_end k bs e s (write_digits es (write_blanks cs (125 ∷ t))) a g.0 (and_parts (is_solid e.digit) (list_all is_solid (spelt es)) y).0 h)
 to_the_brace k (d ∷ ds) [] bs cs s t f g a b x y h =
-    absurd (no_end k cs d t (write_digits ds (write_blanks bs (125 ∷ s))) b f.0 (and_parts (is_solid d.digit) (all is_solid (spelt ds)) x).0 (sym h))
+    absurd (no_end k cs d t (write_digits ds (write_blanks bs (125 ∷ s))) b f.0 (and_parts (is_solid d.digit) (list_all is_solid (spelt ds)) x).0 (sym h))
 to_the_brace k (d ∷ ds) (e ∷ es) bs cs s t f g a b x y h =
-    let left = and_parts (is_solid d.digit) (all is_solid (spelt ds)) x in
-    let right = and_parts (is_solid e.digit) (all is_solid (spelt es)) y in
+    let left = and_parts (is_solid d.digit) (list_all is_solid (spelt ds)) x in
+    let right = and_parts (is_solid e.digit) (list_all is_solid (spelt es)) y in
     let first = one_digit k d e _ _ f.0 g.0 left.0 right.0 h in
     let more = to_the_brace k ds es bs cs s t f.1 g.1 a b left.1 right.1 first.1 in
     (ap (λ d. d ∷ ds) first.0 ∙ ap (λ ds. e ∷ ds) more.0, more.1, more.2)
@@ -87,7 +88,7 @@ write_inner before ds behind t = write_blanks before (123 ∷ write_digits ds (w
 
 -- braces with what they hold
 pub one_braced : (k : Flags) (bs gs : List Blank) (ds es : List Digit) (cs fs : List Blank) (s t : List ℕ) → FineBraced k bs ds cs → FineBraced k gs es fs
-    → all is_solid (spelt ds) ≡ true → all is_solid (spelt es) ≡ true → write_inner bs ds cs s ≡ write_inner gs es fs t → (bs ≡ gs) × (ds ≡ es) × (cs ≡ fs) × (s ≡ t)
+    → list_all is_solid (spelt ds) ≡ true → list_all is_solid (spelt es) ≡ true → write_inner bs ds cs s ≡ write_inner gs es fs t → (bs ≡ gs) × (ds ≡ es) × (cs ≡ fs) × (s ≡ t)
 one_braced k bs gs ds es cs fs s t f g x y h =
     let left = write_digits ds (write_blanks cs (125 ∷ s)) in
     let right = write_digits es (write_blanks fs (125 ∷ t)) in
@@ -119,7 +120,7 @@ last_of : (b : Bool) → not (true && b) ≡ true → b ≡ false
 last_of true f = sym f
 last_of false f = refl
 
-run_of : (n : ℕ) (ds t : List ℕ) → nat_le (length ds) n ≡ true → all is_octal_digit ds ≡ true → not (nat_lt (length ds) n && octal_next t) ≡ true → IsRun n ds t
+run_of : (n : ℕ) (ds t : List ℕ) → nat_le (length ds) n ≡ true → list_all is_octal_digit ds ≡ true → not (nat_lt (length ds) n && octal_next t) ≡ true → IsRun n ds t
 run_of zero [] t a x f = inl refl
 run_of (suc n) [] t a x f = inr (last_of (octal_next t) (sym (ap (λ b. not (b && octal_next t)) (positive n)) ∙ f))
   where
@@ -130,7 +131,7 @@ run_of zero (d ∷ ds) t a x f = absurd (too_many (length ds) a)
     too_many : (m : ℕ) → nat_le (suc m) 0 ≡ true → ⊥
     too_many m a = grind (arith, nat_tests)
 run_of (suc n) (d ∷ ds) t a x f =
-    let parts = and_parts (is_octal_digit d) (all is_octal_digit ds) x in
+    let parts = and_parts (is_octal_digit d) (list_all is_octal_digit ds) x in
     (parts.0, run_of n ds t (shorter (length ds) n a) parts.1 (ap (λ b. not (b && octal_next t)) (fewer (length ds) n) ∙ f))
   where
     shorter : (m n : ℕ) → nat_le (suc m) (suc n) ≡ true → nat_le m n ≡ true
@@ -154,7 +155,7 @@ abbrev is_category : ℕ → Bool
 is_category c = has c (codes "pP")
 
 -- no letter of the list passes the test
-pub clash : (p : ℕ → Bool) (cs : List ℕ) (c : ℕ) → all (λ d. not (p d)) cs ≡ true → has c cs ≡ true → p c ≡ true → ⊥
+pub clash : (p : ℕ → Bool) (cs : List ℕ) (c : ℕ) → list_all (λ d. not (p d)) cs ≡ true → has c cs ≡ true → p c ≡ true → ⊥
 clash p cs c every h f = true≢false (sym (has_all (λ d. not (p d)) cs c every h) ∙ ap not f)
 
 -- one letter is of one kind
@@ -328,9 +329,9 @@ braced_fine : (letter : ℕ) (ds : List Digit) → (not (is_nil ds) && nat_lt 0 
 braced_fine letter ds h = four_true (not (is_nil ds)) (nat_lt 0 (coded_length letter)) (are_hex ds) (is_scalar (number 16 0 ds)) h
 
 octal_fine : (k : Flags) (ds t : List ℕ)
-    → (k.octal && not (is_nil ds) && nat_le (length ds) 3 && all is_octal_digit ds && not (nat_lt (length ds) 3 && octal_next t)) ≡ true
-    → (k.octal ≡ true) × (not (is_nil ds) ≡ true) × (nat_le (length ds) 3 ≡ true) × (all is_octal_digit ds ≡ true) × (not (nat_lt (length ds) 3 && octal_next t) ≡ true)
-octal_fine k ds t h = five_true k.octal (not (is_nil ds)) (nat_le (length ds) 3) (all is_octal_digit ds) (not (nat_lt (length ds) 3 && octal_next t)) h
+    → (k.octal && not (is_nil ds) && nat_le (length ds) 3 && list_all is_octal_digit ds && not (nat_lt (length ds) 3 && octal_next t)) ≡ true
+    → (k.octal ≡ true) × (not (is_nil ds) ≡ true) × (nat_le (length ds) 3 ≡ true) × (list_all is_octal_digit ds ≡ true) × (not (nat_lt (length ds) 3 && octal_next t) ≡ true)
+octal_fine k ds t h = five_true k.octal (not (is_nil ds)) (nat_le (length ds) 3) (list_all is_octal_digit ds) (not (nat_lt (length ds) 3 && octal_next t)) h
 
 category_fine : (k : Flags) (letter : ℕ) (name : List ℕ) → (k.unicode && has letter (codes "pP") && is_some (category_named name)) ≡ true
     → (k.unicode ≡ true) × (is_category letter ≡ true) × (is_some (category_named name) ≡ true)
@@ -344,7 +345,7 @@ letter_is k (control letter) t x f = f
 letter_is k (coded letter ds) t x f = let c = coded_fine letter ds f.1 in coded_is_code letter (length ds) c.1 (some_digits ds c.0)
 letter_is k (braced letter before ds behind) t x f = (braced_fine letter ds f.1).1
 letter_is k (octal []) t x f = absurd (true≢false (sym (octal_fine k [] t f).1))
-letter_is k (octal (d ∷ ds)) t x f = (and_parts (is_octal_digit d) (all is_octal_digit ds) (octal_fine k (d ∷ ds) t f).3).0
+letter_is k (octal (d ∷ ds)) t x f = (and_parts (is_octal_digit d) (list_all is_octal_digit ds) (octal_fine k (d ∷ ds) t f).3).0
 letter_is k (perl letter) t x f = f
 letter_is k (category letter before c) t x f = (category_fine k letter (c ∷ []) f.1).1
 letter_is k (category_braced letter before ds behind) t x f = (category_fine k letter (spelt ds) f.1).1
@@ -369,7 +370,7 @@ same_kind : (k : Flags) (a b : Atom) (s t : List ℕ) → IsEscape a → IsEscap
 same_kind k a b s t x y f g h =
     one_kind (kind_of a) (kind_of b) (letter_of b) (subst (λ c. test_of (kind_of a) c ≡ true) (same_letter k a b s t x y f g h) (letter_is k a s x f)) (letter_is k b t y g)
 
-hex_all : (ds : List Digit) → are_hex ds ≡ true → all is_solid (spelt ds) ≡ true
+hex_all : (ds : List Digit) → are_hex ds ≡ true → list_all is_solid (spelt ds) ≡ true
 hex_all [] h = refl
 hex_all (d ∷ ds) h = let parts = and_parts (is_digit d.digit 16) (are_hex ds) h in ap₂ ◌&&◌ (hex_solid d.digit parts.0) (hex_all ds parts.1)
 
@@ -378,11 +379,11 @@ abbrev inner : List Digit → List Blank → List ℕ → List ℕ
 inner ds behind t = write_digits ds (write_blanks behind (125 ∷ t))
 
 -- digits and an opening brace are two
-no_brace : (k : Flags) (ds : List Digit) (bs : List Blank) (s t : List ℕ) → not (is_nil ds) ≡ true → FineSpaced k ds s → all is_solid (spelt ds) ≡ true
+no_brace : (k : Flags) (ds : List Digit) (bs : List Blank) (s t : List ℕ) → not (is_nil ds) ≡ true → FineSpaced k ds s → list_all is_solid (spelt ds) ≡ true
     → FineBlanks k bs (123 ∷ t) → write_digits ds s ≡ write_blanks bs (123 ∷ t) → ⊥
 no_brace k [] bs s t n f x g h = true≢false (sym n)
 no_brace k (d ∷ ds) bs s t n f x g h =
-    let solid = (and_parts (is_solid d.digit) (all is_solid (spelt ds)) x).0 in
+    let solid = (and_parts (is_solid d.digit) (list_all is_solid (spelt ds)) x).0 in
     solid_apart d.digit 123 solid refl
     (ap head (same_blanks k d.before bs (d.digit ∷ write_digits ds s) (123 ∷ t) f.0 g (solid_clear d.digit (write_digits ds s) solid) (opening_clear t) h).1)
 
@@ -407,7 +408,7 @@ one_coded k l m ds es s t f g e h =
     (ap (λ l. coded l ds) e ∙ ap (coded m) same.0, same.1)
 
 one_in_braces : (k : Flags) (make : ℕ → List Blank → List Digit → List Blank → Atom) (l m : ℕ) (bs gs : List Blank) (ds es : List Digit) (cs fs : List Blank) (s t : List ℕ)
-    → FineBraced k bs ds cs → FineBraced k gs es fs → all is_solid (spelt ds) ≡ true → all is_solid (spelt es) ≡ true → l ≡ m
+    → FineBraced k bs ds cs → FineBraced k gs es fs → list_all is_solid (spelt ds) ≡ true → list_all is_solid (spelt es) ≡ true → l ≡ m
     → write_inner bs ds cs s ≡ write_inner gs es fs t → (make l bs ds cs ≡ make m gs es fs) × (s ≡ t)
 one_in_braces k make l m bs gs ds es cs fs s t f g x y e h =
     let same = one_braced k bs gs ds es cs fs s t f g x y h in

@@ -3,13 +3,13 @@ use Rattle.std.specs.Prelude.{is_some}
 use Rattle.std.proofs.Common.{◌≡◌, ℕ, Bool, true, false, List, [], ◌∷◌, ◌++◌, codes, ◌==◌, ◌||◌, ◌&&◌, ◌⊎◌, inl, inr, ⊎_elim, if◌then◌else◌, nat_eq, Option, Some, None, refl, sym, ap, ap₂, ◌∙◌, subst, true≢false, arith}
 use Rattle.std.proofs.lemmas.Bool.{and_parts}
 use Rattle.std.proofs.lemmas.Bool.Decides.{nat_tests}
-use Rattle.std.specs.List.{list_any, starts_with}
+use Rattle.std.specs.List.{list_any, starts_with, list_all}
 use Rattle.ucd_props.proofs.Computing.{ucd_props}
 use Rattle.unicode.specs.Binary.{is_white_space}
 use Rattle.pattern_syntax.specs.declared.flags.Flags.{Flags}
 use Rattle.pattern_syntax.specs.Flags.{Blank, white, comment, write_blanks, FineBlanks, has, begins, seen, is_nil}
 use Rattle.pattern_syntax.specs.Sets.{Set, ascii_names, value_of, same_text}
-use Rattle.pattern_syntax.specs.Atom.{Atom, character, escaped, control, coded, braced, octal, perl, category, category_braced, write_atom, single_of, all, FineAtom}
+use Rattle.pattern_syntax.specs.Atom.{Atom, character, escaped, control, coded, braced, octal, perl, category, category_braced, write_atom, single_of, FineAtom}
 use Rattle.pattern_syntax.specs.Class.{Head, Inside, close, pass, one, range, named, nested, operation, Operation, both, minus, either, write_head, write_after, write_dashes, write_inside, write_name, write_operation, FineHead, FineCaret, FineDashes, FineBracket, FineInside, FineMember, FineSecond, is_member, is_blank_start, makes_range, begins_name, in_order, fits}
 use Rattle.pattern_syntax.specs.Readers.{IsEscape}
 use Rattle.pattern_syntax.proofs.BlanksLemmas.{apart, seen_behind, three, two, no_or_left, no_or_right, bracket_clear, dash_clear, and_clear, tilde_clear, number_sign}
@@ -121,29 +121,29 @@ second_clear k (category_braced c bs ds cs) t f on = slash_first (tail (write_at
 
 -- ---- names
 
-to_the_colon : (xs ys s t : List ℕ) → all is_solid xs ≡ true → all is_solid ys ≡ true → (xs ++ codes ":]") ++ s ≡ (ys ++ codes ":]") ++ t → (xs ≡ ys) × (s ≡ t)
+to_the_colon : (xs ys s t : List ℕ) → list_all is_solid xs ≡ true → list_all is_solid ys ≡ true → (xs ++ codes ":]") ++ s ≡ (ys ++ codes ":]") ++ t → (xs ≡ ys) × (s ≡ t)
 to_the_colon [] [] s t x y h = (refl, ap tail (ap tail h))
-to_the_colon [] (d ∷ ys) s t x y h = absurd (solid_apart d 58 (and_parts (is_solid d) (all is_solid ys) y).0 refl (ap head (sym h)))
-to_the_colon (c ∷ xs) [] s t x y h = absurd (solid_apart c 58 (and_parts (is_solid c) (all is_solid xs) x).0 refl (ap head h))
+to_the_colon [] (d ∷ ys) s t x y h = absurd (solid_apart d 58 (and_parts (is_solid d) (list_all is_solid ys) y).0 refl (ap head (sym h)))
+to_the_colon (c ∷ xs) [] s t x y h = absurd (solid_apart c 58 (and_parts (is_solid c) (list_all is_solid xs) x).0 refl (ap head h))
 to_the_colon (c ∷ xs) (d ∷ ys) s t x y h =
-    let more = to_the_colon xs ys s t (and_parts (is_solid c) (all is_solid xs) x).1 (and_parts (is_solid d) (all is_solid ys) y).1 (ap tail h) in
+    let more = to_the_colon xs ys s t (and_parts (is_solid c) (list_all is_solid xs) x).1 (and_parts (is_solid d) (list_all is_solid ys) y).1 (ap tail h) in
     (ap (λ c. c ∷ xs) (ap head h) ∙ ap (λ xs. d ∷ xs) more.0, more.1)
 
-no_caret : (ys t w : List ℕ) → all is_solid ys ≡ true → 94 ∷ w ≡ (ys ++ codes ":]") ++ t → ⊥
+no_caret : (ys t w : List ℕ) → list_all is_solid ys ≡ true → 94 ∷ w ≡ (ys ++ codes ":]") ++ t → ⊥
 no_caret [] t w y h = apart 94 58 refl (ap head h)
-no_caret (d ∷ ys) t w y h = solid_apart d 94 (and_parts (is_solid d) (all is_solid ys) y).0 refl (ap head (sym h))
+no_caret (d ∷ ys) t w y h = solid_apart d 94 (and_parts (is_solid d) (list_all is_solid ys) y).0 refl (ap head (sym h))
 
 abbrev behind_colon : List ℕ → List ℕ
 behind_colon w = tail (tail w)
 
-one_name_by : (m n : Bool) (xs ys s t : List ℕ) → all is_solid xs ≡ true → all is_solid ys ≡ true → write_name m xs s ≡ write_name n ys t → (m ≡ n) × (xs ≡ ys) × (s ≡ t)
+one_name_by : (m n : Bool) (xs ys s t : List ℕ) → list_all is_solid xs ≡ true → list_all is_solid ys ≡ true → write_name m xs s ≡ write_name n ys t → (m ≡ n) × (xs ≡ ys) × (s ≡ t)
 one_name_by true true xs ys s t x y h = let same = to_the_colon xs ys s t x y (ap tail (ap behind_colon h)) in (refl, same.0, same.1)
 one_name_by true false xs ys s t x y h = absurd (no_caret ys t _ y (ap behind_colon h))
 one_name_by false true xs ys s t x y h = absurd (no_caret xs s _ x (sym (ap behind_colon h)))
 one_name_by false false xs ys s t x y h = let same = to_the_colon xs ys s t x y (ap behind_colon h) in (refl, same.0, same.1)
 
-pub name_solid : (name : List ℕ) → is_some (value_of ascii_names name) ≡ true → all is_solid name ≡ true
-name_solid name h = found_passes (all is_solid) ascii_names name refl h
+pub name_solid : (name : List ℕ) → is_some (value_of ascii_names name) ≡ true → list_all is_solid name ≡ true
+name_solid name h = found_passes (list_all is_solid) ascii_names name refl h
 
 pub one_name : (m n : Bool) (xs ys s t : List ℕ) → is_some (value_of ascii_names xs) ≡ true → is_some (value_of ascii_names ys) ≡ true
     → write_name m xs s ≡ write_name n ys t → (m ≡ n) × (xs ≡ ys) × (s ≡ t)

@@ -1,11 +1,11 @@
 -- A text has at most one reading.
-use Rattle.std.proofs.Common.{◌≡◌, ℕ, Bool, true, false, List, [], ◌∷◌, ◌==◌, ◌||◌, ◌&&◌, not, if◌then◌else◌, refl, sym, ap, ap₂, ◌∙◌, subst, true≢false, eqb-true}
+use Rattle.std.proofs.Common.{◌≡◌, ℕ, Bool, true, false, List, [], ◌∷◌, ◌==◌, ◌||◌, ◌&&◌, not, if◌then◌else◌, refl, sym, ap, ap₂, ◌∙◌, subst, true≢false, eqb-true, codes}
 use Rattle.ucd_props.proofs.Computing.{ucd_props}
 use Rattle.unicode.specs.Binary.{is_white_space}
 use Rattle.pattern_syntax.specs.declared.flags.Flags.{Flags}
 use Rattle.pattern_syntax.specs.Flags.{FlagList, apply, Blank, white, comment, write_blanks, FineBlanks, has, begins, seen, is_nil}
 use Rattle.pattern_syntax.specs.Class.{is_blank_start}
-use Rattle.pattern_syntax.specs.Syntax.{Syntax, end, bar as bar_before, pass, set as set_before, single, group, Single, Count, optional, star, plus, exactly, at_least, between, Kind, Repeated, inside_flags, write, write_count, write_swap, write_repeats, Fine, FineRepeats, fine_count, swaps_next, is_braced, is_optional}
+use Rattle.pattern_syntax.specs.Syntax.{Syntax, end, bar as bar_before, pass, set as set_before, single, group, Single, Count, optional, star, plus, exactly, at_least, between, Kind, Repeated, inside_flags, write, write_count, write_repeats, Fine, FineRepeats, fine_count, swaps_next, is_braced, write_swap}
 use Rattle.pattern_syntax.specs.Tokens.{Token, bar, set, item, opens, closes, write_token, write_repeated, swap_comes, FineRepeated}
 use Rattle.pattern_syntax.specs.Reads.{Found, Reads, found_of}
 use Rattle.pattern_syntax.proofs.BlanksLemmas.{apart, seen_behind}
@@ -19,7 +19,7 @@ use Rattle.pattern_syntax.proofs.laws.StartsLemmas.{Front, token_front, operator
 abbrev pub OneRepeated : Type 0
 OneRepeated = (k : Flags) (r q : Repeated) (s t : List ℕ) → write_repeated r s ≡ write_repeated q t → FineRepeated k r s → FineRepeated k q t → (r ≡ q) × (s ≡ t)
 
-count_mark : (m : Count) (t : List ℕ) → begins 63 (write_count m t) ≡ is_optional m
+count_mark : (m : Count) (t : List ℕ) → begins 63 (write_count m t) ≡ begins 63 (write_count m [])
 count_mark optional t = refl
 count_mark star t = refl
 count_mark plus t = refl
@@ -49,11 +49,11 @@ and_false true = refl
 
 -- both words on a `?` that comes next say the same
 pub mark_by : (k : Flags) (d : Bool) (before : List Blank) (m : Count) (w : List ℕ) → FineBlanks k before (write_count m w)
-    → begins 63 (if d then seen k (write_blanks before (write_count m w)) else write_blanks before (write_count m w)) ≡ (is_optional m && (d || is_nil before))
+    → begins 63 (if d then seen k (write_blanks before (write_count m w)) else write_blanks before (write_count m w)) ≡ (begins 63 (write_count m []) && (d || is_nil before))
 mark_by k true before m w f =
-    ap (begins 63) (seen_behind k before (write_count m w) f (λ _. count_clear m w)) ∙ count_mark m w ∙ and_true (is_optional m)
-mark_by k false [] m w f = count_mark m w ∙ and_true (is_optional m)
-mark_by k false (b ∷ bs) m w f = blank_mark k b bs (write_count m w) f ∙ and_false (is_optional m)
+    ap (begins 63) (seen_behind k before (write_count m w) f (λ _. count_clear m w)) ∙ count_mark m w ∙ and_true (begins 63 (write_count m []))
+mark_by k false [] m w f = count_mark m w ∙ and_true (begins 63 (write_count m []))
+mark_by k false (b ∷ bs) m w f = blank_mark k b bs (write_count m w) f ∙ and_false (begins 63 (write_count m []))
 
 pub and_shift : (a b s n : Bool) → (a && (b && (s || not n))) ≡ (a && b && (s || (if n then false else true)))
 and_shift false b s n = refl

@@ -1,12 +1,12 @@
 -- Two tokens at one place are one.
 use Rattle.std.proofs.Common.{◌≡◌, ℕ, Bool, true, false, List, [], ◌∷◌, ◌++◌, codes, ◌==◌, ◌||◌, inl, inr, not, nat_lt, if◌then◌else◌, refl, sym, ap, ◌∙◌, subst, true≢false, eqb-true, arith}
 use Rattle.std.proofs.lemmas.Bool.Decides.{nat_tests}
-use Rattle.std.specs.List.{list_any}
+use Rattle.std.specs.List.{list_any, list_all}
 use Rattle.pattern_syntax.specs.declared.flags.Flags.{Flags}
 use Rattle.pattern_syntax.specs.Flags.{has, begins, rest}
-use Rattle.pattern_syntax.specs.Atom.{Atom, character, escaped, control, coded, braced, octal, perl, category, category_braced, write_atom, all, FineAtom}
+use Rattle.pattern_syntax.specs.Atom.{Atom, character, escaped, control, coded, braced, octal, perl, category, category_braced, write_atom, FineAtom}
 use Rattle.pattern_syntax.specs.Class.{is_blank_start}
-use Rattle.pattern_syntax.specs.Syntax.{Edge, text_start, text_end, edge, no_edge, word_start, word_end, half_start, half_end, left, right, Single, atom, dot, caret, dollar, look, class, write_edge, write_single, fine_edge, FineLook, FineAlone, FineSingle, is_special, Kind, numbered, named, flagged}
+use Rattle.pattern_syntax.specs.Syntax.{Edge, text_start, text_end, edge, no_edge, word_start, word_end, half_start, half_end, left, right, Single, atom, dot, caret, dollar, look, class, write_single, fine_edge, FineLook, FineAlone, FineSingle, is_special, Kind, numbered, named, flagged, edge_of}
 use Rattle.pattern_syntax.specs.Tokens.{Token, bar, set, item, opens, closes, write_token, FineToken}
 use Rattle.pattern_syntax.specs.Readers.{IsEscape, OpensGroup}
 use Rattle.pattern_syntax.proofs.BlanksLemmas.{apart, no_or_left}
@@ -42,7 +42,7 @@ same_behind (x ∷ xs) s t e = same_behind xs s t (ap tail e)
 no_word : (c : ℕ) (t w : List ℕ) → w ≡ 123 ∷ c ∷ t → list_any (λ d. c == d) (codes "0123456789") ≡ false → fine_edge w ≡ true → ⊥
 no_word c t w e none f = true≢false (sym f ∙ ap (λ w. not (begins 123 w) || list_any (λ d. begins d (rest w)) (codes "0123456789")) e ∙ none)
 
-one_look : (k : Flags) (x y : Edge) (s t : List ℕ) → FineLook x s → FineLook y t → write_edge x s ≡ write_edge y t → (x ≡ y) × (s ≡ t)
+one_look : (k : Flags) (x y : Edge) (s t : List ℕ) → FineLook x s → FineLook y t → (edge_of x).0 ++ s ≡ (edge_of y).0 ++ t → (x ≡ y) × (s ≡ t)
 one_look k text_start text_start s t f g e = (refl, same_behind (codes "\\A") s t e)
 one_look k text_start text_end s t f g e = absurd (apart_texts (codes "\\A") (codes "\\z") s t refl e)
 one_look k text_start edge s t f g e = absurd (apart_texts (codes "\\A") (codes "\\b") s t refl e)
@@ -67,10 +67,10 @@ one_look k edge text_start s t f g e = absurd (apart_texts (codes "\\b") (codes 
 one_look k edge text_end s t f g e = absurd (apart_texts (codes "\\b") (codes "\\z") s t refl e)
 one_look k edge edge s t f g e = (refl, same_behind (codes "\\b") s t e)
 one_look k edge no_edge s t f g e = absurd (apart_texts (codes "\\b") (codes "\\B") s t refl e)
-one_look k edge word_start s t f g e = absurd (no_word 115 (tail (tail (tail (tail (write_edge word_start t))))) s (ap tail (ap tail e)) refl f)
-one_look k edge word_end s t f g e = absurd (no_word 101 (tail (tail (tail (tail (write_edge word_end t))))) s (ap tail (ap tail e)) refl f)
-one_look k edge half_start s t f g e = absurd (no_word 115 (tail (tail (tail (tail (write_edge half_start t))))) s (ap tail (ap tail e)) refl f)
-one_look k edge half_end s t f g e = absurd (no_word 101 (tail (tail (tail (tail (write_edge half_end t))))) s (ap tail (ap tail e)) refl f)
+one_look k edge word_start s t f g e = absurd (no_word 115 (tail (tail (tail (tail ((edge_of word_start).0 ++ t))))) s (ap tail (ap tail e)) refl f)
+one_look k edge word_end s t f g e = absurd (no_word 101 (tail (tail (tail (tail ((edge_of word_end).0 ++ t))))) s (ap tail (ap tail e)) refl f)
+one_look k edge half_start s t f g e = absurd (no_word 115 (tail (tail (tail (tail ((edge_of half_start).0 ++ t))))) s (ap tail (ap tail e)) refl f)
+one_look k edge half_end s t f g e = absurd (no_word 101 (tail (tail (tail (tail ((edge_of half_end).0 ++ t))))) s (ap tail (ap tail e)) refl f)
 one_look k edge left s t f g e = absurd (apart_texts (codes "\\b") (codes "\\<") s t refl e)
 one_look k edge right s t f g e = absurd (apart_texts (codes "\\b") (codes "\\>") s t refl e)
 one_look k no_edge text_start s t f g e = absurd (apart_texts (codes "\\B") (codes "\\A") s t refl e)
@@ -85,7 +85,7 @@ one_look k no_edge left s t f g e = absurd (apart_texts (codes "\\B") (codes "\\
 one_look k no_edge right s t f g e = absurd (apart_texts (codes "\\B") (codes "\\>") s t refl e)
 one_look k word_start text_start s t f g e = absurd (apart_texts (codes "\\b{start}") (codes "\\A") s t refl e)
 one_look k word_start text_end s t f g e = absurd (apart_texts (codes "\\b{start}") (codes "\\z") s t refl e)
-one_look k word_start edge s t f g e = absurd (no_word 115 (tail (tail (tail (tail (write_edge word_start s))))) t (ap tail (ap tail (sym e))) refl g)
+one_look k word_start edge s t f g e = absurd (no_word 115 (tail (tail (tail (tail ((edge_of word_start).0 ++ s))))) t (ap tail (ap tail (sym e))) refl g)
 one_look k word_start no_edge s t f g e = absurd (apart_texts (codes "\\b{start}") (codes "\\B") s t refl e)
 one_look k word_start word_start s t f g e = (refl, same_behind (codes "\\b{start}") s t e)
 one_look k word_start word_end s t f g e = absurd (apart_texts (codes "\\b{start}") (codes "\\b{end}") s t refl e)
@@ -95,7 +95,7 @@ one_look k word_start left s t f g e = absurd (apart_texts (codes "\\b{start}") 
 one_look k word_start right s t f g e = absurd (apart_texts (codes "\\b{start}") (codes "\\>") s t refl e)
 one_look k word_end text_start s t f g e = absurd (apart_texts (codes "\\b{end}") (codes "\\A") s t refl e)
 one_look k word_end text_end s t f g e = absurd (apart_texts (codes "\\b{end}") (codes "\\z") s t refl e)
-one_look k word_end edge s t f g e = absurd (no_word 101 (tail (tail (tail (tail (write_edge word_end s))))) t (ap tail (ap tail (sym e))) refl g)
+one_look k word_end edge s t f g e = absurd (no_word 101 (tail (tail (tail (tail ((edge_of word_end).0 ++ s))))) t (ap tail (ap tail (sym e))) refl g)
 one_look k word_end no_edge s t f g e = absurd (apart_texts (codes "\\b{end}") (codes "\\B") s t refl e)
 one_look k word_end word_start s t f g e = absurd (apart_texts (codes "\\b{end}") (codes "\\b{start}") s t refl e)
 one_look k word_end word_end s t f g e = (refl, same_behind (codes "\\b{end}") s t e)
@@ -105,7 +105,7 @@ one_look k word_end left s t f g e = absurd (apart_texts (codes "\\b{end}") (cod
 one_look k word_end right s t f g e = absurd (apart_texts (codes "\\b{end}") (codes "\\>") s t refl e)
 one_look k half_start text_start s t f g e = absurd (apart_texts (codes "\\b{start-half}") (codes "\\A") s t refl e)
 one_look k half_start text_end s t f g e = absurd (apart_texts (codes "\\b{start-half}") (codes "\\z") s t refl e)
-one_look k half_start edge s t f g e = absurd (no_word 115 (tail (tail (tail (tail (write_edge half_start s))))) t (ap tail (ap tail (sym e))) refl g)
+one_look k half_start edge s t f g e = absurd (no_word 115 (tail (tail (tail (tail ((edge_of half_start).0 ++ s))))) t (ap tail (ap tail (sym e))) refl g)
 one_look k half_start no_edge s t f g e = absurd (apart_texts (codes "\\b{start-half}") (codes "\\B") s t refl e)
 one_look k half_start word_start s t f g e = absurd (apart_texts (codes "\\b{start-half}") (codes "\\b{start}") s t refl e)
 one_look k half_start word_end s t f g e = absurd (apart_texts (codes "\\b{start-half}") (codes "\\b{end}") s t refl e)
@@ -115,7 +115,7 @@ one_look k half_start left s t f g e = absurd (apart_texts (codes "\\b{start-hal
 one_look k half_start right s t f g e = absurd (apart_texts (codes "\\b{start-half}") (codes "\\>") s t refl e)
 one_look k half_end text_start s t f g e = absurd (apart_texts (codes "\\b{end-half}") (codes "\\A") s t refl e)
 one_look k half_end text_end s t f g e = absurd (apart_texts (codes "\\b{end-half}") (codes "\\z") s t refl e)
-one_look k half_end edge s t f g e = absurd (no_word 101 (tail (tail (tail (tail (write_edge half_end s))))) t (ap tail (ap tail (sym e))) refl g)
+one_look k half_end edge s t f g e = absurd (no_word 101 (tail (tail (tail (tail ((edge_of half_end).0 ++ s))))) t (ap tail (ap tail (sym e))) refl g)
 one_look k half_end no_edge s t f g e = absurd (apart_texts (codes "\\b{end-half}") (codes "\\B") s t refl e)
 one_look k half_end word_start s t f g e = absurd (apart_texts (codes "\\b{end-half}") (codes "\\b{start}") s t refl e)
 one_look k half_end word_end s t f g e = absurd (apart_texts (codes "\\b{end-half}") (codes "\\b{end}") s t refl e)
@@ -147,7 +147,7 @@ one_look k right right s t f g e = (refl, same_behind (codes "\\>") s t e)
 abbrev look_letters : List ℕ
 look_letters = codes "AzbB<>"
 
-look_letter : (x : Edge) (t : List ℕ) → has (head (tail (write_edge x t))) look_letters ≡ true
+look_letter : (x : Edge) (t : List ℕ) → has (head (tail ((edge_of x).0 ++ t))) look_letters ≡ true
 look_letter text_start t = refl
 look_letter text_end t = refl
 look_letter edge t = refl
@@ -160,7 +160,7 @@ look_letter left t = refl
 look_letter right t = refl
 
 -- no escape begins with the letter of a look
-no_look_letter : (kind : LetterKind) → all (λ d. not (test_of kind d)) look_letters ≡ true
+no_look_letter : (kind : LetterKind) → list_all (λ d. not (test_of kind d)) look_letters ≡ true
 no_look_letter escapable = refl
 no_look_letter controls = refl
 no_look_letter code = refl
@@ -168,9 +168,9 @@ no_look_letter octals = refl
 no_look_letter perls = refl
 no_look_letter categories = refl
 
-escape_or_look : (k : Flags) (a : Atom) (x : Edge) (s t : List ℕ) → IsEscape a → FineAtom k a s → write_atom a s ≡ write_edge x t → ⊥
+escape_or_look : (k : Flags) (a : Atom) (x : Edge) (s t : List ℕ) → IsEscape a → FineAtom k a s → write_atom a s ≡ (edge_of x).0 ++ t → ⊥
 escape_or_look k a x s t esc f e =
-    let letter : head (tail (write_edge x t)) ≡ letter_of a = ap (λ w. head (tail w)) (sym e) ∙ letter_stands k a s esc f in
+    let letter : head (tail ((edge_of x).0 ++ t)) ≡ letter_of a = ap (λ w. head (tail w)) (sym e) ∙ letter_stands k a s esc f in
     clash (test_of (kind_of a)) look_letters (letter_of a) (no_look_letter (kind_of a)) (subst (λ c. has c look_letters ≡ true) letter (look_letter x t)) (letter_is k a s esc f)
 
 -- ---- single items
@@ -186,7 +186,7 @@ alone_stands k (perl c) t f = inr (tt, f)
 alone_stands k (category c bs d) t f = inr (tt, f)
 alone_stands k (category_braced c bs ds cs) t f = inr (tt, f)
 
-edge_first : (x : Edge) (t : List ℕ) → head (write_edge x t) ≡ 92
+edge_first : (x : Edge) (t : List ℕ) → head ((edge_of x).0 ++ t) ≡ 92
 edge_first text_start t = refl
 edge_first text_end t = refl
 edge_first edge t = refl
@@ -198,7 +198,7 @@ edge_first half_end t = refl
 edge_first left t = refl
 edge_first right t = refl
 
-atom_or_look : (k : Flags) (a : Atom) (x : Edge) (s t : List ℕ) → Stands k a s → write_atom a s ≡ write_edge x t → ⊥
+atom_or_look : (k : Flags) (a : Atom) (x : Edge) (s t : List ℕ) → Stands k a s → write_atom a s ≡ (edge_of x).0 ++ t → ⊥
 atom_or_look k a x s t (inl (c, (e, n))) h = n (ap head (ap (λ a. write_atom a s) (sym e) ∙ h) ∙ edge_first x t)
 atom_or_look k a x s t (inr (esc, f)) h = escape_or_look k a x s t esc f h
 

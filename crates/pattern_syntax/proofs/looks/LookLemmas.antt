@@ -6,8 +6,7 @@ use Rattle.std.proofs.Math.Seq.{take-length}
 use Rattle.std.proofs.lemmas.List.{drop-drop}
 use Rattle.hir_tree.specs.declared.look.Look.{Look}
 use Rattle.pattern_syntax.specs.declared.flags.Flags.{Flags}
-use Rattle.pattern_syntax.specs.Syntax.{Edge, text_start, text_end, edge, no_edge, word_start, word_end, half_start, half_end, left, right, write_edge, FineLook, fine_edge}
-use Rattle.pattern_syntax.specs.Reads.{edge_look}
+use Rattle.pattern_syntax.specs.Syntax.{Edge, text_start, text_end, edge, no_edge, word_start, word_end, half_start, half_end, left, right, FineLook, fine_edge, edge_of}
 use Rattle.pattern_syntax.specs.Escapes.{IsEscapeLetter}
 use Rattle.pattern_syntax.specs.Singles.{EdgeAt, IsNamedEdge, IsPlainEdge, IsShortEdge, short_edge, look_of}
 use Rattle.pattern_syntax.proofs.BlanksLemmas.{head, tail}
@@ -51,7 +50,7 @@ letter_is w v t letter l e q = ap (λ z. head (tail z)) (sym e ∙ q)
 
 pub named_at : (k : Flags) (text : List ℕ) (at letter place next : ℕ) (name : List ℕ) (e : Edge) (read : Look) → IsEscapeLetter text at letter → letter ≡ 98
     → place ≡ next → at + 2 ≤ place → place ≤ length text → drop (at + 2) text ≡ name ++ drop place text
-    → ((t : List ℕ) → write_edge e t ≡ 92 ∷ 98 ∷ (name ++ t)) → FineLook e (drop next text) → read ≡ edge_look e k.unicode → EdgeAt k text at read next
+    → ((t : List ℕ) → (edge_of e).0 ++ t ≡ 92 ∷ 98 ∷ (name ++ t)) → FineLook e (drop next text) → read ≡ (edge_of e).1 k.unicode → EdgeAt k text at read next
 named_at k text at letter place next name e read here b same past within stands writes fine is = record {
   edge = e;
   goes_on = (omega arith, omega arith);
@@ -62,7 +61,7 @@ named_at k text at letter place next name e read here b same past within stands 
 }
 
 abbrev pub NoEdge : (Edge → Type 0) → List ℕ → Type 0
-NoEdge Kind w = (e : Edge) (t : List ℕ) → Kind e → w ≡ write_edge e t → FineLook e t → ⊥
+NoEdge Kind w = (e : Edge) (t : List ℕ) → Kind e → w ≡ (edge_of e).0 ++ t → FineLook e t → ⊥
 
 pub no_named : (letter : ℕ) (w v : List ℕ) → w ≡ 92 ∷ letter ∷ v → ((t : List ℕ) → v ≡ codes "{start}" ++ t → ⊥) → ((t : List ℕ) → v ≡ codes "{end}" ++ t → ⊥)
     → ((t : List ℕ) → v ≡ codes "{start-half}" ++ t → ⊥) → ((t : List ℕ) → v ≡ codes "{end-half}" ++ t → ⊥) → NoEdge IsNamedEdge w
@@ -81,7 +80,7 @@ other_letter letter w v here other half_end t i q f = other (letter_is w v (code
 other_letter letter w v here other _ t i q f = absurd i
 
 pub plain_at : (k : Flags) (text : List ℕ) (at letter : ℕ) (read : Look) → IsEscapeLetter text at letter → letter ≡ 98 → fine_edge (drop (at + 2) text) ≡ true
-    → read ≡ edge_look edge k.unicode → EdgeAt k text at read (at + 2)
+    → read ≡ (edge_of edge).1 k.unicode → EdgeAt k text at read (at + 2)
 plain_at k text at letter read here b fine is = record {
   edge = edge;
   goes_on = (omega arith, here.0);
@@ -97,7 +96,7 @@ no_plain_edge letter w v here none _ t i q f = absurd i
 -- what a letter alone is
 abbrev Short : Bool → ℕ → Look → Type 0
 Short u letter read =
-    (e : Edge) × ((t : List ℕ) → write_edge e t ≡ 92 ∷ letter ∷ t) × ((t : List ℕ) → FineLook e t) × (read ≡ edge_look e u)
+    (e : Edge) × ((t : List ℕ) → (edge_of e).0 ++ t ≡ 92 ∷ letter ∷ t) × ((t : List ℕ) → FineLook e t) × (read ≡ (edge_of e).1 u)
 
 some_is : (a b : Look) → Some a ≡ Some b → b ≡ a
 some_is a b e = cc
@@ -110,11 +109,11 @@ short_by : (u : Bool) (letter : ℕ) (read : Look) (a b c d e : Bool) → (lette
     → look_of u (if a then Some text_start else if b then Some text_end else if c then Some no_edge else if d then Some left else if e then Some right else None)
     ≡ Some read
     → Short u letter read
-short_by u letter read true b c d e p q r s v h = (text_start, (λ t. ap (λ z. 92 ∷ z ∷ t) (sym (eqb-true letter 65 p))), (λ t. tt), some_is (edge_look text_start u) read h)
-short_by u letter read false true c d e p q r s v h = (text_end, (λ t. ap (λ z. 92 ∷ z ∷ t) (sym (eqb-true letter 122 q))), (λ t. tt), some_is (edge_look text_end u) read h)
-short_by u letter read false false true d e p q r s v h = (no_edge, (λ t. ap (λ z. 92 ∷ z ∷ t) (sym (eqb-true letter 66 r))), (λ t. tt), some_is (edge_look no_edge u) read h)
-short_by u letter read false false false true e p q r s v h = (left, (λ t. ap (λ z. 92 ∷ z ∷ t) (sym (eqb-true letter 60 s))), (λ t. tt), some_is (edge_look left u) read h)
-short_by u letter read false false false false true p q r s v h = (right, (λ t. ap (λ z. 92 ∷ z ∷ t) (sym (eqb-true letter 62 v))), (λ t. tt), some_is (edge_look right u) read h)
+short_by u letter read true b c d e p q r s v h = (text_start, (λ t. ap (λ z. 92 ∷ z ∷ t) (sym (eqb-true letter 65 p))), (λ t. tt), some_is ((edge_of text_start).1 u) read h)
+short_by u letter read false true c d e p q r s v h = (text_end, (λ t. ap (λ z. 92 ∷ z ∷ t) (sym (eqb-true letter 122 q))), (λ t. tt), some_is ((edge_of text_end).1 u) read h)
+short_by u letter read false false true d e p q r s v h = (no_edge, (λ t. ap (λ z. 92 ∷ z ∷ t) (sym (eqb-true letter 66 r))), (λ t. tt), some_is ((edge_of no_edge).1 u) read h)
+short_by u letter read false false false true e p q r s v h = (left, (λ t. ap (λ z. 92 ∷ z ∷ t) (sym (eqb-true letter 60 s))), (λ t. tt), some_is ((edge_of left).1 u) read h)
+short_by u letter read false false false false true p q r s v h = (right, (λ t. ap (λ z. 92 ∷ z ∷ t) (sym (eqb-true letter 62 v))), (λ t. tt), some_is ((edge_of right).1 u) read h)
 short_by u letter read false false false false false p q r s v h = absurd (none_some read h)
 
 pub short_at : (k : Flags) (text : List ℕ) (at letter : ℕ) (read : Look) → IsEscapeLetter text at letter → look_of k.unicode (short_edge letter) ≡ Some read
@@ -136,15 +135,15 @@ not_short : (u : Bool) (letter l : ℕ) → letter ≡ l → look_of u (short_ed
 not_short u letter l e h = ap (λ z. look_of u (short_edge z)) (sym e) ∙ h
 
 pub no_short : (u : Bool) (letter : ℕ) (w v : List ℕ) → w ≡ 92 ∷ letter ∷ v → look_of u (short_edge letter) ≡ None → NoEdge IsShortEdge w
-no_short u letter w v here h text_start t i q f = some_none (edge_look text_start u) (not_short u letter 65 (letter_is w v t letter 65 here q) h)
-no_short u letter w v here h text_end t i q f = some_none (edge_look text_end u) (not_short u letter 122 (letter_is w v t letter 122 here q) h)
-no_short u letter w v here h no_edge t i q f = some_none (edge_look no_edge u) (not_short u letter 66 (letter_is w v t letter 66 here q) h)
-no_short u letter w v here h left t i q f = some_none (edge_look left u) (not_short u letter 60 (letter_is w v t letter 60 here q) h)
-no_short u letter w v here h right t i q f = some_none (edge_look right u) (not_short u letter 62 (letter_is w v t letter 62 here q) h)
+no_short u letter w v here h text_start t i q f = some_none ((edge_of text_start).1 u) (not_short u letter 65 (letter_is w v t letter 65 here q) h)
+no_short u letter w v here h text_end t i q f = some_none ((edge_of text_end).1 u) (not_short u letter 122 (letter_is w v t letter 122 here q) h)
+no_short u letter w v here h no_edge t i q f = some_none ((edge_of no_edge).1 u) (not_short u letter 66 (letter_is w v t letter 66 here q) h)
+no_short u letter w v here h left t i q f = some_none ((edge_of left).1 u) (not_short u letter 60 (letter_is w v t letter 60 here q) h)
+no_short u letter w v here h right t i q f = some_none ((edge_of right).1 u) (not_short u letter 62 (letter_is w v t letter 62 here q) h)
 no_short u letter w v here h _ t i q f = absurd i
 
 -- no letter stands there, or no look of any kind
-pub no_edge_letter : (w : List ℕ) → ((letter : ℕ) (v : List ℕ) → w ≡ 92 ∷ letter ∷ v → ⊥) → (e : Edge) (t : List ℕ) → w ≡ write_edge e t → ⊥
+pub no_edge_letter : (w : List ℕ) → ((letter : ℕ) (v : List ℕ) → w ≡ 92 ∷ letter ∷ v → ⊥) → (e : Edge) (t : List ℕ) → w ≡ (edge_of e).0 ++ t → ⊥
 no_edge_letter w none text_start t q = none 65 t q
 no_edge_letter w none text_end t q = none 122 t q
 no_edge_letter w none edge t q = none 98 t q
@@ -156,7 +155,7 @@ no_edge_letter w none half_end t q = none 98 (codes "{end-half}" ++ t) q
 no_edge_letter w none left t q = none 60 t q
 no_edge_letter w none right t q = none 62 t q
 
-pub no_edge_at : (w : List ℕ) → NoEdge IsNamedEdge w → NoEdge IsPlainEdge w → NoEdge IsShortEdge w → (e : Edge) (t : List ℕ) → w ≡ write_edge e t → FineLook e t → ⊥
+pub no_edge_at : (w : List ℕ) → NoEdge IsNamedEdge w → NoEdge IsPlainEdge w → NoEdge IsShortEdge w → (e : Edge) (t : List ℕ) → w ≡ (edge_of e).0 ++ t → FineLook e t → ⊥
 no_edge_at w named plain short text_start t q f = short text_start t tt q f
 no_edge_at w named plain short text_end t q f = short text_end t tt q f
 no_edge_at w named plain short edge t q f = plain edge t tt q f

@@ -1,18 +1,17 @@
 -- What stands behind `(?` is written one way.
-use Rattle.std.proofs.Common.{◌≡◌, ℕ, ◌+◌, ◌<◌, ◌≤◌, Bool, true, false, not, List, [], ◌∷◌, ◌++◌, ◌==◌, ◌||◌, Option, Some, None, length, drop, refl, sym, ap, ap₂, ◌∙◌, subst, ⊎_elim, true≢false, arith, append_assoc, length-append, length-drop}
+use Rattle.std.proofs.Common.{◌≡◌, ℕ, ◌+◌, ◌<◌, ◌≤◌, Bool, true, false, not, List, [], ◌∷◌, ◌++◌, ◌==◌, ◌||◌, Option, Some, None, length, drop, refl, sym, ap, ap₂, ◌∙◌, subst, ⊎_elim, true≢false, arith, append_assoc, length-append, length-drop, codes, unwrap_or}
 use Rattle.std.proofs.lemmas.Bool.{and_parts, eqb-true, or_cases, or_from, leb-true, false_from_ne_true}
 use Rattle.std.proofs.lemmas.Str.{encode_ascii}
 use Rattle.std.specs.Char.{is_ascii_alphabetic, is_ascii_digit, is_ascii_lowercase, is_ascii_uppercase}
 use Rattle.std.specs.Prelude.{nat_le}
 use Rattle.std.specs.Str.{encode_utf8_all}
-use Rattle.std.specs.List.{slice_range}
+use Rattle.std.specs.List.{slice_range, list_all}
 use Rattle.pattern_syntax.specs.declared.flags.Flags.{Flags}
 use Rattle.pattern_syntax.specs.declared.readings.Opening.{Opening}
 use Rattle.pattern_syntax.specs.declared.readings.Opening.TheVariants as opening
-use Rattle.pattern_syntax.specs.Atom.{all}
-use Rattle.pattern_syntax.specs.Flags.{FlagList, letters_of, write_off, write_flags, FineFlags, begins, is_nil, clears_none}
+use Rattle.pattern_syntax.specs.Flags.{FlagList, write_off, write_flags, FineFlags, begins, is_nil}
 use Rattle.pattern_syntax.specs.Sets.{is_ascii_word}
-use Rattle.pattern_syntax.specs.Syntax.{write_p, is_name}
+use Rattle.pattern_syntax.specs.Syntax.{is_name, write_p}
 use Rattle.pattern_syntax.specs.Runs.{is_flag, comes}
 use Rattle.pattern_syntax.specs.OpeningReaders.{ends_flags, FlagsAt, IsFlagsRead, IsAngleRead, NameAt, NamedAt, IsNamedRead, Marked, sets, plain, called, write_marked, FineMarked, IsMarked, MarkedAt, IsMarkedRead, IsFlagged, IsFlaggedRead}
 use Rattle.pattern_syntax.proofs.BlanksLemmas.{apart}
@@ -20,6 +19,7 @@ use Rattle.pattern_syntax.proofs.SameBlanks.{head, tail}
 use Rattle.pattern_syntax.proofs.runs.RunLemmas.{RunAt, NextIs, next_is, one_run}
 use Rattle.pattern_syntax.proofs.flag_lists.DistinctLemmas.{all_left, letters_are_flags}
 use Rattle.pattern_syntax.proofs.flag_lists.FlagListLemmas.{whole_flags, one_flags}
+use Rattle.std.specs.Option.{option_map_or}
 
 -- ---- a flag list is no name
 
@@ -41,16 +41,16 @@ off_no_angle (Some cs) t h = refl
 not_flag : (c d : ℕ) → is_flag c ≡ true → is_flag d ≡ false → (c == d) ≡ false
 not_flag c d h n = false_from_ne_true (c == d) (λ e. true≢false (sym h ∙ ap is_flag (eqb-true c d e) ∙ n))
 
-flags_no_angle : (cs : List ℕ) (o : Option (List ℕ)) (t : List ℕ) → all is_flag cs ≡ true → ends_flags t ≡ true → comes (λ c. (c == 80) || (c == 60)) (cs ++ write_off o t) ≡ false
+flags_no_angle : (cs : List ℕ) (o : Option (List ℕ)) (t : List ℕ) → list_all is_flag cs ≡ true → ends_flags t ≡ true → comes (λ c. (c == 80) || (c == 60)) (cs ++ write_off o t) ≡ false
 flags_no_angle [] o t a h = off_no_angle o t h
 flags_no_angle (c ∷ cs) o t a h =
-    let flag = (and_parts (is_flag c) (all is_flag cs) a).0 in or_from (c == 80) (c == 60) (not_flag c 80 flag refl) (not_flag c 60 flag refl)
+    let flag = (and_parts (is_flag c) (list_all is_flag cs) a).0 in or_from (c == 80) (c == 60) (not_flag c 80 flag refl) (not_flag c 60 flag refl)
 
 pub list_no_angle : (l : FlagList) (t : List ℕ) (p : Bool) (v : List ℕ) → FineFlags l → ends_flags t ≡ true → write_flags l t ≡ write_p p (60 ∷ v) → ⊥
 list_no_angle l t p v f h e =
     true≢false
     (sym (angle_comes p v) ∙ sym (ap (comes (λ c. (c == 80) || (c == 60))) e)
-    ∙ flags_no_angle l.on l.off t (all_left is_flag l.on (letters_of l.off) (letters_are_flags (l.on ++ letters_of l.off) f.0)) h)
+    ∙ flags_no_angle l.on l.off t (all_left is_flag l.on (unwrap_or l.off []) (letters_are_flags (l.on ++ unwrap_or l.off []) f.0)) h)
 
 -- ---- names
 
@@ -60,9 +60,9 @@ one_p false false t u e = (refl, ap tail e)
 one_p true false t u e = absurd (apart 80 60 refl (ap head e))
 one_p false true t u e = absurd (apart 60 80 refl (ap head e))
 
-pub name_word : (cs : List ℕ) → is_name cs ≡ true → all is_ascii_word cs ≡ true
+pub name_word : (cs : List ℕ) → is_name cs ≡ true → list_all is_ascii_word cs ≡ true
 name_word [] h = absurd (true≢false (sym h))
-name_word (c ∷ cs) h = (and_parts (not (is_ascii_digit c)) (all is_ascii_word (c ∷ cs)) h).1
+name_word (c ∷ cs) h = (and_parts (not (is_ascii_digit c)) (list_all is_ascii_word (c ∷ cs)) h).1
 
 pub named_before : (name t : List ℕ) → (name ++ (62 ∷ [])) ++ t ≡ name ++ (62 ∷ t)
 named_before name t = append_assoc name (62 ∷ []) t
@@ -87,10 +87,10 @@ word_below c h =
     (or_cases (is_ascii_digit c || is_ascii_alphabetic c) (c == 95) h)
 
 -- the bytes of an ASCII word are its characters
-pub word_bytes : (cs : List ℕ) → all is_ascii_word cs ≡ true → encode_utf8_all cs ≡ cs
+pub word_bytes : (cs : List ℕ) → list_all is_ascii_word cs ≡ true → encode_utf8_all cs ≡ cs
 word_bytes [] h = refl
 word_bytes (c ∷ cs) h =
-    let parts = and_parts (is_ascii_word c) (all is_ascii_word cs) h in
+    let parts = and_parts (is_ascii_word c) (list_all is_ascii_word cs) h in
     ap₂ (λ x y. x ++ y) (encode_ascii c (word_below c parts.0)) (word_bytes cs parts.1)
 
 -- ---- what stands behind `(?`
@@ -135,13 +135,13 @@ pub no_name_word : (text : List ℕ) (at end : ℕ) → RunAt is_ascii_word text
 no_name_word text at end r h name t e f = true≢false (sym f ∙ ap is_name (same_name text at end r name t e f).0 ∙ h)
 
 -- a list with no letters takes no place
-letters_by : (on : List ℕ) (o : Option (List ℕ)) (t : List ℕ) → clears_none o ≡ false → length t < length (on ++ write_off o t) → is_nil (on ++ letters_of o) ≡ false
+letters_by : (on : List ℕ) (o : Option (List ℕ)) (t : List ℕ) → option_map_or is_nil o false ≡ false → length t < length (on ++ write_off o t) → is_nil (on ++ unwrap_or o []) ≡ false
 letters_by [] None t f lt = absurd (omega arith)
 letters_by [] (Some []) t f lt = absurd (true≢false f)
 letters_by [] (Some (c ∷ cs)) t f lt = refl
 letters_by (c ∷ on) o t f lt = refl
 
-none_by : (on : List ℕ) (o : Option (List ℕ)) (t : List ℕ) → clears_none o ≡ false → length (on ++ write_off o t) ≡ length t → is_nil (on ++ letters_of o) ≡ true
+none_by : (on : List ℕ) (o : Option (List ℕ)) (t : List ℕ) → option_map_or is_nil o false ≡ false → length (on ++ write_off o t) ≡ length t → is_nil (on ++ unwrap_or o []) ≡ true
 none_by [] None t f e = refl
 none_by [] (Some []) t f e = absurd (true≢false f)
 none_by [] (Some (c ∷ cs)) t f e = absurd (omega (arith, length-append cs t))
@@ -152,7 +152,7 @@ other_end : (a b : Bool) → (a || b) ≡ true → a ≡ false → b ≡ true
 other_end true b h n = absurd (true≢false n)
 other_end false b h n = h
 
-some_letters : (l : FlagList) (t : List ℕ) → FineFlags l → length t < length (write_flags l t) → is_nil (l.on ++ letters_of l.off) ≡ false
+some_letters : (l : FlagList) (t : List ℕ) → FineFlags l → length t < length (write_flags l t) → is_nil (l.on ++ unwrap_or l.off []) ≡ false
 some_letters l t f lt = letters_by l.on l.off t f.1 lt
 
 pub plain_at : (k : Flags) (text : List ℕ) (at end : ℕ) (applied : Flags) → FlagsAt k text at applied end → begins 58 (drop end text) ≡ true
@@ -195,9 +195,9 @@ no_letters k text at end applied p h same (plain l) t i e f =
 no_letters k text at end applied p h same (sets l) t i e f =
     let one = one_flags p.list l (drop end text) (41 ∷ t) (whole_flags p.list (drop end text) p.fine p.ends) (whole_flags l (41 ∷ t) f.0 refl) (sym p.written ∙ e) in
     let long : length (drop at text) ≡ length (write_flags p.list (drop end text)) = ap length p.written in
-    let none : is_nil (p.list.on ++ letters_of p.list.off) ≡ true =
+    let none : is_nil (p.list.on ++ unwrap_or p.list.off []) ≡ true =
     none_by p.list.on p.list.off (drop end text) p.fine.1 (omega (arith, length-drop at text, length-drop end text)) in
-    true≢false (sym none ∙ ap (λ (l : FlagList). is_nil (l.on ++ letters_of l.off)) one.0 ∙ f.1)
+    true≢false (sym none ∙ ap (λ (l : FlagList). is_nil (l.on ++ unwrap_or l.off [])) one.0 ∙ f.1)
 
 -- no flag list, nothing that has one
 pub no_flagged : (k : Flags) (text : List ℕ) (at : ℕ) → IsFlagsRead k text at None

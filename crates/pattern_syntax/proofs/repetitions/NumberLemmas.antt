@@ -3,18 +3,18 @@ use Rattle.std.proofs.Common.{◌≡◌, ℕ, ◌+◌, ◌-◌, ◌*◌, ◌<◌
 use Rattle.std.proofs.lemmas.Bool.{and_parts, and_from, both_ways, leb-true, ltb-true, lt-ltb, agree_below, agree_below_at}
 use Rattle.std.proofs.lemmas.List.{length-take}
 use Rattle.std.specs.Prelude.{nat_le}
-use Rattle.std.specs.List.{slice_range}
+use Rattle.std.specs.List.{slice_range, list_all}
 use Rattle.ucd_props.proofs.Computing.{ucd_props}
 use Rattle.unicode.specs.Binary.{is_white_space}
 use Rattle.std.specs.Char.{digit_value, is_ascii_digit}
-use Rattle.pattern_syntax.specs.Atom.{all}
 use Rattle.pattern_syntax.specs.Flags.{is_nil}
 use Rattle.pattern_syntax.specs.Runs.{comes}
-use Rattle.pattern_syntax.specs.Syntax.{Number, write_number, fine_number, value, value_from}
+use Rattle.pattern_syntax.specs.Syntax.{Number, write_number, fine_number, value}
 use Rattle.pattern_syntax.specs.CountReaders.{WholeNumber, NumberAt}
 use Rattle.pattern_syntax.proofs.BlanksLemmas.{cut_at}
 use Rattle.pattern_syntax.proofs.SameBlanks.{head}
 use Rattle.pattern_syntax.proofs.runs.RunLemmas.{RunAt, one_run}
+use Rattle.std.specs.Str.Parse.{digits_value_after}
 
 none_below : agree_below (λ c. is_white_space c && is_ascii_digit c) (λ c. false) 58 ≡ true
 unfolding ucd_props
@@ -41,10 +41,10 @@ pub number_parts : (n : Number) (t : List ℕ) → write_number n t ≡ n.before
 number_parts n t = append_assoc (n.before ++ n.digits) n.behind t ∙ append_assoc n.before n.digits (n.behind ++ t)
 
 pub record FineParts (n : Number) : Type 0 where
-  pub before : all is_white_space n.before ≡ true
-  pub behind : all is_white_space n.behind ≡ true
+  pub before : list_all is_white_space n.before ≡ true
+  pub behind : list_all is_white_space n.behind ≡ true
   pub some : not (is_nil n.digits) ≡ true
-  pub digits : all is_ascii_digit n.digits ≡ true
+  pub digits : list_all is_ascii_digit n.digits ≡ true
   pub small : value n < 2 ^ 32
 
 pub fine_parts : (n : Number) → fine_number n ≡ true → FineParts n
@@ -60,13 +60,13 @@ parts_fine n f =
     and_from _ _ (and_from _ _ (and_from _ _ (and_from _ _ f.before f.behind) f.some) f.digits) (lt-ltb (value n) (2 ^ 32) f.small)
 
 -- digits that come next are no white space
-digits_clear : (ds x : List ℕ) → not (is_nil ds) ≡ true → all is_ascii_digit ds ≡ true → comes is_white_space (ds ++ x) ≡ false
+digits_clear : (ds x : List ℕ) → not (is_nil ds) ≡ true → list_all is_ascii_digit ds ≡ true → comes is_white_space (ds ++ x) ≡ false
 digits_clear [] x h d = absurd (true≢false (sym h))
-digits_clear (c ∷ ds) x h d = not_white c (is_white_space c) (and_parts (is_ascii_digit c) (all is_ascii_digit ds) d).0 refl
+digits_clear (c ∷ ds) x h d = not_white c (is_white_space c) (and_parts (is_ascii_digit c) (list_all is_ascii_digit ds) d).0 refl
 
-white_clear : (ws : List ℕ) (c : ℕ) (t : List ℕ) → all is_white_space ws ≡ true → is_ascii_digit c ≡ false → comes is_ascii_digit (ws ++ (c ∷ t)) ≡ false
+white_clear : (ws : List ℕ) (c : ℕ) (t : List ℕ) → list_all is_white_space ws ≡ true → is_ascii_digit c ≡ false → comes is_ascii_digit (ws ++ (c ∷ t)) ≡ false
 white_clear [] c t a d = d
-white_clear (w ∷ ws) c t a d = not_digit w (is_ascii_digit w) (and_parts (is_white_space w) (all is_white_space ws) a).0 refl
+white_clear (w ∷ ws) c t a d = not_digit w (is_ascii_digit w) (and_parts (is_white_space w) (list_all is_white_space ws) a).0 refl
 
 -- a number is whole before what is neither white space nor a digit
 pub ended : (n : Number) (c : ℕ) (t : List ℕ) → fine_number n ≡ true → is_white_space c ≡ false → is_ascii_digit c ≡ false → WholeNumber n (c ∷ t)
@@ -87,11 +87,11 @@ one_number n m t u f g e =
     let c = one_run is_white_space n.behind m.behind t u x.behind y.behind f.white_ends g.white_ends b.1 in
     (ap (λ z. made z n.digits n.behind) a.0 ∙ ap (λ z. made m.before z n.behind) b.0 ∙ ap (λ z. made m.before m.digits z) c.0, c.1)
 
-starts_by : (ws ds x : List ℕ) (c : ℕ) (v : List ℕ) → all is_white_space ws ≡ true → not (is_nil ds) ≡ true → all is_ascii_digit ds ≡ true
+starts_by : (ws ds x : List ℕ) (c : ℕ) (v : List ℕ) → list_all is_white_space ws ≡ true → not (is_nil ds) ≡ true → list_all is_ascii_digit ds ≡ true
     → is_white_space c ≡ false → is_ascii_digit c ≡ false → c ∷ v ≡ ws ++ (ds ++ x) → ⊥
-starts_by (w ∷ ws) ds x c v a s d p q e = both_ways (is_white_space w) (sym (ap is_white_space (ap head e)) ∙ p) (and_parts (is_white_space w) (all is_white_space ws) a).0
+starts_by (w ∷ ws) ds x c v a s d p q e = both_ways (is_white_space w) (sym (ap is_white_space (ap head e)) ∙ p) (and_parts (is_white_space w) (list_all is_white_space ws) a).0
 starts_by [] [] x c v a s d p q e = true≢false (sym s)
-starts_by [] (g ∷ ds) x c v a s d p q e = both_ways (is_ascii_digit g) (sym (ap is_ascii_digit (ap head e)) ∙ q) (and_parts (is_ascii_digit g) (all is_ascii_digit ds) d).0
+starts_by [] (g ∷ ds) x c v a s d p q e = both_ways (is_ascii_digit g) (sym (ap is_ascii_digit (ap head e)) ∙ q) (and_parts (is_ascii_digit g) (list_all is_ascii_digit ds) d).0
 
 -- what is neither white space nor a digit begins no number
 pub begins_no_number : (n : Number) (t : List ℕ) (c : ℕ) (v : List ℕ) → fine_number n ≡ true → is_white_space c ≡ false → is_ascii_digit c ≡ false
@@ -126,16 +126,16 @@ no_digits text at start end r s same n t e f =
     true≢false (sym (fine_parts n f.fine).some ∙ ap (λ z. not (is_nil z)) (same_digits text at start end r s n t e f ∙ none))
 
 pub large_digits : (text : List ℕ) (at start end : ℕ) → RunAt is_white_space text at start → RunAt is_ascii_digit text start end
-    → (value_from 0 (slice_range text start end) < 2 ^ 32 → ⊥)
+    → (digits_value_after 10 0 (slice_range text start end) < 2 ^ 32 → ⊥)
     → (n : Number) (t : List ℕ) → drop at text ≡ write_number n t → WholeNumber n t → ⊥
 large_digits text at start end r s large n t e f =
-    let same : value n ≡ value_from 0 (slice_range text start end) = ap (value_from 0) (same_digits text at start end r s n t e f) in
+    let same : value n ≡ digits_value_after 10 0 (slice_range text start end) = ap (digits_value_after 10 0) (same_digits text at start end r s n t e f) in
     let small : value n < 2 ^ 32 = (fine_parts n f.fine).small in
     large (omega (arith, same, small))
 
 pub number_at : (text : List ℕ) (at start end next number : ℕ) → at ≤ start → start < end → end ≤ next → next ≤ length text
     → RunAt is_white_space text at start → RunAt is_ascii_digit text start end → RunAt is_white_space text end next
-    → value_from 0 (slice_range text start end) < 2 ^ 32 → number ≡ value_from 0 (slice_range text start end) → NumberAt text at number next
+    → digits_value_after 10 0 (slice_range text start end) < 2 ^ 32 → number ≡ digits_value_after 10 0 (slice_range text start end) → NumberAt text at number next
 number_at text at start end next number o lt onward within r s q small v =
     let n = made (slice_range text at start) (slice_range text start end) (slice_range text end next) in
     let last : end ≤ length text = omega arith in
@@ -153,18 +153,18 @@ number_at text at start end next number o lt onward within r s q small v =
 
 -- ---- what digits spell
 
-pub value_least : (high : ℕ) (ds : List ℕ) → high ≤ value_from high ds
+pub value_least : (high : ℕ) (ds : List ℕ) → high ≤ digits_value_after 10 high ds
 value_least high [] = omega arith
-value_least high (d ∷ ds) = let more : high * 10 + digit_value d ≤ value_from (high * 10 + digit_value d) ds = value_least (high * 10 + digit_value d) ds in omega arith
+value_least high (d ∷ ds) = let more : high * 10 + digit_value d ≤ digits_value_after 10 (high * 10 + digit_value d) ds = value_least (high * 10 + digit_value d) ds in omega arith
 
 pub value_step : (high : ℕ) (ds : List ℕ) (i d : ℕ) → i < length ds
-    → value_from high (drop i ds) ≡ value_from (high * 10 + digit_value (get_or ds i d)) (drop (i + 1) ds)
-value_step high ds i d lt = ap (value_from high) (cut_at ds i d lt)
+    → digits_value_after 10 high (drop i ds) ≡ digits_value_after 10 (high * 10 + digit_value (get_or ds i d)) (drop (i + 1) ds)
+value_step high ds i d lt = ap (digits_value_after 10 high) (cut_at ds i d lt)
 
 -- a number that is too large stays so
-pub too_large : (high v : ℕ) (ds : List ℕ) (i d : ℕ) → i < length ds → value_from high (drop i ds) ≡ v → (high * 10 + digit_value (get_or ds i d) < 2 ^ 32 → ⊥) → v < 2 ^ 32 → ⊥
+pub too_large : (high v : ℕ) (ds : List ℕ) (i d : ℕ) → i < length ds → digits_value_after 10 high (drop i ds) ≡ v → (high * 10 + digit_value (get_or ds i d) < 2 ^ 32 → ⊥) → v < 2 ^ 32 → ⊥
 too_large high v ds i d lt e large small =
-    let least : high * 10 + digit_value (get_or ds i d) ≤ value_from (high * 10 + digit_value (get_or ds i d)) (drop (i + 1) ds) =
+    let least : high * 10 + digit_value (get_or ds i d) ≤ digits_value_after 10 (high * 10 + digit_value (get_or ds i d)) (drop (i + 1) ds) =
     value_least (high * 10 + digit_value (get_or ds i d)) (drop (i + 1) ds) in
-    let step : value_from high (drop i ds) ≡ value_from (high * 10 + digit_value (get_or ds i d)) (drop (i + 1) ds) = value_step high ds i d lt in
+    let step : digits_value_after 10 high (drop i ds) ≡ digits_value_after 10 (high * 10 + digit_value (get_or ds i d)) (drop (i + 1) ds) = value_step high ds i d lt in
     large (omega arith)

@@ -1,10 +1,10 @@
 -- One repetition is written at a place.
-use Rattle.std.proofs.Common.{◌≡◌, ℕ, Bool, true, false, List, [], ◌∷◌, ◌&&◌, ◌||◌, if◌then◌else◌, refl, sym, ap, ◌∙◌, subst, ⊎_elim, true≢false}
+use Rattle.std.proofs.Common.{◌≡◌, ℕ, Bool, true, false, List, [], ◌∷◌, ◌&&◌, ◌||◌, if◌then◌else◌, refl, sym, ap, ◌∙◌, subst, ⊎_elim, true≢false, codes}
 use Rattle.std.proofs.lemmas.Bool.{and_parts, cases_Bool}
 use Rattle.ucd_props.proofs.Computing.{ucd_props}
 use Rattle.pattern_syntax.specs.declared.flags.Flags.{Flags}
 use Rattle.pattern_syntax.specs.Flags.{Blank, write_blanks, FineBlanks, seen, begins, is_nil}
-use Rattle.pattern_syntax.specs.Syntax.{Count, optional, star, plus, exactly, at_least, between, Repeated, write_count, write_swap, fine_count, is_braced}
+use Rattle.pattern_syntax.specs.Syntax.{Count, optional, star, plus, exactly, at_least, between, Repeated, write_count, fine_count, is_braced, write_swap}
 use Rattle.pattern_syntax.specs.Tokens.{write_repeated, swap_comes, FineRepeated}
 use Rattle.pattern_syntax.proofs.BlanksLemmas.{seen_behind}
 use Rattle.pattern_syntax.proofs.SameBlanks.{tail, IsClear, same_blanks}

@@ -1,10 +1,10 @@
 -- The repetition at a place.
-use Rattle.std.proofs.Common.{◌≡◌, ℕ, ◌<◌, ◌≤◌, Bool, true, false, List, [], ◌∷◌, ◌&&◌, ◌||◌, if◌then◌else◌, None, length, drop, refl, sym, ap, ◌∙◌, subst, true≢false, arith, length-drop}
+use Rattle.std.proofs.Common.{◌≡◌, ℕ, ◌<◌, ◌≤◌, Bool, true, false, List, [], ◌∷◌, ◌&&◌, ◌||◌, if◌then◌else◌, None, length, drop, refl, sym, ap, ◌∙◌, subst, true≢false, arith, length-drop, codes}
 use Rattle.std.proofs.lemmas.Bool.{and_from, eqb-true}
 use Rattle.pattern_syntax.specs.declared.flags.Flags.{Flags}
 use Rattle.pattern_syntax.specs.declared.repetitions.Counted.{Counted}
 use Rattle.pattern_syntax.specs.Flags.{Blank, write_blanks, FineBlanks, seen, seen_if, begins, rest, is_nil}
-use Rattle.pattern_syntax.specs.Syntax.{Count, Repeated, write_count, write_swap, fine_count, is_braced}
+use Rattle.pattern_syntax.specs.Syntax.{Count, Repeated, write_count, fine_count, is_braced, write_swap}
 use Rattle.pattern_syntax.specs.Tokens.{write_repeated, swap_comes, FineRepeated}
 use Rattle.pattern_syntax.specs.Readers.{RepetitionAt}
 use Rattle.pattern_syntax.specs.CountReaders.{CountAt, IsCountRead, IsSwapRead}

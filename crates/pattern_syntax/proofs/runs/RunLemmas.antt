@@ -3,8 +3,7 @@ use Rattle.std.proofs.Common.{◌≡◌, ℕ, ◌+◌, ◌<◌, ◌≤◌, Bool,
 use Rattle.std.proofs.lemmas.Bool.{and_parts, and_from, both_ways, cases_Bool, cases_lt, eqb-true}
 use Rattle.std.proofs.lemmas.List.{drop_all}
 use Rattle.std.proofs.lemmas.List.Folds.{drop_split}
-use Rattle.std.specs.List.{slice_range}
-use Rattle.pattern_syntax.specs.Atom.{all}
+use Rattle.std.specs.List.{slice_range, list_all}
 use Rattle.pattern_syntax.specs.Flags.{begins}
 use Rattle.pattern_syntax.specs.Runs.{behind, comes}
 use Rattle.pattern_syntax.proofs.BlanksLemmas.{cut_at}
@@ -28,28 +27,28 @@ longer : (c : ℕ) (cs u : List ℕ) → u ≡ c ∷ (cs ++ u) → ⊥
 longer c cs u e = let l : length u ≡ length (c ∷ (cs ++ u)) = ap length e in omega (arith, length-append cs u, l)
 
 -- what stands before what is left passes
-run_passes : (p : ℕ → Bool) (cs u : List ℕ) → u ≡ behind p (cs ++ u) → all p cs ≡ true
+run_passes : (p : ℕ → Bool) (cs u : List ℕ) → u ≡ behind p (cs ++ u) → list_all p cs ≡ true
 run_passes p [] u e = refl
 run_passes p (c ∷ cs) u e =
     ⊎_elim
-    (λ yes. and_from (p c) (all p cs) yes (run_passes p cs u (e ∙ behind_pass p c (cs ++ u) yes)))
+    (λ yes. and_from (p c) (list_all p cs) yes (run_passes p cs u (e ∙ behind_pass p c (cs ++ u) yes)))
     (λ no. absurd (longer c cs u (e ∙ behind_stop p c (cs ++ u) no)))
     (cases_Bool (p c))
 
 -- the same text has one run
-pub one_run : (p : ℕ → Bool) (cs ds t u : List ℕ) → all p cs ≡ true → all p ds ≡ true → comes p t ≡ false → comes p u ≡ false → cs ++ t ≡ ds ++ u
+pub one_run : (p : ℕ → Bool) (cs ds t u : List ℕ) → list_all p cs ≡ true → list_all p ds ≡ true → comes p t ≡ false → comes p u ≡ false → cs ++ t ≡ ds ++ u
     → (cs ≡ ds) × (t ≡ u)
 one_run p [] [] t u a b x y e = (refl, e)
-one_run p [] (d ∷ ds) t u a b x y e = absurd (both_ways (p d) (sym (ap (comes p) e) ∙ x) (and_parts (p d) (all p ds) b).0)
-one_run p (c ∷ cs) [] t u a b x y e = absurd (both_ways (p c) (ap (comes p) e ∙ y) (and_parts (p c) (all p cs) a).0)
+one_run p [] (d ∷ ds) t u a b x y e = absurd (both_ways (p d) (sym (ap (comes p) e) ∙ x) (and_parts (p d) (list_all p ds) b).0)
+one_run p (c ∷ cs) [] t u a b x y e = absurd (both_ways (p c) (ap (comes p) e ∙ y) (and_parts (p c) (list_all p cs) a).0)
 one_run p (c ∷ cs) (d ∷ ds) t u a b x y e =
-    let more = one_run p cs ds t u (and_parts (p c) (all p cs) a).1 (and_parts (p d) (all p ds) b).1 x y (ap tail e) in
+    let more = one_run p cs ds t u (and_parts (p c) (list_all p cs) a).1 (and_parts (p d) (list_all p ds) b).1 x y (ap tail e) in
     (ap (λ c. c ∷ cs) (ap head e) ∙ ap (λ cs. d ∷ cs) more.0, more.1)
 
 -- the characters between two places are a run
 pub record RunAt (p : ℕ → Bool) (text : List ℕ) (at end : ℕ) : Type 0 where
   pub written : drop at text ≡ slice_range text at end ++ drop end text
-  pub passes : all p (slice_range text at end) ≡ true
+  pub passes : list_all p (slice_range text at end) ≡ true
   pub stops : comes p (drop end text) ≡ false
 
 pub run_at : (p : ℕ → Bool) (text : List ℕ) (at end : ℕ) → at ≤ end → drop end text ≡ behind p (drop at text) → RunAt p text at end

@@ -1,6 +1,6 @@
 -- Sets closed under folding.
 use Rattle.std.proofs.Common.{◌≡◌, ⊎_elim, ℕ, ◌+◌, ◌-◌, ◌<◌, ◌≤◌, Bool, true, false, not, ◌&&◌, ◌||◌, ◌==◌, nat_le, List, [], ◌∷◌, length, take, if◌then◌else◌, refl, sym, ap, ap₂, ◌∙◌, true≢false, leb-true, arith}
-use Rattle.std.specs.List.{list_all}
+use Rattle.std.specs.List.{list_all, list_any}
 use Rattle.std.specs.Char.{to_ascii_lowercase, to_ascii_uppercase, is_ascii_alphabetic, is_ascii_lowercase, is_ascii_uppercase}
 use Rattle.std.proofs.lemmas.List.{take_all}
 use Rattle.std.proofs.lemmas.Bool.{and_parts, cases_Bool}
@@ -10,7 +10,7 @@ use Rattle.ucd_case.specs.FoldOtherRows.{fold_other_rows}
 use Rattle.regex_class.specs.Ranges.{in_range, in_ranges, range_at}
 use Rattle.regex_class.proofs.RangesLemmas.{in_ranges-more, in_ranges-nil}
 use Rattle.pattern_syntax.specs.declared.flags.Flags.{Flags}
-use Rattle.pattern_syntax.specs.Sets.{Set, image, closed, with_alike, with_cases}
+use Rattle.pattern_syntax.specs.Sets.{Set, closed, with_alike, with_cases}
 use Rattle.pattern_syntax.proofs.sets.MemberLemmas.{Ends}
 
 -- FOLDING OF CHARACTERS
@@ -18,13 +18,13 @@ use Rattle.pattern_syntax.proofs.sets.MemberLemmas.{Ends}
 lead_within : List (ℕ × ℕ) → Bool
 lead_within = list_all (λ (p : ℕ × ℕ). nat_le p.1 0x10_FFFF)
 
-image_ends : (ps : List (ℕ × ℕ)) → lead_within ps ≡ true → (s : Set) → Ends (image ps s)
+image_ends : (ps : List (ℕ × ℕ)) → lead_within ps ≡ true → (s : Set) → Ends (λ c. list_any (λ (p : ℕ × ℕ). (p.1 == c) && s p.0) ps)
 unfolding lead_within
 image_ends [] within s c above = refl
 image_ends (p ∷ ps) within s c above =
     let parts = and_parts (nat_le p.1 0x10_FFFF) (lead_within ps) within in
     let last : p.1 ≤ 0x10_FFFF = leb-true p.1 0x10_FFFF parts.0 in
-    let later : image ps s c ≡ false = image_ends ps parts.1 s c above in
+    let later : list_any (λ (p : ℕ × ℕ). (p.1 == c) && s p.0) ps ≡ false = image_ends ps parts.1 s c above in
     let other : (p.1 == c) ≡ false = grind (arith, nat_tests) in
     ap₂ (λ a b. (a && s p.0) || b) other later
 

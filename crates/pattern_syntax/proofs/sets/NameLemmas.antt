@@ -1,6 +1,6 @@
 -- Names in tables.
 use Rattle.std.specs.Char.{is_ascii_digit}
-use Rattle.std.specs.Prelude.{is_some}
+use Rattle.std.specs.Prelude.{is_some, unwrap_or}
 use Rattle.std.proofs.Common.{◌≡◌, ℕ, ◌≤◌, Bool, true, false, nat_eq, List, [], ◌∷◌, length, take, map, option_map, true≢false, if◌then◌else◌, Option, Some, None, MatchOption, IsSomeAnd, IfSome, IfNone, refl, sym, ap, ◌∙◌, subst, arith}
 use Rattle.std.proofs.lemmas.Bool.{and_parts, and_from, false_from_ne_true}
 use Rattle.std.proofs.lemmas.Bool.Decides.{Decides-eqb, nat_tests}
@@ -10,7 +10,7 @@ use lib.Pointwise.{pointwise}
 use Rattle.regex_class.specs.declared.Class.{Class}
 use Rattle.regex_class.specs.Ranges.{in_range, in_ranges, HasExactly}
 use Rattle.pattern_syntax.specs.declared.sets.names.TheConstants.{ASCII_SETS}
-use Rattle.pattern_syntax.specs.Sets.{Set, ascii_names, same_text, value_of, or_none, is_ascii_space, is_ascii_word}
+use Rattle.pattern_syntax.specs.Sets.{Set, ascii_names, same_text, value_of, is_ascii_space, is_ascii_word, none_of}
 use Rattle.pattern_syntax.specs.Readers.{IsSet}
 use Rattle.pattern_syntax.proofs.sets.MemberLemmas.{are_within, made_of}
 
@@ -160,7 +160,7 @@ pub found_ranges : (set : Class) (own : List (ℕ × ℕ)) (ranges : Option (Lis
 found_ranges set own ranges is has = subst (λ o. IsSomeAnd o (λ rs. HasExactly set.ranges.items (in_ranges rs))) is has
 
 some_set : (set : Class) (ranges : Option (List (ℕ × ℕ))) (o : Option Set) → IsNamed ranges o → IsFound (Some set) ranges
-    → IsSet set (or_none o) × (is_some o ≡ true)
+    → IsSet set (unwrap_or o none_of) × (is_some o ≡ true)
 some_set set (Some ranges) (Some s) is has = (made_of set ranges s has is.0 is.1, refl)
 some_set set (Some ranges) None is has = absurd is
 some_set set None o is has = absurd has
@@ -170,7 +170,7 @@ no_set ranges (Some s) is e = absurd (subst (λ r. IsNamed r (Some s)) e is)
 no_set ranges None is e = refl
 
 pub found_in_table : (name : List ℕ) (found : Option Class) → IsFound found (value_of ascii_rows name)
-    → IfSome found (λ set. IsSet set (or_none (value_of ascii_names name)) × (is_some (value_of ascii_names name) ≡ true))
+    → IfSome found (λ set. IsSet set (unwrap_or (value_of ascii_names name) none_of) × (is_some (value_of ascii_names name) ≡ true))
 found_in_table name (Some set) is = some_set set (value_of ascii_rows name) (value_of ascii_names name) (named ascii_rows ascii_names rows_are_named name) is
 found_in_table name None is = tt
 

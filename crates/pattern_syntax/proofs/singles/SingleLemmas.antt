@@ -8,7 +8,7 @@ use Rattle.pattern_syntax.specs.declared.readings.Item.{Item}
 use Rattle.pattern_syntax.specs.declared.readings.Member.{Member}
 use Rattle.pattern_syntax.specs.Atom.{Atom, character, escaped, control, coded, braced, octal, perl, category, category_braced, write_atom, FineAtom, single_of}
 use Rattle.pattern_syntax.specs.Class.{Head, Inside, write_head, write_inside, FineHead, FineInside, class_depth, head_literals, inside_literals, is_blank_start, listed}
-use Rattle.pattern_syntax.specs.Syntax.{Single, atom, dot, caret, dollar, look as look_at, class, Edge, write_edge, write_single, FineAlone, FineLook, FineSingle, is_special}
+use Rattle.pattern_syntax.specs.Syntax.{Single, atom, dot, caret, dollar, look as look_at, class, Edge, write_single, FineAlone, FineLook, FineSingle, is_special, edge_of}
 use Rattle.pattern_syntax.specs.SetTree.{looks}
 use Rattle.pattern_syntax.specs.Reads.{at_depth, class_tree, line_end, single_part, single_literals}
 use Rattle.pattern_syntax.specs.Readers.{EscapeAt, IsEscape, IsMember, IsEscapeRead, ClassAt, IsClassRead, SingleAt, IsSingleRead, HasLiterals, part_of}
@@ -90,7 +90,7 @@ no_sign w v c e a b d dollar t i q = d (head_is w v t c 36 e q)
 no_sign w v c e a b d _ t i q = absurd i
 
 pub no_single : (k : Flags) (w : List ℕ) → ((s : Single) (t : List ℕ) → IsSign s → w ≡ write_single s t → ⊥)
-    → ((e : Edge) (t : List ℕ) → Unit {0} → w ≡ write_edge e t → FineLook e t → ⊥)
+    → ((e : Edge) (t : List ℕ) → Unit {0} → w ≡ (edge_of e).0 ++ t → FineLook e t → ⊥)
     → ((a : Atom) (t : List ℕ) → IsEscape a → w ≡ write_atom a t → FineAtom k a t → ⊥)
     → ((h : Head) (p : Inside) (t : List ℕ) → w ≡ write_head h (write_inside p t) → FineHead k h (write_inside p t) → FineInside k p t → ⊥)
     → ((c : ℕ) (t : List ℕ) → w ≡ c ∷ t → (is_special c || is_blank_start k c) ≡ false → ⊥)

@@ -6,10 +6,11 @@ use Rattle.ucd_props.proofs.Computing.{ucd_props}
 use Rattle.unicode.specs.Binary.{is_white_space}
 use Rattle.pattern_syntax.specs.declared.flags.Flags.{Flags}
 use Rattle.pattern_syntax.specs.Flags.{Blank, write_blanks, FineBlanks, has, seen}
-use Rattle.pattern_syntax.specs.Atom.{Digit, write_digits, spelt, all, FineSpaced, FineBraced}
+use Rattle.pattern_syntax.specs.Atom.{Digit, write_digits, spelt, FineSpaced, FineBraced}
 use Rattle.pattern_syntax.specs.Escapes.{Spells, in_braces}
 use Rattle.pattern_syntax.proofs.BlanksLemmas.{head, tail, IsClear, seen_behind, no_or_left, no_or_right, two, apart}
 use Rattle.pattern_syntax.proofs.spelling.BlanksSplit.{nil_cons, or_none, split, blanks_head, seen_shorter}
+use Rattle.std.specs.List.{list_all}
 
 -- nothing that is passed over begins with it
 abbrev pub is_clear : ℕ → Bool
@@ -105,10 +106,10 @@ closed_end k (c ∷ cs) (d ∷ ds) w v t a (x, e, s) h (y, f, r) =
 
 -- ---- what is written
 
-pub digits_spell : (k : Flags) (ds : List Digit) (t : List ℕ) → all is_clear (spelt ds) ≡ true → FineSpaced k ds t → Spells k (spelt ds) (write_digits ds t) t
+pub digits_spell : (k : Flags) (ds : List Digit) (t : List ℕ) → list_all is_clear (spelt ds) ≡ true → FineSpaced k ds t → Spells k (spelt ds) (write_digits ds t) t
 digits_spell k [] t a f = refl
 digits_spell k (d ∷ ds) t a f =
-    let clear = and_parts (is_clear d.digit) (all is_clear (spelt ds)) a in (
+    let clear = and_parts (is_clear d.digit) (list_all is_clear (spelt ds)) a in (
       write_digits ds t,
       seen_behind k d.before (d.digit ∷ write_digits ds t) f.0 (λ on. clear_head d.digit (write_digits ds t) clear.0),
       digits_spell k ds t clear.1 f.1,
@@ -126,12 +127,12 @@ spells_digits k (c ∷ cs) w t (v, h, s) =
       b.2 ∙ ap (λ z. write_blanks b.0 (c ∷ z)) d.3,
     )
 
-closed_spell : (k : Flags) (ds : List Digit) (behind : List Blank) (t : List ℕ) → all is_clear (spelt ds) ≡ true
+closed_spell : (k : Flags) (ds : List Digit) (behind : List Blank) (t : List ℕ) → list_all is_clear (spelt ds) ≡ true
     → FineSpaced k ds (write_blanks behind (codes "}")) → FineBlanks k behind (codes "}")
     → Spells k (spelt ds ++ 125 ∷ []) (write_digits ds (write_blanks behind (125 ∷ t))) t
 closed_spell k [] behind t a f g = (t, seen_behind k behind (125 ∷ t) (blanks_head k behind 125 [] t g) (λ on. (closing_clear, refl)), refl)
 closed_spell k (d ∷ ds) behind t a f g =
-    let clear = and_parts (is_clear d.digit) (all is_clear (spelt ds)) a in
+    let clear = and_parts (is_clear d.digit) (list_all is_clear (spelt ds)) a in
     let v = write_digits ds (write_blanks behind (125 ∷ t)) in (
       v,
       seen_behind k d.before (d.digit ∷ v) (blanks_head k d.before d.digit (write_digits ds (write_blanks behind (codes "}"))) v f.0) (λ on. clear_head d.digit v clear.0),
@@ -141,7 +142,7 @@ closed_spell k (d ∷ ds) behind t a f g =
 abbrev pub write_braces : List Blank → List Digit → List Blank → List ℕ → List ℕ
 write_braces before ds behind t = write_blanks before (123 ∷ write_digits ds (write_blanks behind (125 ∷ t)))
 
-pub braces_spell : (k : Flags) (before : List Blank) (ds : List Digit) (behind : List Blank) (t : List ℕ) → all is_clear (spelt ds) ≡ true
+pub braces_spell : (k : Flags) (before : List Blank) (ds : List Digit) (behind : List Blank) (t : List ℕ) → list_all is_clear (spelt ds) ≡ true
     → FineBraced k before ds behind → Spells k (in_braces (spelt ds)) (write_braces before ds behind t) t
 braces_spell k before ds behind t a f =
     let v = write_digits ds (write_blanks behind (125 ∷ t)) in

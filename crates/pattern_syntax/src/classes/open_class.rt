@@ -1,6 +1,6 @@
 //! What was read of a class that is open.
 
-ghost use Rattle.std.specs.Prelude.{◌≡◌, ℕ, [], ◌∷◌, ◌==◌, ◌&&◌, ◌||◌, nat_lt, IfOk, OnOk};
+ghost use Rattle.std.specs.Prelude.{◌≡◌, ℕ, [], ◌∷◌, ◌==◌, ◌&&◌, ◌||◌, nat_lt, is_some, IfOk, OnOk};
 ghost use Rattle.regex_class.specs.Ranges.{in_ranges};
 ghost use Rattle.pattern_syntax.specs.Class as class;
 ghost use Rattle.pattern_syntax.specs.ClassProgress as progress;
@@ -57,7 +57,7 @@ pub(crate) struct OpenClass {
 impl OpenClass {
     /// A class of which the head was read. Refuses for want of memory alone.
     pub fn new(alloc: Global, head: ClassHead) -> Result<OpenClass, NoMemory>
-        ensures { IfOk result (λ new. (h : class.Head) → IsHead head h → frame_of new ≡ framed (class.is_negated h) (start h)) }
+        ensures { IfOk result (λ new. (h : class.Head) → IsHead head h → frame_of new ≡ framed (is_some h.negated) (start h)) }
     {
         let ranges = leading(alloc, head)?;
         let bracket = usize::from(head.bracket);

@@ -63,7 +63,7 @@ fn category_named(alloc: Global, name: &[char]) -> Result<Option<Set>, NoMemory>
 /// The set of a general category by its name, ASCII case ignored, closed under folding with `i`; none where no category has the name.
 /// Refuses for want of memory alone.
 pub fn category_set(alloc: Global, name: &[char], flags: Flags) -> Result<Option<Class>, NoMemory>
-    ensures found { IfOk result (λ found. IfSome found (λ set. IsSet set (sets.closed_category flags name.now) × (is_some (sets.category_named name.now) ≡ true))) }
+    ensures found { IfOk result (λ found. IfSome found (λ set. IsSet set (sets.closed flags (sets.named_set (sets.category_named name.now))) × (is_some (sets.category_named name.now) ≡ true))) }
     ensures none { IfOk result (λ found. IfNone found (is_some (sets.category_named name.now) ≡ false)) }
 {
     let found = category_named(alloc, name)?;

@@ -1,8 +1,8 @@
 use Rattle.std.proofs.Common.{◌≡◌, ◌<◌, ◌≤◌, length, drop, get_or, ◌*◌, ◌^◌, sym, ap, ◌∙◌, arith}
 use Rattle.std.proofs.lemmas.List.{drop_all}
 use Rattle.std.specs.Char.{digit_value}
-use Rattle.pattern_syntax.specs.Syntax.{value_from}
 use Rattle.pattern_syntax.proofs.repetitions.NumberLemmas.{too_large}
+use Rattle.std.specs.Str.Parse.{digits_value_after}
 use Rattle.pattern_syntax.proofs.repetitions.number_of.Goals as goal
 
 pub returns-in_err-checked_mul : goal.returns-in_err-checked_mul
@@ -24,8 +24,8 @@ returns-in_err-number c =
 pub returns : goal.returns
 returns c =
     let end : length c.args.digits.now ≤ c.loop-digit.digit-index = omega arith in
-    let all : value_from c.loop-digit.number (drop c.loop-digit.digit-index c.args.digits.now) ≡ c.loop-digit.number =
-    ap (value_from c.loop-digit.number) (drop_all c.loop-digit.digit-index c.args.digits.now end) in
-    let same : c.loop-digit.number ≡ value_from 0 c.args.digits.now = sym all ∙ c.loop-digit.invariant.0 in
+    let all : digits_value_after 10 c.loop-digit.number (drop c.loop-digit.digit-index c.args.digits.now) ≡ c.loop-digit.number =
+    ap (digits_value_after 10 c.loop-digit.number) (drop_all c.loop-digit.digit-index c.args.digits.now end) in
+    let same : c.loop-digit.number ≡ digits_value_after 10 0 c.args.digits.now = sym all ∙ c.loop-digit.invariant.0 in
     let small : c.loop-digit.number < 2 ^ 32 = c.loop-digit.invariant.1 in
     ((omega arith), same)
