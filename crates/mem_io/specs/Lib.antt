@@ -8,6 +8,7 @@ pub mod Log
 pub mod LogRoom
 pub mod MemWalk
 pub mod MemTrail
+pub mod MemDevices
 pub mod LogHolds
 pub mod Medium
 pub mod MemOutcome

@@ -71,9 +71,9 @@ pub take_whole : (changes : List Change) → take (length changes) changes ≡ c
 take_whole changes = ap (take (length changes)) (sym (append-nil changes)) ∙ take-append_seam changes []
 
 -- the outcomes of this moment are those after all changes
-pub now_of : (changes : List Change) (state : DiskState) → Tells changes state → outcomes_now state ≡ outcomes_after changes
-now_of changes state t =
-    (λ i. t.outcomes i state.clock) ∙ ap (λ (k : ℕ). outcomes_by changes k) t.clock ∙ ap outcomes_after (take_whole changes)
+pub now_of : (first : ℕ) (changes : List Change) (state : DiskState) → Tells first changes state → outcomes_now state ≡ outcomes_after first changes
+now_of first changes state t =
+    (λ i. t.outcomes i state.clock) ∙ ap (λ (k : ℕ). outcomes_by first changes k) t.clock ∙ ap (outcomes_after first) (take_whole changes)
 
-pub kept_holds : (changes : List Change) (state : DiskState) → Tells changes state → IsKept state.tree (outcomes_after changes) → HoldsPresent state
-kept_holds changes state t kept = kept_tells state (subst (IsKept state.tree) (sym (now_of changes state t)) kept)
+pub kept_holds : (first : ℕ) (changes : List Change) (state : DiskState) → Tells first changes state → IsKept state.tree (outcomes_after first changes) → HoldsPresent state
+kept_holds first changes state t kept = kept_tells state (subst (IsKept state.tree) (sym (now_of first changes state t)) kept)

@@ -1,9 +1,11 @@
 -- What the changes of a tree in memory do to it and to the log of its changes.
 use Rattle.std.specs.Prelude.{◌≡◌, ◌≢◌, ◌⊎◌, ℕ, List, [], ◌∷◌, ◌++◌, Some, None, IsSome, true}
 use Rattle.sd_io.specs.Tree.{NameList, Node, Tree, node_at, file_at}
-use Rattle.sd_io.specs.Paths.{reached, named, reached_plain}
+use Rattle.sd_io.specs.Paths.{reached, named}
 use Rattle.sd_io.specs.Files.{file_named}
-use Rattle.mem_io.specs.MemTree.{tree_of, IsPlaceIn}
+use Rattle.sd_io.specs.Outcomes.{Outcomes}
+use Rattle.mem_io.specs.Log.{outcomes_after}
+use Rattle.mem_io.specs.MemTree.{tree_of, IsPlaceIn, dev_at}
 use Rattle.mem_io.specs.declared.log.Change.{Change}
 use Rattle.mem_io.specs.declared.log.Change.TheVariants as change
 use Rattle.mem_io.specs.declared.medium.Medium.{Medium}
@@ -14,13 +16,23 @@ told_tree m = tree_of m.tree.top m.tree.nodes.entries
 abbrev pub changes_of : Medium → List Change
 changes_of m = m.log.changes.items
 
+-- the device that the top had at first
+abbrev pub first_of : Medium → ℕ
+first_of m = m.log.first_dev
+
+-- what a crash may leave
+abbrev pub outcomes_told : Medium → Outcomes
+outcomes_told m = outcomes_after (first_of m) (changes_of m)
+
 -- one change more is noted
-abbrev pub Notes : Medium → Change → Medium → Type 0
-Notes old change new = changes_of new ≡ changes_of old ++ change ∷ []
+pub record Notes (old : Medium) (change : Change) (new : Medium) : Type 0 where
+  pub first : first_of new ≡ first_of old
+  pub noted : changes_of new ≡ changes_of old ++ change ∷ []
 
 -- the tree, its changes and the next number are as before
 pub record SameMedium (old new : Medium) : Type 0 where
   pub tree : told_tree new ≡ told_tree old
+  pub first : first_of new ≡ first_of old
   pub changes : changes_of new ≡ changes_of old
   pub number : new.tree.next_ino ≡ old.tree.next_ino
 
@@ -41,12 +53,6 @@ pub record NotesSynced (old : Medium) (place : NameList) (new : Medium) : Type 0
   pub node : Node
   pub stands : node_at (told_tree old) place ≡ Some node
   pub only : NotesOnly old (change.Synced place node) new
-
--- the new device is noted at the place that the path leads to, no link followed
-pub record NotesDevice (old : Medium) (path : List ℕ) (dev : ℕ) (new : Medium) : Type 0 where
-  pub place : NameList
-  pub leads : reached_plain (told_tree old) path ≡ Some place
-  pub noted : Notes old (change.DeviceSet place dev) new
 
 -- a file that the path leads to is noted as written
 pub record NotesWritten (old : Medium) (path : List ℕ) (new : Medium) : Type 0 where
@@ -76,14 +82,14 @@ pub record StandsOther (tree : Tree) (path : List ℕ) : Type 0 where
 abbrev pub IsHindered : Tree → List ℕ → List ℕ → Type 0
 IsHindered tree from to = (file_named tree from ≡ None) ⊎ (named tree to ≡ None) ⊎ StandsOther tree to
 
--- the file is noted as moved, unless both are one place
+-- the file is noted as moved with its device, unless both are one place
 pub record NotesMoved (old : Medium) (source target : NameList) (new : Medium) : Type 0 where
-  pub noted : source ≢ target → Notes old (change.Moved source target) new
+  pub noted : source ≢ target → Notes old (change.Moved source target (dev_at (told_tree old) source)) new
   pub same : source ≡ target → SameMedium old new
 
--- the file is noted as not moved, unless both are one place
+-- the file is noted as not moved with its device, unless both are one place
 pub record NotesNotMoved (old : Medium) (source target : NameList) (new : Medium) : Type 0 where
-  pub noted : source ≢ target → NotesOnly old (change.NotMoved source target) new
+  pub noted : source ≢ target → NotesOnly old (change.NotMoved source target (dev_at (told_tree old) source)) new
   pub same : source ≡ target → SameMedium old new
 
 -- a file that could come from the one path to the other is noted as not moved

@@ -29,8 +29,9 @@ pub record TakesLast (old : told.OpenList) (entry : RawEntry) (new : told.OpenLi
 
 abbrev pub mem_state : MemDisk → DiskState
 mem_state d =
-    let changes = d.medium.log.changes.items in
-    state_with left_entries (tree_of d.medium.tree.top d.medium.tree.nodes.entries) (length changes) (outcomes_by changes) d.counter.faults d.lists
+    let past = d.medium.log in
+    let changes = past.changes.items in
+    state_with left_entries (tree_of d.medium.tree.top d.medium.tree.nodes.entries) (length changes) (outcomes_by past.first_dev changes) d.counter.faults d.lists
 
 -- the calls that are to fail, by their numbers
 abbrev pub failing_calls : MemDisk → List ℕ
@@ -105,11 +106,13 @@ pub record BuildsLike (old : MemDisk) (path like : List ℕ) (new : MemDisk) : T
   pub order : AddsName (mem_state old).tree place (mem_state new).tree
   pub number : next_number new ≡ next_number old + 1
 
--- Every node that a crash may leave where the path leads, no link followed, or below has this device.
+-- Every node that a crash may leave where the path leads, no link followed, or below has this device, and so has every node that a crash might have
+-- left there at an earlier moment: a device belongs to a place, and to no change. What else each moment tells stays, and no time passes.
 pub record SetsDevice (old : DiskState) (path : List ℕ) (dev : ℕ) (new : DiskState) : Type 0 where
   pub place : NameList
   pub leads : reached_plain old.tree path ≡ Some place
-  pub advances : Advances old new (after_device place dev (outcomes_now old))
+  pub clock : new.clock ≡ old.clock
+  pub outcomes : (moment : ℕ) → new.outcomes moment ≡ after_device place dev (old.outcomes moment)
 
 -- the tree and the next number are as before
 pub record KeepsTree (old new : MemDisk) : Type 0 where

@@ -4,7 +4,6 @@ use Rattle.std.specs.Option.{option_and_then}
 use Rattle.std.specs.Str.{bytes_eq}
 use Rattle.sd_io.specs.Tree.{NameList, Name, Node, Tree, node_at}
 use Rattle.sd_io.specs.Paths.{steps}
-use Rattle.mem_io.specs.MemTree.{PutsDevice}
 use Rattle.mem_io.specs.declared.trail.Trail.{Trail, Top, Below'}
 
 abbrev pub names_of : Trail → NameList
@@ -26,10 +25,3 @@ begins_with (name ∷ place) (other ∷ q) = if bytes_eq name other then begins_
 -- the node of the place q, once the nodes whose places begin with `place` have another device
 abbrev pub dev_within : NameList → ℕ → NameList → Node → Node
 dev_within place dev q node = if begins_with place q then record node { dev = dev } else node
-
--- the parts lead to a node, no link followed; it and all nodes below it have this device
-pub record PutsDeviceFrom (old : Tree) (at : NameList) (parts : List Name) (dev : ℕ) (new : Tree) : Type 0 where
-  pub place : NameList
-  pub leads : steps old (λ folder target rest. None) false at parts ≡ Some place
-  pub stands : IsSome (node_at old place)
-  pub puts : PutsDevice old place dev new

@@ -105,16 +105,17 @@ impl MemDisk {
     }
 
     /// Gives the node at a path and all nodes below it another device, and so every node that a crash may leave there or
-    /// below. No link is followed.
+    /// below. No link is followed. Takes no memory.
     pub fn set_dev(&mut self, path: &str, dev: u64) -> Result<(), BuildFault>
         ensures put { OnOk result (PutsDeviceAt (mem_state self.old).tree path.now dev (mem_state self.new).tree) }
         ensures outcomes { OnOk result (SetsDevice (mem_state self.old) path.now dev (mem_state self.new)) }
         ensures bad_path { IsErrOf result BuildFault.BadPath → reached_plain (mem_state self.old).tree path.now ≡ None }
+        ensures only_bad_path { IfErr result (λ fault. fault ≡ BuildFault.BadPath) }
         ensures refused { OnErr result (SameTree (mem_state self.old) (mem_state self.new)) }
         ensures number { next_number self.new ≡ next_number self.old }
         ensures counts { KeepsCounts self.old self.new }
     {
-        if self.medium.set_dev(path, dev)? {
+        if self.medium.set_dev(path, dev) {
             Ok(())
         } else {
             Err(BuildFault::BadPath)

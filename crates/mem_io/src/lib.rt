@@ -4,6 +4,7 @@
 mod built_laws;
 mod calls;
 mod crash;
+mod devices;
 mod disk;
 mod fault;
 mod image_examples;

@@ -5,7 +5,7 @@ ghost use Rattle.sd_io.specs.Tree.{directory, file, SameOrders, SameOrdersBut, n
 ghost use Rattle.sd_io.specs.Paths.{parent_of, reached_plain};
 ghost use Rattle.sd_io.specs.Files.{file_of};
 ghost use Rattle.mem_io.specs.MemNode.{content_of};
-ghost use Rattle.mem_io.specs.MemTree.{IsPlaceIn, Adds, AddsName, PutsBytes, TakesAway, Moves, PutsDeviceAt};
+ghost use Rattle.mem_io.specs.MemTree.{IsPlaceIn, Adds, AddsName, PutsBytes, TakesAway, Moves};
 ghost use Rattle.mem_io.specs.MemTreeView.{mem_tree};
 ghost use Rattle.mem_io.specs.Log.{IsKept, outcomes_after, IsKept-prop};
 ghost use Rattle.mem_io.specs.declared.log.Change.TheVariants as change;
@@ -23,17 +23,19 @@ use std::alloc::Global;
 pub struct Medium {
     pub tree: MemTree,
     pub log: ChangeLog,
-    ghost kept: { IsKept (mem_tree tree) (outcomes_after log.changes.items) } by { IsKept-prop _ _ },
+    ghost kept: { IsKept (mem_tree tree) (outcomes_after log.first_dev log.changes.items) } by { IsKept-prop _ _ },
 }
 
 impl Medium {
-    ghost use Rattle.mem_io.specs.Medium.{told_tree, changes_of, Notes, NotesOnly, SameMedium, NotesBuilt, NotesSynced, NotesDevice, NotesWritten, CanRename, IsHindered, NotesMoved, NotesNotMoved, NotesUnmoved};
+    ghost use Rattle.mem_io.specs.MemDevices.{PutsDeviceBy};
+    ghost use Rattle.mem_io.specs.Medium.{told_tree, first_of, changes_of, Notes, NotesOnly, SameMedium, NotesBuilt, NotesSynced, NotesWritten, CanRename, IsHindered, NotesMoved, NotesNotMoved, NotesUnmoved};
 
     /// A top directory alone, of device 1.
     pub fn new(alloc: Global) -> Medium
         ensures top { result.tree.top ≡ record { content = directory; dev = 1; ino = 1 } }
         ensures nodes { result.tree.nodes.entries ≡ [] }
         ensures number { result.tree.next_ino ≡ 2 }
+        ensures first { first_of result ≡ 1 }
         ensures changes { changes_of result ≡ [] }
     {
         Medium {
@@ -139,10 +141,11 @@ impl Medium {
         if from == to {
             return Ok(());
         }
+        let dev = self.tree.dev(&from);
         let target = to.try_clone()?;
         self.log.reserve()?;
         self.tree.rename(&from, to)?;
-        self.log.note(Change::Moved(from, target));
+        self.log.note(Change::Moved(from, target, dev));
         Ok(())
     }
 
@@ -177,8 +180,9 @@ impl Medium {
         if source == target {
             return Ok(());
         }
+        let dev = self.tree.dev(&source);
         self.log.reserve()?;
-        self.log.note(Change::NotMoved(source, target));
+        self.log.note(Change::NotMoved(source, target, dev));
         Ok(())
     }
 
@@ -209,22 +213,12 @@ impl Medium {
 
     /// Gives the node at a path, no link followed, and all nodes below it another device, and so every node that a crash may
     /// leave there or below. Answers whether something stands there.
-    pub fn set_dev(&mut self, path: &str, dev: u64) -> Result<bool, NoMemory>
-        ensures put { IfOk result (λ stands. IsTrue stands → PutsDeviceAt (told_tree self.old) path.now dev (told_tree self.new)) }
-        ensures noted { IfOk result (λ stands. IsTrue stands → NotesDevice self.old path.now dev self.new) }
-        ensures nowhere { IfOk result (λ stands. stands ≡ false → reached_plain (told_tree self.old) path.now ≡ None) }
-        ensures same { IfOk result (λ stands. stands ≡ false → SameMedium self.old self.new) }
+    pub fn set_dev(&mut self, path: &str, dev: u64) -> bool
+        ensures put { IsTrue result → PutsDeviceBy (told_tree self.old) path.now dev (told_tree self.new) self.old.log self.new.log }
+        ensures nowhere { result ≡ false → reached_plain (told_tree self.old) path.now ≡ None }
+        ensures same { result ≡ false → SameMedium self.old self.new }
         ensures number { self.new.tree.next_ino ≡ self.old.tree.next_ino }
-        ensures refused { OnErr result (SameMedium self.old self.new) }
     {
-        let Some(place) = self.tree.reached_plain(path)? else {
-            return Ok(false);
-        };
-        self.log.reserve()?;
-        let stands = self.tree.put_dev(path, dev);
-        if stands {
-            self.log.note(Change::DeviceSet(place, dev));
-        }
-        Ok(stands)
+        self.tree.put_dev(path, dev, &mut self.log)
     }
 }

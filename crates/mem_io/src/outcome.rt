@@ -2,12 +2,11 @@
 
 ghost use Rattle.std.specs.Prelude.{◌≡◌, ◌↔◌, ◌++◌, ◌∷◌, [], map, true, option_map, IsTrue, IfOk, OnOk};
 ghost use Rattle.sd_io.specs.Outcomes.{own, older, own_of, left_behind, settled};
-ghost use Rattle.mem_io.specs.Log.{is_gone, has_other, crash_content, chosen, outcome_within};
+ghost use Rattle.mem_io.specs.Log.{is_gone, has_other, crash_content, chosen, outcome_on};
 ghost use Rattle.mem_io.specs.MemNode.{content_of};
 ghost use Rattle.mem_io.specs.MemOutcome.{left_of};
 
 use crate::node::{MemContent, MemNode};
-use crate::place::Place;
 use sd_io::NoMemory;
 use std::alloc::Global;
 use std::marker::Model;
@@ -109,13 +108,11 @@ impl MemOutcome {
         Ok(())
     }
 
-    /// Gives a node at the place `at` another device, where it begins with the names of `place`.
-    fn set_dev(&mut self, place: &Place, at: &Place, dev: u64)
-        ensures { self.new ≡ outcome_within place.now dev at.now self.old }
+    /// Gives a node this device.
+    fn put_dev(&mut self, dev: u64)
+        ensures { self.new ≡ outcome_on dev self.old }
     {
-        if let MemLeft::This(node) = &mut self.left
-            && at.is_within(place)
-        {
+        if let MemLeft::This(node) = &mut self.left {
             node.put_dev(dev);
         }
     }
@@ -198,12 +195,12 @@ impl OutcomeList {
         Ok(())
     }
 
-    /// Gives each node at the place `at` another device, where it begins with the names of `place`.
-    pub fn set_dev(&mut self, place: &Place, at: &Place, dev: u64)
-        ensures { self.new ≡ map (outcome_within place.now dev at.now) self.old }
+    /// Gives each node this device.
+    pub fn put_dev(&mut self, dev: u64)
+        ensures { self.new ≡ map (outcome_on dev) self.old }
     {
         for outcome in self.outcomes.iter_mut() {
-            outcome.set_dev(place, at, dev);
+            outcome.put_dev(dev);
         }
     }
 

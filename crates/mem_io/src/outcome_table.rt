@@ -1,8 +1,8 @@
 //! What a crash may leave at each place of a disk in memory.
 
 ghost use Rattle.std.specs.Prelude.{◌≡◌, ◌++◌, ◌∷◌, [], if◌then◌else◌, IfOk, OnOk};
-ghost use Rattle.sd_io.specs.Outcomes.{left_behind, put, is_in, never_used, built, after_sync, after_move, after_no_move};
-ghost use Rattle.mem_io.specs.Log.{at_first, after, in_folder, after_device, outcomes_after};
+ghost use Rattle.sd_io.specs.Outcomes.{left_behind, put, is_in, never_used, built, after_sync};
+ghost use Rattle.mem_io.specs.Log.{first_on, after, after_move_on, after_no_move_on, in_folder, outcomes_after};
 
 use crate::log::{Change, ChangeLog};
 use crate::node::{MemContent, MemNode};
@@ -34,24 +34,24 @@ fn settle_in(folder: &Place, place: &Place, list: &mut OutcomeList) -> bool
 impl OutcomeTable {
     ghost use Rattle.mem_io.specs.OutcomeTable.{outcomes_of, Counts};
 
-    /// Of a new disk: the top directory stands alone.
-    fn new(alloc: Global) -> Result<OutcomeTable, NoMemory>
-        ensures { IfOk result (λ table. outcomes_of table ≡ at_first) }
+    /// Of a new disk whose top has this device: the top directory stands alone.
+    fn new(alloc: Global, first_dev: u64) -> Result<OutcomeTable, NoMemory>
+        ensures { IfOk result (λ table. outcomes_of table ≡ first_on first_dev) }
     {
         let mut table = OutcomeTable {
             alloc,
             lists: BTreeMap::new(alloc),
         };
-        let top = MemNode::new(MemContent::Directory, 1, 1);
+        let top = MemNode::new(MemContent::Directory, first_dev, 1);
         table.build(&Place::top(alloc), top)?;
         Ok(table)
     }
 
     /// After all changes of a new disk.
     pub fn after(alloc: Global, log: &ChangeLog) -> Result<OutcomeTable, NoMemory>
-        ensures { IfOk result (λ table. outcomes_of table ≡ outcomes_after log.now.changes.items) }
+        ensures { IfOk result (λ table. outcomes_of table ≡ outcomes_after log.now.first_dev log.now.changes.items) }
     {
-        let mut table = OutcomeTable::new(alloc)?;
+        let mut table = OutcomeTable::new(alloc, log.first_dev)?;
         for change in log.changes.iter() {
             table.note(change)?;
         }
@@ -111,12 +111,13 @@ impl OutcomeTable {
         self.put(place, list)
     }
 
-    /// A file goes from one place to another.
-    fn rename(&mut self, from: &Place, to: &Place) -> Result<(), NoMemory>
-        ensures { OnOk result (outcomes_of self.new ≡ after_move from.now to.now (outcomes_of self.old)) }
+    /// A file of this device goes from one place to another.
+    fn rename(&mut self, from: &Place, to: &Place, dev: u64) -> Result<(), NoMemory>
+        ensures { OnOk result (outcomes_of self.new ≡ after_move_on from.now to.now dev (outcomes_of self.old)) }
     {
         let mut coming = self.list(from)?;
         coming.keep_own();
+        coming.put_dev(dev);
         let mut list = self.list(to)?;
         list.leave_behind();
         list.append(coming)?;
@@ -124,12 +125,13 @@ impl OutcomeTable {
         self.put(to, list)
     }
 
-    /// A file that was to go to another place stays.
-    fn unsettle(&mut self, from: &Place, to: &Place) -> Result<(), NoMemory>
-        ensures { OnOk result (outcomes_of self.new ≡ after_no_move from.now to.now (outcomes_of self.old)) }
+    /// A file of this device that was to go to another place stays.
+    fn unsettle(&mut self, from: &Place, to: &Place, dev: u64) -> Result<(), NoMemory>
+        ensures { OnOk result (outcomes_of self.new ≡ after_no_move_on from.now to.now dev (outcomes_of self.old)) }
     {
         let mut coming = self.list(from)?;
         coming.keep_own();
+        coming.put_dev(dev);
         coming.leave_behind();
         let mut list = self.list(to)?;
         list.append(coming)?;
@@ -145,16 +147,6 @@ impl OutcomeTable {
             .retain(|place, list| settle_in(folder, place, list));
     }
 
-    /// A node and all below it have another device.
-    fn set_dev(&mut self, place: &Place, dev: u64)
-        ensures { outcomes_of self.new ≡ after_device place.now dev (outcomes_of self.old) }
-    {
-        self.lists.retain(|at, list| {
-            list.set_dev(place, at, dev);
-            true
-        });
-    }
-
     /// One change more.
     fn note(&mut self, change: &Change) -> Result<(), NoMemory>
         ensures { OnOk result (outcomes_of self.new ≡ after change.now (outcomes_of self.old)) }
@@ -163,18 +155,14 @@ impl OutcomeTable {
             Change::Created(place) => self.replace(place, MemOutcome::own(MemLeft::AnyFile)),
             Change::Written(place) => self.add(place, MemOutcome::own(MemLeft::AnyFile)),
             Change::Synced(place, node) => self.sync(place, node),
-            Change::Moved(from, to) => self.rename(from, to),
-            Change::NotMoved(from, to) => self.unsettle(from, to),
+            Change::Moved(from, to, dev) => self.rename(from, to, *dev),
+            Change::NotMoved(from, to, dev) => self.unsettle(from, to, *dev),
             Change::Removed(place) => self.replace(place, MemOutcome::older(MemLeft::Gone)),
             Change::FolderSynced(folder) => {
                 self.sync_folder(folder);
                 Ok(())
             }
             Change::Built(place, node) => self.build(place, node.try_clone(self.alloc)?),
-            Change::DeviceSet(place, dev) => {
-                self.set_dev(place, *dev);
-                Ok(())
-            }
         }
     }
 

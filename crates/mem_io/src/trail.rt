@@ -3,11 +3,11 @@
 ghost use Rattle.std.specs.Prelude.{◌≡◌, ◌↔◌, IsTrue, List, ℕ, [], false, option_map};
 ghost use Rattle.std.specs.Borrow.{Bor};
 ghost use Rattle.sd_io.specs.Tree.{node_at, is_directory_at};
-ghost use Rattle.sd_io.specs.Paths.{parent_of, kept, pieces_left, reached_plain, plain_file};
+ghost use Rattle.sd_io.specs.Paths.{parent_of, kept, pieces_left, plain_file};
 ghost use Rattle.mem_io.specs.MemNode.{now_of};
 ghost use Rattle.mem_io.specs.MemTreeView.{mem_tree};
-ghost use Rattle.mem_io.specs.MemTree.{PutsDevice, PutsDeviceAt};
-ghost use Rattle.mem_io.specs.MemTrail.{names_of, plain_node, begins_with, dev_within, PutsDeviceFrom};
+ghost use Rattle.mem_io.specs.MemTrail.{names_of, plain_node, begins_with, dev_within};
+ghost use Rattle.mem_io.specs.Log.{number_within};
 
 use crate::node::MemNode;
 use crate::path::{cut, is_dropped};
@@ -17,7 +17,7 @@ use sd_io::Text;
 
 /// A name list that takes no memory: the top, or a name below another.
 #[derive(Clone, Copy)]
-enum Trail<'a> {
+pub enum Trail<'a> {
     Top,
     Below(&'a Trail<'a>, &'a str),
 }
@@ -49,7 +49,7 @@ fn is_within(names: &[Text], trail: &Trail<'_>) -> bool
 }
 
 /// Gives a node another device, where its place begins with a trail.
-fn put_dev_within(place: &Place, node: &mut MemNode, trail: &Trail<'_>, dev: u64)
+pub fn put_dev_within(place: &Place, node: &mut MemNode, trail: &Trail<'_>, dev: u64)
     ensures { node.new ≡ dev_within (names_of trail.now) dev place.now node.old }
 {
     if is_within(place.names(), trail) {
@@ -58,7 +58,7 @@ fn put_dev_within(place: &Place, node: &mut MemNode, trail: &Trail<'_>, dev: u64
 }
 
 /// Gives the top another device, where the trail is the top.
-fn put_dev_of_top(top: &mut MemNode, trail: &Trail<'_>, dev: u64)
+pub fn put_dev_of_top(top: &mut MemNode, trail: &Trail<'_>, dev: u64)
     ensures { top.new ≡ dev_within (names_of trail.now) dev [] top.old }
 {
     if let Trail::Top = trail {
@@ -66,8 +66,29 @@ fn put_dev_of_top(top: &mut MemNode, trail: &Trail<'_>, dev: u64)
     }
 }
 
+/// The device of the top, another where the trail is the top.
+pub fn dev_of_top(trail: &Trail<'_>, was: u64, dev: u64) -> u64
+    ensures { result ≡ number_within (names_of trail.now) dev [] was }
+{
+    match trail {
+        Trail::Top => dev,
+        Trail::Below(_, _) => was,
+    }
+}
+
+/// The device at a place, another where the place begins with a trail.
+pub fn device_at(place: &Place, trail: &Trail<'_>, was: u64, dev: u64) -> u64
+    ensures { result ≡ number_within (names_of trail.now) dev place.now was }
+{
+    if is_within(place.names(), trail) {
+        dev
+    } else {
+        was
+    }
+}
+
 /// The trail without its last name; the top stays.
-fn above<'a>(trail: &'a Trail<'a>) -> &'a Trail<'a>
+pub fn above<'a>(trail: &'a Trail<'a>) -> &'a Trail<'a>
     ensures { names_of result.now ≡ parent_of (names_of trail.now) }
 {
     match trail {
@@ -78,7 +99,7 @@ fn above<'a>(trail: &'a Trail<'a>) -> &'a Trail<'a>
 
 impl MemTree {
     /// What stands at the end of a trail. Takes no memory, in time of the number of nodes.
-    fn node_on(&self, trail: &Trail<'_>) -> Option<&MemNode>
+    pub fn node_on(&self, trail: &Trail<'_>) -> Option<&MemNode>
         ensures { now_of result ≡ node_at (mem_tree self.now) (names_of trail.now) }
     {
         if let Trail::Top = trail {
@@ -93,7 +114,7 @@ impl MemTree {
     }
 
     /// Whether a directory stands at the end of a trail. Takes no memory.
-    fn is_directory_on(&self, trail: &Trail<'_>) -> bool
+    pub fn is_directory_on(&self, trail: &Trail<'_>) -> bool
         ensures { result ≡ is_directory_at (mem_tree self.now) (names_of trail.now) }
     {
         match self.node_on(trail) {
@@ -132,60 +153,5 @@ impl MemTree {
         }
         let node = self.node_from(&Trail::Top, Some(path))?;
         Some((node.bytes()?, node.mode()?))
-    }
-
-    /// Gives the node at the end of a trail and all nodes below it another device. Takes no memory.
-    fn put_dev_on(&mut self, trail: &Trail<'_>, dev: u64)
-        ensures put { PutsDevice (mem_tree self.old) (names_of trail.now) dev (mem_tree self.new) }
-        ensures number { self.new.next_ino ≡ self.old.next_ino }
-    {
-        put_dev_of_top(&mut self.top, trail, dev);
-        self.nodes.retain(|place, node| {
-            put_dev_within(place, node, trail, dev);
-            true
-        });
-    }
-
-    /// Gives the node that the rest of a path leads to from the end of a trail, no link followed, and all nodes below it
-    /// another device. Answers whether something stands there. Takes no memory.
-    fn put_dev_from(&mut self, trail: &Trail<'_>, rest: Option<&str>, dev: u64) -> bool
-        ensures put { IsTrue result → PutsDeviceFrom (mem_tree self.old) (names_of trail.now) (kept (pieces_left (now_of rest.entry))) dev (mem_tree self.new) }
-        ensures nowhere { result ≡ false → plain_node (mem_tree self.old) (names_of trail.now) (kept (pieces_left (now_of rest.entry))) ≡ None }
-        ensures same { result ≡ false → mem_tree self.new ≡ mem_tree self.old }
-        ensures number { self.new.next_ino ≡ self.old.next_ino }
-    {
-        let Some(path) = rest else {
-            let stands = self.node_on(trail).is_some();
-            if stands {
-                self.put_dev_on(trail, dev);
-            }
-            return stands;
-        };
-        let (part, rest) = cut(path);
-        if is_dropped(part) {
-            return self.put_dev_from(trail, rest, dev);
-        }
-        if !self.is_directory_on(trail) {
-            return false;
-        }
-        if part == ".." {
-            return self.put_dev_from(above(&*trail), rest, dev);
-        }
-        let next = Trail::Below(&*trail, part);
-        self.put_dev_from(&next, rest, dev)
-    }
-
-    /// Gives the node at a path, no link followed, and all nodes below it another device. Answers whether something
-    /// stands there. Takes no memory.
-    pub fn put_dev(&mut self, path: &str, dev: u64) -> bool
-        ensures put { IsTrue result → PutsDeviceAt (mem_tree self.old) path.now dev (mem_tree self.new) }
-        ensures nowhere { result ≡ false → reached_plain (mem_tree self.old) path.now ≡ None }
-        ensures same { result ≡ false → mem_tree self.new ≡ mem_tree self.old }
-        ensures number { self.new.next_ino ≡ self.old.next_ino }
-    {
-        if path.is_empty() {
-            return false;
-        }
-        self.put_dev_from(&Trail::Top, Some(path), dev)
     }
 }

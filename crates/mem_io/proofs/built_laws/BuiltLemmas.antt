@@ -29,7 +29,7 @@ built_alone old new path content b alone =
 pub device_alone : (old new : DiskState) (path : List ℕ) (dev : ℕ) → PutsDeviceAt old.tree path dev new.tree → SetsDevice old path dev new → IsAsBuilt old → IsAsBuilt new
 device_alone old new path dev p s alone =
     let there : PutsDevice old.tree s.place dev new.tree = subst (λ (q : NameList). PutsDevice old.tree q dev new.tree) (same_Some _ _ (sym p.leads ∙ s.leads)) p.puts in
-    told new.tree (outcomes_now new) (after_device s.place dev (outcomes_now old)) s.advances.now (alone_put old.tree new.tree s.place dev (outcomes_now old) there alone)
+    told new.tree (outcomes_now new) (after_device s.place dev (outcomes_now old)) ((λ i. new.outcomes (s.clock i)) ∙ s.outcomes old.clock) (alone_put old.tree new.tree s.place dev (outcomes_now old) there alone)
 
 pub same_alone : (old new : DiskState) → SameTree old new → IsAsBuilt old → IsAsBuilt new
 same_alone old new same alone q = (λ i. same.outcomes i (same.clock i) q) ∙ alone q ∙ ap (λ (t : Tree). alone_outcome (node_at t q)) (sym same.tree)

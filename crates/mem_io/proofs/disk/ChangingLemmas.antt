@@ -1,4 +1,4 @@
--- A node is built or removed, or gets another device.
+-- A node is built or removed.
 use Rattle.std.proofs.Common.{◌≡◌, ◌+◌, ℕ, List, [], ◌∷◌, sym, ◌∙◌, Bool, true}
 use Rattle.std.specs.Prelude.{Option, Some, is_some}
 use Rattle.sd_io.specs.Tree.{NameList, Content, SameOrdersBut, file_at}
@@ -6,9 +6,9 @@ use Rattle.sd_io.specs.Paths.{parent_of, named}
 use Rattle.sd_io.specs.Files.{Removes}
 use Rattle.mem_io.specs.MemTree.{IsFreePlace, Adds, AddsName, TakesAway}
 use Rattle.mem_io.specs.declared.log.Change.TheVariants as change
-use Rattle.mem_io.specs.Medium.{Notes, NotesBuilt, NotesDevice}
+use Rattle.mem_io.specs.Medium.{Notes, NotesBuilt}
 use Rattle.mem_io.specs.declared.disk.MemDisk.{MemDisk}
-use Rattle.mem_io.specs.MemDisk.{mem_state, next_number, Builds, SetsDevice}
+use Rattle.mem_io.specs.MemDisk.{mem_state, next_number, Builds}
 use Rattle.mem_io.proofs.disk.MomentLemmas.{advances}
 
 pub builds : (old new : MemDisk) (path : List ℕ) (content : Content) (place : NameList) → IsFreePlace (mem_state old).tree path place → Adds (mem_state old).tree place content (next_number old) (mem_state new).tree
@@ -23,9 +23,6 @@ builds old new path content place free adds order number n = record {
   stands = n.stands;
   advances = advances old new (change.Built place n.node) n.noted;
 }
-
-pub sets_device : (old new : MemDisk) (path : List ℕ) (dev : ℕ) → NotesDevice old.medium path dev new.medium → SetsDevice (mem_state old) path dev (mem_state new)
-sets_device old new path dev n = record { place = n.place; leads = n.leads; advances = advances old new (change.DeviceSet n.place dev) n.noted }
 
 pub removes : (old new : MemDisk) (path : List ℕ) (found : Option NameList) (place : NameList) (test : Bool) → found ≡ named (mem_state old).tree path → found ≡ Some place → test ≡ is_some (file_at (mem_state old).tree place)
     → test ≡ true → TakesAway (mem_state old).tree place (mem_state new).tree → SameOrdersBut (parent_of place ∷ []) (mem_state old).tree (mem_state new).tree → Notes old.medium (change.Removed place) new.medium

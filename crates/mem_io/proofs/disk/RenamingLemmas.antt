@@ -1,15 +1,17 @@
 -- A regular file is renamed, or not.
-use Rattle.std.proofs.Common.{◌≡◌, ◌≢◌, ◌⊎◌, inl, inr, List, ℕ, [], ◌∷◌}
+use Rattle.std.proofs.Common.{subst, ◌≡◌, ◌≢◌, ◌⊎◌, inl, inr, List, ℕ, [], ◌∷◌}
 use Rattle.sd_io.specs.Tree.{NameList, SameOrdersBut}
 use Rattle.sd_io.specs.Paths.{parent_of}
+use Rattle.sd_io.specs.Disk.{Advances, outcomes_now}
 use Rattle.sd_io.specs.Files.{Renames, CannotRename, MayHaveRenamed}
-use Rattle.mem_io.specs.MemTree.{Moves}
+use Rattle.mem_io.specs.MemTree.{Moves, dev_at}
 use Rattle.mem_io.specs.declared.log.Change.TheVariants as change
 use Rattle.mem_io.specs.Medium.{SameMedium, CanRename, IsHindered, NotesMoved, NotesUnmoved}
 use Rattle.mem_io.specs.declared.disk.MemDisk.{MemDisk}
 use Rattle.mem_io.specs.MemDisk.{mem_state}
 use Rattle.sd_io.proofs.WayLemmas.{same_or_other}
-use Rattle.mem_io.proofs.disk.MomentLemmas.{advances, same_told}
+use Rattle.mem_io.proofs.disk.MomentLemmas.{advances, same_told, kept_now}
+use Rattle.mem_io.proofs.log.OwnDeviceLemmas.{moves_with_device, stays_with_device}
 
 pub renames : (old new : MemDisk) (from to : List ℕ) (source target : NameList) → CanRename (mem_state old).tree from to source target → Moves (mem_state old).tree source target (mem_state new).tree
     → SameOrdersBut (parent_of source ∷ parent_of target ∷ []) (mem_state old).tree (mem_state new).tree → NotesMoved old.medium source target new.medium → Renames (mem_state old) from to (mem_state new)
@@ -25,7 +27,9 @@ renames old new from to source target can m orders n = record {
   others = m.others;
   orders = orders;
   kept = λ one. same_told old new (n.same one);
-  advances = λ two. advances old new (change.Moved source target) (n.noted two);
+  advances = λ two.
+      subst (Advances (mem_state old) (mem_state new)) (moves_with_device (mem_state old).tree source target (outcomes_now (mem_state old)) (kept_now old) can.is_file)
+      (advances old new (change.Moved source target (dev_at (mem_state old).tree source)) (n.noted two));
 }
 
 -- what hinders a renaming
@@ -47,5 +51,7 @@ may_have_renamed old new from to (inr n) = inr (inl (record {
   may_come = n.can.may_come;
   tree = elim (same_or_other n.source n.target) [ inl one ↦ (n.notes.same one).tree | inr two ↦ (n.notes.noted two).tree ];
   kept = λ one. same_told old new (n.notes.same one);
-  advances = λ two. advances old new (change.NotMoved n.source n.target) (n.notes.noted two).noted;
+  advances = λ two.
+      subst (Advances (mem_state old) (mem_state new)) (stays_with_device (mem_state old).tree n.source n.target (outcomes_now (mem_state old)) (kept_now old) n.can.is_file)
+      (advances old new (change.NotMoved n.source n.target (dev_at (mem_state old).tree n.source)) (n.notes.noted two).noted);
 }))

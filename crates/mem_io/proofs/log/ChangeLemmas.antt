@@ -6,9 +6,10 @@ use Rattle.sd_io.specs.Tree.{Name, NameList, Content, directory, link, file, oth
 use Rattle.mem_io.specs.MemTree.{IsPlaceIn, Adds, PutsBytes, TakesAway, Moves, dev_at}
 use Rattle.sd_io.specs.Paths.{parent_of}
 use Rattle.sd_io.specs.Outcomes.{Left, gone, this, any_file, Outcome, own, older, Outcomes, never_used, built, put, own_of, left_behind, is_in, settled, alone, after_create, after_write, after_sync, after_move, after_no_move, after_remove, after_folder_sync, content_of, content_at}
-use Rattle.mem_io.specs.Log.{fits_test, is_left, is_own_of, is_tidy, has_other, in_folder, alone_by_own, at_first, new_top, IsKept}
+use Rattle.mem_io.specs.Log.{fits_test, is_left, is_own_of, is_tidy, has_other, has_devices, in_folder, alone_by_own, at_first, new_top, IsKept}
 use Rattle.sd_io.proofs.OutcomeLemmas.{put_there, put_elsewhere, own_append, own_behind, own_twice}
 use Rattle.mem_io.proofs.tree.TreeLemmas.{same_or_other, same_ends, below_top, file_or_directory}
+use Rattle.mem_io.proofs.log.OwnDeviceLemmas.{devices_more, devices_behind, devices_gone, devices_any, devices_built, devices_own, devices_alone, devices_settled}
 use Rattle.mem_io.proofs.log.TestLemmas.{content_itself, any_last, left_more, any_file_last, settled_left_still, none_own, free_tidy_more, alone_told, alone_left, alone_tidy, alone_other, file_is, standing_other}
 
 -- ---- directories stay
@@ -59,8 +60,8 @@ file_lies tree outcomes place kept is_file = left_lies tree outcomes place kept 
 -- ---- one place changes
 
 put_keeps : (old new : Tree) (place : NameList) (list : List Outcome) (outcomes : Outcomes) → SameBut place old new → DirectoriesStay old new → LiesIn old place
-    → is_left (content_at new place) list ≡ true → is_tidy (content_at new place) list ≡ true → IsKept old outcomes → IsKept new (put place list outcomes)
-put_keeps old new place list outcomes others stay lies left tidy kept = record {
+    → is_left (content_at new place) list ≡ true → is_tidy (content_at new place) list ≡ true → has_devices (node_at new place) list ≡ true → IsKept old outcomes → IsKept new (put place list outcomes)
+put_keeps old new place list outcomes others stay lies left tidy devices kept = record {
   present = λ q. elim (same_or_other q place) [
     | inl here ↦ (λ i. is_left (content_at new (here i)) (put place list outcomes (here i))) ∙ ap (is_left (content_at new place)) (put_there place list outcomes) ∙ left
     | inr n ↦ (λ i. is_left (content_of (others q n i)) (put_elsewhere place list outcomes q n i)) ∙ kept.present q
@@ -68,6 +69,10 @@ put_keeps old new place list outcomes others stay lies left tidy kept = record {
   tidy = λ q. elim (same_or_other q place) [
     | inl here ↦ (λ i. is_tidy (content_at new (here i)) (put place list outcomes (here i))) ∙ ap (is_tidy (content_at new place)) (put_there place list outcomes) ∙ tidy
     | inr n ↦ (λ i. is_tidy (content_of (others q n i)) (put_elsewhere place list outcomes q n i)) ∙ kept.tidy q
+  ];
+  devices = λ q. elim (same_or_other q place) [
+    | inl here ↦ (λ i. has_devices (node_at new (here i)) (put place list outcomes (here i))) ∙ ap (has_devices (node_at new place)) (put_there place list outcomes) ∙ devices
+    | inr n ↦ (λ i. has_devices (others q n i) (put_elsewhere place list outcomes q n i)) ∙ kept.devices q
   ];
   folders = λ folder name e. elim (same_or_other (folder ++ name ∷ []) place) [
     | inl here ↦ stay folder (lies.in_directory folder name (sym here))
@@ -88,16 +93,18 @@ create_keeps old new place bytes mode ino outcomes is_place free adds kept =
     let content : content_at new place ≡ Some (file bytes mode) = ap content_of adds.stands in
     let list = left_behind (outcomes place) ++ own any_file ∷ [] in
     put_keeps old new place list outcomes adds.others (stay_but old new place adds.others (free_no_directory (node_at old place) free)) (place_lies old place is_place)
-    (ap (λ c. is_left c list) content ∙ any_file_last bytes mode (left_behind (outcomes place))) (ap (λ c. is_tidy c list) content) kept
+    (ap (λ c. is_left c list) content ∙ any_file_last bytes mode (left_behind (outcomes place))) (ap (λ c. is_tidy c list) content)
+    (devices_more (node_at new place) (left_behind (outcomes place)) (own any_file ∷ []) (devices_behind (node_at new place) (outcomes place)) (devices_any (node_at new place))) kept
 
 -- a regular file stands there before and after
 pub write_keeps : (old new : Tree) (place : NameList) (outcomes : Outcomes) → IsSome (file_at old place) → IsSome (file_at new place) → SameBut place old new
-    → IsKept old outcomes → IsKept new (after_write place outcomes)
-write_keeps old new place outcomes was is others kept =
+    → has_devices (node_at new place) (outcomes place) ≡ true → IsKept old outcomes → IsKept new (after_write place outcomes)
+write_keeps old new place outcomes was is others devices kept =
     let f = file_is (node_at new place) is in
     let list = outcomes place ++ own any_file ∷ [] in
     put_keeps old new place list outcomes others (stay_but old new place others (file_or_directory (node_at old place) was)) (file_lies old outcomes place kept was)
-    (ap (λ c. is_left c list) f.1 ∙ any_file_last f.0.0 f.0.1 (outcomes place)) (ap (λ c. is_tidy c list) f.1) kept
+    (ap (λ c. is_left c list) f.1 ∙ any_file_last f.0.0 f.0.1 (outcomes place)) (ap (λ c. is_tidy c list) f.1)
+    (devices_more (node_at new place) (outcomes place) (own any_file ∷ []) devices (devices_any (node_at new place))) kept
 
 -- the tree stays, and the node that stands there is on the medium
 pub sync_keeps : (tree : Tree) (place : NameList) (node : Node) (outcomes : Outcomes) → node_at tree place ≡ Some node → IsSome (file_at tree place)
@@ -107,7 +114,8 @@ sync_keeps tree place node outcomes stands is_file kept =
     let list = map (settled node) (outcomes place) in
     put_keeps tree tree place list outcomes (λ q n. refl) (λ q is. is) (file_lies tree outcomes place kept is_file)
     (ap (λ o. is_left (content_of o) list) stands ∙ settled_left_still node (outcomes place) (ap (λ o. is_left (content_of o) (outcomes place)) (sym stands) ∙ kept.present place))
-    (ap (λ c. is_tidy c list) f.1) kept
+    (ap (λ c. is_tidy c list) f.1)
+    (ap (λ o. has_devices o list) stands ∙ devices_settled node (outcomes place) (ap (λ o. has_devices o (outcomes place)) (sym stands) ∙ kept.devices place)) kept
 
 pub remove_keeps : (old new : Tree) (place : NameList) (outcomes : Outcomes) → IsSome (file_at old place) → TakesAway old place new → IsKept old outcomes → IsKept new (after_remove place outcomes)
 remove_keeps old new place outcomes was takes kept =
@@ -115,7 +123,7 @@ remove_keeps old new place outcomes was takes kept =
     let list = left_behind (outcomes place) ++ older gone ∷ [] in
     put_keeps old new place list outcomes takes.others (stay_but old new place takes.others (file_or_directory (node_at old place) was)) (file_lies old outcomes place kept was)
     (ap (λ c. is_left c list) content ∙ any_last (λ outcome. fits_test None outcome.left) (left_behind (outcomes place)) (older gone) refl)
-    (ap (λ c. is_tidy c list) content ∙ ap not (none_own (outcomes place))) kept
+    (ap (λ c. is_tidy c list) content ∙ ap not (none_own (outcomes place))) (ap (λ o. has_devices o list) takes.gone) kept
 
 -- ---- a node is built
 
@@ -127,7 +135,7 @@ build_keeps old new place content ino outcomes is_place free adds kept =
     let stands : content_at new place ≡ Some content = ap content_of adds.stands in
     put_keeps old new place list outcomes adds.others (stay_but old new place adds.others (free_no_directory (node_at old place) free)) (place_lies old place is_place)
     (ap (λ c. is_left c list) stands ∙ ap (λ b. b || false) (content_itself content))
-    (ap (λ c. is_tidy c list) stands ∙ tidy content) kept
+    (ap (λ c. is_tidy c list) stands ∙ tidy content) (ap (λ o. has_devices o list) adds.stands ∙ devices_built node) kept
   where
     tidy : (c : Content) → is_tidy (Some c) (built (record { content = c; dev = dev_at old (parent_of place); ino = ino })) ≡ true
     tidy directory = refl
@@ -187,6 +195,14 @@ move_keeps old new source target outcomes two was is_place may_come m kept =
           | inr s ↦ (λ i. is_tidy (content_of (m.others q s n i)) (elsewhere q s n i)) ∙ kept.tidy q
         ]
       ];
+      devices = λ q. elim (same_or_other q target) [
+        | inl e ↦ (λ i. has_devices (node_at new (e i)) (put target arrives here (e i))) ∙ (λ i. has_devices (m.moved i) (put_there target arrives here i))
+            ∙ devices_own (node_at old source) arrives (outcomes source) own_there ∙ kept.devices source
+        | inr n ↦ elim (same_or_other q source) [
+          | inl e ↦ (λ i. has_devices (node_at new (e i)) (put target arrives here (e i))) ∙ (λ i. has_devices (m.gone two i) (at_source i))
+          | inr s ↦ (λ i. has_devices (m.others q s n i) (elsewhere q s n i)) ∙ kept.devices q
+        ]
+      ];
       folders = λ folder name h. stay folder ((lies (folder ++ name ∷ []) h).in_directory folder name refl);
       names = λ folder name h. (lies (folder ++ name ∷ []) h).is_name folder name refl;
     }
@@ -199,14 +215,16 @@ no_move_keeps tree source target outcomes two was is_place may_come kept =
     let stays = outcomes source ++ older gone ∷ [] in
     let here : IsKept tree (put source stays outcomes) =
     put_keeps tree tree source stays outcomes (λ q n. refl) (λ q is. is) (file_lies tree outcomes source kept was)
-    (left_more (content_at tree source) (outcomes source) (older gone ∷ []) (kept.present source)) (ap (λ c. is_tidy c stays) f.1) kept in
+    (left_more (content_at tree source) (outcomes source) (older gone ∷ []) (kept.present source)) (ap (λ c. is_tidy c stays) f.1)
+    (devices_more (node_at tree source) (outcomes source) (older gone ∷ []) (kept.devices source) (devices_gone (node_at tree source))) kept in
     let more = outcomes target ++ left_behind (own_of (outcomes source)) in
     put_keeps tree tree target more (put source stays outcomes) (λ q n. refl) (λ q is. is) (place_lies tree target is_place)
     (left_more (content_at tree target) (outcomes target) (left_behind (own_of (outcomes source))) (kept.present target))
     (elim may_come [
       | inl free ↦ ap (λ o. is_tidy (content_of o) more) free ∙ free_tidy_more (outcomes target) (own_of (outcomes source)) (ap (λ o. is_tidy (content_of o) (outcomes target)) (sym free) ∙ kept.tidy target)
       | inr g ↦ ap (λ c. is_tidy c more) (file_is (node_at tree target) g).1
-    ]) here
+    ])
+    (devices_more (node_at tree target) (outcomes target) (left_behind (own_of (outcomes source))) (kept.devices target) (devices_behind (node_at tree target) (own_of (outcomes source)))) here
 
 -- ---- the names in a folder are on the medium
 
@@ -221,6 +239,7 @@ pub folder_sync_keeps : (tree : Tree) (folder : NameList) (outcomes : Outcomes) 
 folder_sync_keeps tree folder outcomes kept = record {
   present = λ q. present q (is_in folder q);
   tidy = λ q. tidy q (is_in folder q);
+  devices = λ q. devices q (is_in folder q);
   folders = λ f n e. kept.folders f n (some_other (f ++ n ∷ []) (is_in folder (f ++ n ∷ [])) e);
   names = λ f n e. kept.names f n (some_other (f ++ n ∷ []) (is_in folder (f ++ n ∷ [])) e);
 }
@@ -232,6 +251,10 @@ folder_sync_keeps tree folder outcomes kept = record {
     tidy : (q : NameList) (b : Bool) → is_tidy (content_at tree q) (in_folder b (outcomes q)) ≡ true
     tidy q true = alone_tidy (content_at tree q) (outcomes q) (kept.present q) (kept.tidy q)
     tidy q false = kept.tidy q
+
+    devices : (q : NameList) (b : Bool) → has_devices (node_at tree q) (in_folder b (outcomes q)) ≡ true
+    devices q true = devices_alone (node_at tree q) (outcomes q) (kept.devices q)
+    devices q false = kept.devices q
 
     some_other : (q : NameList) (b : Bool) → has_other (in_folder b (outcomes q)) ≡ true → has_other (outcomes q) ≡ true
     some_other q true e = alone_other (outcomes q) e
@@ -248,6 +271,10 @@ new_kept tree top others = record {
   tidy = λ q. elim (same_or_other q []) [
     | inl e ↦ (λ i. is_tidy (content_at tree (e i)) (at_first (e i))) ∙ ap (λ o. is_tidy (content_of o) (at_first [])) top
     | inr n ↦ (λ i. is_tidy (content_of (others q n i)) (put_elsewhere [] (built new_top) (λ q. never_used) q n i))
+  ];
+  devices = λ q. elim (same_or_other q []) [
+    | inl e ↦ (λ i. has_devices (node_at tree (e i)) (at_first (e i))) ∙ ap (λ o. has_devices o (at_first [])) top ∙ devices_built new_top
+    | inr n ↦ (λ i. has_devices (others q n i) (put_elsewhere [] (built new_top) (λ q. never_used) q n i))
   ];
   folders = λ folder name e. absurd (nothing folder name e);
   names = λ folder name e. absurd (nothing folder name e);

@@ -7,9 +7,10 @@ use Rattle.sd_io.specs.Tree.{Name, NameList, Content, directory, link, file, oth
 use Rattle.mem_io.specs.MemTree.{PutsDevice}
 use Rattle.mem_io.specs.MemTrail.{begins_with, dev_within}
 use Rattle.sd_io.specs.Outcomes.{Left, gone, this, any_file, Outcome, Outcomes, own_of, content_of, content_at}
-use Rattle.mem_io.specs.Log.{fits_test, same_content, is_left, is_own_of, is_tidy, is_gone, has_other, left_within, outcome_within, after_device, IsKept}
+use Rattle.mem_io.specs.Log.{fits_test, same_content, is_left, is_own_of, is_tidy, is_gone, has_other, has_devices, left_within, outcome_within, after_device, IsKept}
 use Rattle.mem_io.proofs.trail.DeviceLemmas.{begins_more, rest_of}
 use Rattle.mem_io.proofs.trail.DeviceLemmas as device
+use Rattle.mem_io.proofs.log.OwnDeviceLemmas.{devices_within}
 
 -- ---- the tree
 
@@ -27,6 +28,24 @@ device_content old new place dev p q = by (begins_with place q) refl
         (λ i. content_at new (r.1 i)) ∙ ap content_of (p.within r.0) ∙ put_content dev (node_at old (place ++ r.0)) ∙ (λ i. content_at old (sym r.1 i))
     by false e = ap content_of (p.others q (λ rest is. false≢true (sym e ∙ ap (begins_with place) is ∙ begins_more place rest)))
 
+-- each place has its node, with the device where it begins with the names
+pub device_node : (old new : Tree) (place : NameList) (dev : ℕ) → PutsDevice old place dev new → (q : NameList) → node_at new q ≡ option_map (dev_within place dev q) (node_at old q)
+device_node old new place dev p q = by (begins_with place q) refl
+  where
+    within : (o : Option Node) → begins_with place q ≡ true → option_map (λ (node : Node). record node { dev = dev }) o ≡ option_map (dev_within place dev q) o
+    within None e = refl
+    within (Some node) e = ap (λ b. Some (cond b (record node { dev = dev }) node)) (sym e)
+
+    outside : (o : Option Node) → begins_with place q ≡ false → o ≡ option_map (dev_within place dev q) o
+    outside None e = refl
+    outside (Some node) e = ap (λ b. Some (cond b (record node { dev = dev }) node)) (sym e)
+
+    by : (b : Bool) → begins_with place q ≡ b → node_at new q ≡ option_map (dev_within place dev q) (node_at old q)
+    by true e =
+        let r = rest_of place q e in
+        (λ i. node_at new (r.1 i)) ∙ p.within r.0 ∙ (λ i. option_map (λ (node : Node). record node { dev = dev }) (node_at old (sym r.1 i))) ∙ within (node_at old q) e
+    by false e = p.others q (λ rest is. false≢true (sym e ∙ ap (begins_with place) is ∙ begins_more place rest)) ∙ outside (node_at old q) e
+
 -- whether a content is that of a directory
 abbrev is_directory_found : Option Content → Bool
 is_directory_found None = false
@@ -40,16 +59,6 @@ kind_by_content (Some node) = refl
 pub device_kind : (old new : Tree) (place : NameList) (dev : ℕ) → PutsDevice old place dev new → (q : NameList) → is_directory_at new q ≡ is_directory_at old q
 device_kind old new place dev p q =
     kind_by_content (node_at new q) ∙ ap is_directory_found (device_content old new place dev p q) ∙ sym (kind_by_content (node_at old q))
-
--- ---- the outcomes as they are
-
-pub device_keeps : (old new : Tree) (place : NameList) (dev : ℕ) (outcomes : Outcomes) → PutsDevice old place dev new → IsKept old outcomes → IsKept new outcomes
-device_keeps old new place dev outcomes p kept = record {
-  present = λ q. ap (λ c. is_left c (outcomes q)) (device_content old new place dev p q) ∙ kept.present q;
-  tidy = λ q. ap (λ c. is_tidy c (outcomes q)) (device_content old new place dev p q) ∙ kept.tidy q;
-  folders = λ folder name e. device_kind old new place dev p folder ∙ kept.folders folder name e;
-  names = kept.names;
-}
 
 -- ---- the outcomes with the device
 
@@ -74,7 +83,7 @@ any_within : (place : NameList) (dev : ℕ) (q : NameList) (found : Option Conte
 any_within place dev q found [] = refl
 any_within place dev q found (x ∷ xs) = λ i. fits_within place dev q found x.left i || any_within place dev q found xs i
 
-own_within : (place : NameList) (dev : ℕ) (q : NameList) (xs : List Outcome) → own_of (map (outcome_within place dev q) xs) ≡ map (outcome_within place dev q) (own_of xs)
+pub own_within : (place : NameList) (dev : ℕ) (q : NameList) (xs : List Outcome) → own_of (map (outcome_within place dev q) xs) ≡ map (outcome_within place dev q) (own_of xs)
 own_within place dev q [] = refl
 own_within place dev q (x ∷ xs) = by (own_within place dev q xs) x.is_own x.left
   where
@@ -107,12 +116,13 @@ other_same : (place : NameList) (dev : ℕ) (q : NameList) (xs : List Outcome) �
 other_same place dev q [] = refl
 other_same place dev q (x ∷ xs) = λ i. not (gone_within place dev q x.left i) || other_same place dev q xs i
 
-pub device_noted_keeps : (old new : Tree) (place : NameList) (dev : ℕ) (outcomes : Outcomes) → PutsDevice old place dev new → IsKept old outcomes → IsKept new (after_device place dev outcomes)
-device_noted_keeps old new place dev outcomes p kept =
-    let same = device_keeps old new place dev outcomes p kept in
-    record {
-      present = λ q. left_same place dev q (content_at new q) (outcomes q) ∙ same.present q;
-      tidy = λ q. tidy_same place dev q (content_at new q) (outcomes q) ∙ same.tidy q;
-      folders = λ folder name e. same.folders folder name (sym (other_same place dev (folder ++ name ∷ []) (outcomes (folder ++ name ∷ []))) ∙ e);
-      names = λ folder name e. kept.names folder name (sym (other_same place dev (folder ++ name ∷ []) (outcomes (folder ++ name ∷ []))) ∙ e);
-    }
+pub device_keeps : (old new : Tree) (place : NameList) (dev : ℕ) (outcomes : Outcomes) → PutsDevice old place dev new → IsKept old outcomes → IsKept new (after_device place dev outcomes)
+device_keeps old new place dev outcomes p kept = record {
+  present = λ q. left_same place dev q (content_at new q) (outcomes q) ∙ ap (λ c. is_left c (outcomes q)) (device_content old new place dev p q) ∙ kept.present q;
+  tidy = λ q. tidy_same place dev q (content_at new q) (outcomes q) ∙ ap (λ c. is_tidy c (outcomes q)) (device_content old new place dev p q) ∙ kept.tidy q;
+  devices = λ q.
+      ap (λ o. has_devices o (after_device place dev outcomes q)) (device_node old new place dev p q)
+      ∙ devices_within place dev q (node_at old q) (outcomes q) (own_within place dev q (outcomes q)) (kept.devices q);
+  folders = λ folder name e. device_kind old new place dev p folder ∙ kept.folders folder name (sym (other_same place dev (folder ++ name ∷ []) (outcomes (folder ++ name ∷ []))) ∙ e);
+  names = λ folder name e. kept.names folder name (sym (other_same place dev (folder ++ name ∷ []) (outcomes (folder ++ name ∷ []))) ∙ e);
+}

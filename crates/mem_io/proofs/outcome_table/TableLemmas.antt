@@ -82,17 +82,12 @@ retained_told T f g fixed calls (e ∷ es) left sorted h q =
         rest ∙ ap (λ (o : Option (List Outcome)). g q (unwrap_or o never_used)) (once q e es sorted is) ∙ fixed q ∙ call ∙ ap (λ p. g p e.1) (sym (name_list_exact q e.0 is))
         ∙ ap (λ (r : Ordering). g q (unwrap_or (cond (is_eq r) (Some e.1) (lookup (is_at (name_list_cmp q)) es)) never_used)) (sym is)
 
--- where each stays listed
-pub written_told : {F : Type 0} (T : F → NameList → List Outcome → Bool → List Outcome → F → Type 0) (f : F) (g : NameList → List Outcome → List Outcome) → ((q : NameList) → g q never_used ≡ never_used)
-    → ((k : NameList) (v : List Outcome) (b : Bool) (w : List Outcome) (f' : F) → T f k v b w f' → (b ≡ true) × (w ≡ g k v) × (f' ≡ f))
-    → (es left : List (NameList × List Outcome)) → IsStrictlySortedBy name_list_cmp (keys_of es) → RetainsPairs T f es left → (q : NameList) → told_outcomes left q ≡ g q (told_outcomes es q)
-written_told T f g fixed calls = retained_told T f g fixed (λ k v b w f' t. let call = calls k v b w f' t in (ap (λ b. cond b w never_used) call.0 ∙ call.1, call.2))
-
 -- ---- one change more
 
-pub noted_more : (changes : List Change) (i : ℕ) (change : Change) → i < length changes → change ≡ get_or changes i change → outcomes_after (take (i + 1) changes) ≡ after change (outcomes_after (take i changes))
-noted_more changes i change within is =
-    ap outcomes_after (take_more changes i change within ∙ ap (λ (x : Change). take i changes ++ x ∷ []) (sym is)) ∙ after_last (take i changes) change
+pub noted_more : (first : ℕ) (changes : List Change) (i : ℕ) (change : Change) → i < length changes → change ≡ get_or changes i change
+    → outcomes_after first (take (i + 1) changes) ≡ after change (outcomes_after first (take i changes))
+noted_more first changes i change within is =
+    ap (outcomes_after first) (take_more changes i change within ∙ ap (λ (x : Change). take i changes ++ x ∷ []) (sym is)) ∙ after_last first (take i changes) change
 
 -- ---- the places that count
 

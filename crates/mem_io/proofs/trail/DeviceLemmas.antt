@@ -17,10 +17,12 @@ use Rattle.std.proofs.lemmas.Bool.{false_from_ne_true, false≢true}
 use Rattle.std.proofs.lemmas.Option.{same_Some}
 use Rattle.sd_io.specs.Tree.{Name, NameList, Content, directory, link, file, other, Node, Tree, IsTree, name_list_cmp, node_at, is_directory_at, is_directory_node, is_directory_content}
 use Rattle.sd_io.specs.Paths.{Linking, through_node, steps, is_up, kept, pieces_of, parts_of, reached_plain}
-use Rattle.mem_io.specs.MemTree.{entries_below, by_number, listing, tree_of, PutsDevice, PutsDeviceAt}
+use Rattle.mem_io.specs.MemTree.{entries_below, by_number, listing, tree_of, PutsDevice}
 use Rattle.sd_io.specs.Lists.{name_below, raw_entry}
 use Rattle.mem_io.specs.MemSound.{IsNumbered, IsSound}
-use Rattle.mem_io.specs.MemTrail.{begins_with, dev_within, plain_node, PutsDeviceFrom}
+use Rattle.mem_io.specs.MemTrail.{begins_with, dev_within, plain_node}
+use Rattle.mem_io.specs.MemDevices.{PutsDeviceFrom, PutsDeviceBy}
+use Rattle.mem_io.specs.declared.log.ChangeLog.{ChangeLog}
 use Rattle.mem_io.proofs.tree.EntryLemmas.{name_list_exact, find-lookup, node_at_top, node_at_below}
 use Rattle.mem_io.proofs.tree.TreeLemmas.{IsRooted, same_or_other}
 use Rattle.mem_io.proofs.tree.ListingLemmas.{name_of}
@@ -236,12 +238,14 @@ module _ (tree : Tree) where
   steps_down at part parts q folder down stands e = rw (folder, down) (through at part parts q (node_at tree (at ++ part ∷ [])) refl stands e)
 
 -- a name leads on from a directory to the node that gets the device
-pub device_down : (old new : Tree) (at : NameList) (all parts : List Name) (part : Name) (dev : ℕ) → is_directory_at old at ≡ true → is_up part ≡ false → all ≡ part ∷ parts → PutsDeviceFrom old (at ++ part ∷ []) parts dev new → PutsDeviceFrom old at all dev new
-device_down old new at all parts part dev folder down is h = record {
+pub device_down : (old new : Tree) (log told : ChangeLog) (at : NameList) (all parts : List Name) (part : Name) (dev : ℕ) → is_directory_at old at ≡ true → is_up part ≡ false → all ≡ part ∷ parts
+    → PutsDeviceFrom old (at ++ part ∷ []) parts dev new log told → PutsDeviceFrom old at all dev new log told
+device_down old new log told at all parts part dev folder down is h = record {
   place = h.place;
   leads = ap (steps old (λ folder target rest. None) false at) is ∙ steps_down old at part parts h.place folder down h.stands h.leads;
   stands = h.stands;
   puts = h.puts;
+  tells = h.tells;
 }
 
 -- a path that isn't empty leads where its parts do
@@ -255,8 +259,8 @@ unfolding reached_plain
 empty_nowhere tree path none = ap (λ b. cond b None (steps tree (λ folder target rest. None) false [] (parts_of path))) none
 
 -- the parts of a path lead to the node that gets the device
-pub device_at : (old new : Tree) (path : List ℕ) (dev : ℕ) → bytes_eq path [] ≡ false → PutsDeviceFrom old [] (kept (pieces_of path)) dev new → PutsDeviceAt old path dev new
-device_at old new path dev some h = record { place = h.place; leads = reached_by_parts old path some ∙ h.leads; stands = h.stands; puts = h.puts }
+pub device_at : (old new : Tree) (log told : ChangeLog) (path : List ℕ) (dev : ℕ) → bytes_eq path [] ≡ false → PutsDeviceFrom old [] (kept (pieces_of path)) dev new log told → PutsDeviceBy old path dev new log told
+device_at old new log told path dev some h = record { place = h.place; leads = reached_by_parts old path some ∙ h.leads; stands = h.stands; puts = h.puts; tells = h.tells }
 
 -- where nothing stands the path leads nowhere
 pub leads_nowhere : (tree : Tree) → IsTree tree → (path : List ℕ) → bytes_eq path [] ≡ false → plain_node tree [] (kept (pieces_of path)) ≡ None → reached_plain tree path ≡ None

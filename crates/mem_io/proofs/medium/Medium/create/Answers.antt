@@ -13,6 +13,6 @@ invariant_of-self-2 c =
     let now = mem_tree c.add.new.self in
     let kept = create_keeps (mem_tree self.tree) now c.args.place _ c.args.mode _ _ c.requires.is_place c.requires.free c.in_ok-add.ensures.added self.kept in
     record {
-      kept = kept_after _ _ _ _ _ c.reserve.ensures.kept c.note.ensures
-          (subst (λ (q : NameList). IsKept now (after_create q (outcomes_after self.log.changes.items))) (sym c.in_ok-created.ensures) kept);
+      kept = kept_after _ _ _ _ _ _ _ _ c.reserve.ensures.first c.note.ensures.first c.reserve.ensures.kept c.note.ensures.noted
+          (subst (λ (q : NameList). IsKept now (after_create q (outcomes_after self.log.first_dev self.log.changes.items))) (sym c.in_ok-created.ensures) kept);
     }

@@ -10,18 +10,18 @@ use Rattle.mem_io.proofs.medium.Medium.keep_dev.Goals as goal
 
 pub returns-clause-outside : goal.returns-clause-outside
 returns-clause-outside c =
-    subst (λ (q : NameList). SameDevicesOutside q (told_tree c.args.self.now) (told_tree c.put_dev_at.new.self)) c.in_ok-try_clone.ensures
-    (outside_put (told_tree c.args.self.now) (told_tree c.put_dev_at.new.self) _ _ c.in_ok-put_dev_at.ensures.put)
+    subst (λ (q : NameList). SameDevicesOutside q (told_tree c.args.self.now) (told_tree c.put_dev_along.new.self)) c.names.ensures
+    (outside_put (told_tree c.args.self.now) (told_tree c.put_dev_along.new.self) _ _ c.put_dev_along.ensures.put)
 
 pub returns-clause-device : goal.returns-clause-device
 returns-clause-device c =
     let old = told_tree c.args.self.now in
-    let new = told_tree c.put_dev_at.new.self in
-    let puts : PutsDevice old c.args.place.now c.ident-dev.result.dev new = subst (λ (q : NameList). PutsDevice old q c.ident-dev.result.dev new) c.in_ok-try_clone.ensures c.in_ok-put_dev_at.ensures.put in
+    let new = told_tree c.put_dev_along.new.self in
+    let puts : PutsDevice old c.args.place.now c.ident-dev.result.dev new = subst (λ (q : NameList). PutsDevice old q c.ident-dev.result.dev new) c.names.ensures c.put_dev_along.ensures.put in
     node_left c.args.left.now c.in-This.node (dev_at new c.args.place.now) c.in-This.is (device_is_put old new c.args.place.now c.ident-dev.result.dev puts c.requires ∙ c.ident-dev.ensures.dev)
 
 pub returns-clause-contents : goal.returns-clause-contents
-returns-clause-contents c = device_content (told_tree c.args.self.now) (told_tree c.put_dev_at.new.self) _ _ c.in_ok-put_dev_at.ensures.put
+returns-clause-contents c = device_content (told_tree c.args.self.now) (told_tree c.put_dev_along.new.self) _ _ c.put_dev_along.ensures.put
 
 pub returns-clause-alone : goal.returns-clause-alone
-returns-clause-alone c = alone_device c.args.self.now c.put_dev_at.new.self _ _ c.in_ok-put_dev_at.ensures.put c.in_ok-put_dev_at.ensures.noted
+returns-clause-alone c = alone_device c.args.self.now c.put_dev_along.new.self _ _ c.put_dev_along.ensures.put c.put_dev_along.ensures.tells

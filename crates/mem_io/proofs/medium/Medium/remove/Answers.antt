@@ -7,6 +7,6 @@ pub invariant_of-self-2 : goal.invariant_of-self-2
 invariant_of-self-2 c =
     let self = c.args.self.now in
     record {
-      kept = kept_after _ _ _ _ _ c.reserve.ensures.kept c.note.ensures
+      kept = kept_after _ _ _ _ _ _ _ _ c.reserve.ensures.first c.note.ensures.first c.reserve.ensures.kept c.note.ensures.noted
           (remove_keeps (mem_tree self.tree) (mem_tree c.remove.new.self) c.args.place _ c.requires c.remove.ensures.removed self.kept);
     }

@@ -11,6 +11,6 @@ invariant_of-self-in-Some c =
     let self = c.args.self.now in
     let is_file : IsSome (file_at (mem_tree self.tree) c.in-Some.place) = sym c.is_file.ensures ∙ c.if-is_file.true in
     record {
-      kept = kept_after _ _ _ _ _ c.reserve.ensures.kept c.note.ensures
-          (write_keeps (mem_tree self.tree) (mem_tree self.tree) c.in-Some.place _ is_file is_file (λ q n. refl) self.kept);
+      kept = kept_after _ _ _ _ _ _ _ _ c.reserve.ensures.first c.note.ensures.first c.reserve.ensures.kept c.note.ensures.noted
+          (write_keeps (mem_tree self.tree) (mem_tree self.tree) c.in-Some.place _ is_file is_file (λ q n. refl) (self.kept.devices c.in-Some.place) self.kept);
     }

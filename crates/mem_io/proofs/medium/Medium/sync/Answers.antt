@@ -10,4 +10,4 @@ pub invariant_of-self-2 : goal.invariant_of-self-2
 invariant_of-self-2 c =
     let self = c.args.self.now in
     let stands : node_at (mem_tree self.tree) c.args.place ≡ Some c.in_ok-copy.copy = sym c.node.ensures ∙ ap now_of c.in-Some.is ∙ ap (λ (n : Node). Some n) (sym c.in_ok-copy.ensures) in
-    record { kept = kept_after _ _ _ _ _ c.reserve.ensures.kept c.note.ensures (sync_keeps (mem_tree self.tree) c.args.place c.in_ok-copy.copy _ stands c.requires self.kept) }
+    record { kept = kept_after _ _ _ _ _ _ _ _ c.reserve.ensures.first c.note.ensures.first c.reserve.ensures.kept c.note.ensures.noted (sync_keeps (mem_tree self.tree) c.args.place c.in_ok-copy.copy _ stands c.requires self.kept) }

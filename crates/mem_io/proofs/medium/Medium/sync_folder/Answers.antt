@@ -6,4 +6,4 @@ use Rattle.mem_io.proofs.medium.Medium.sync_folder.Goals as goal
 pub invariant_of-self-2 : goal.invariant_of-self-2
 invariant_of-self-2 c =
     let self = c.args.self.now in
-    record { kept = kept_after _ _ _ _ _ c.reserve.ensures.kept c.note.ensures (folder_sync_keeps (mem_tree self.tree) c.args.folder _ self.kept) }
+    record { kept = kept_after _ _ _ _ _ _ _ _ c.reserve.ensures.first c.note.ensures.first c.reserve.ensures.kept c.note.ensures.noted (folder_sync_keeps (mem_tree self.tree) c.args.folder _ self.kept) }

@@ -5,4 +5,4 @@ use Rattle.mem_io.proofs.outcome_table.OutcomeTable.after.Given as goal
 
 -- the outcomes after the changes so far
 abbrev pub invariant-loop-change : goal.invariant-loop-change
-invariant-loop-change l = outcomes_of l.table ≡ outcomes_after (take l.change-index l.change-items)
+invariant-loop-change l = outcomes_of l.table ≡ outcomes_after l.log.first_dev (take l.change-index l.change-items)

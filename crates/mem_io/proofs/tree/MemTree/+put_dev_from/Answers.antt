@@ -9,4 +9,4 @@ use Rattle.mem_io.proofs.tree.MemTree.+put_dev_from.Goals as goal
 pub returns-clause-put : goal.returns-clause-put
 returns-clause-put t c = λ stands.
     let parts = next_part (now_of c.args.rest) (now_of c.cut.result.1) c.in-Some.path.now c.cut.result.0.now (ap now_of c.in-Some.is) c.cut.ensures.pieces (sym c.if-is_dropped.ensures) in
-    device_down (mem_tree c.args.self.now) _ (names_of c.args.trail.now) _ _ c.cut.result.0.now c.args.dev (sym c.if-not-is_directory_on.ensures) (sym c.if-eq.ensures) parts (c.put_dev_from-2.ensures.put stands)
+    device_down (mem_tree c.args.self.now) _ c.args.log.now _ (names_of c.args.trail.now) _ _ c.cut.result.0.now c.args.dev (sym c.if-not-is_directory_on.ensures) (sym c.if-eq.ensures) parts (c.put_dev_from-2.ensures.put stands)

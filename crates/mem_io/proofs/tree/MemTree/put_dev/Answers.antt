@@ -9,7 +9,7 @@ returns-then-is_empty-clause-nowhere c = λ _. empty_nowhere (mem_tree c.args.se
 
 pub returns-clause-put : goal.returns-clause-put
 returns-clause-put c = λ stands.
-    device_at (mem_tree c.args.self.now) _ c.args.path.now c.args.dev (empty_path c.args.path.now c.is_empty.result c.is_empty.ensures ∙ c.if-is_empty.false) (c.put_dev_from.ensures.put stands)
+    device_at (mem_tree c.args.self.now) _ c.args.log.now _ c.args.path.now c.args.dev (empty_path c.args.path.now c.is_empty.result c.is_empty.ensures ∙ c.if-is_empty.false) (c.put_dev_from.ensures.put stands)
 
 pub returns-clause-nowhere : goal.returns-clause-nowhere
 returns-clause-nowhere c = λ nothing.
