@@ -6,7 +6,7 @@ use Rattle.std.specs.Str.{bytes_eq}
 use Rattle.std.specs.Cmp.Lexicographic.{bytes_decides}
 use Rattle.std.proofs.lemmas.Bool.{eqb-true}
 use Rattle.std.proofs.Math.Seq.{take-append_seam}
-use Rattle.sd_io.specs.Tree.{Content, directory, link, file, other, Tree}
+use Rattle.sd_io.specs.Tree.{Content, directory, link, file, other}
 use Rattle.sd_io.specs.Outcomes.{Left, gone, this, any_file, Outcome, Fits, Leaves, own_of, content_of}
 use Rattle.sd_io.specs.Disk.{DiskState, HoldsPresent, outcomes_now}
 use Rattle.mem_io.specs.Log.{same_content, fits_test, is_left, outcomes_by, outcomes_after, Tells, IsKept}

@@ -1,5 +1,5 @@
 -- On an image each place has one outcome.
-use Rattle.std.proofs.Common.{◌≡◌, ◌≢◌, [], ℕ, refl, sym, ◌∙◌, ap, inl, inr, map, Bool, true, false, cond}
+use Rattle.std.proofs.Common.{◌≡◌, ◌≢◌, [], ℕ, refl, sym, ◌∙◌, ap, inl, inr, map}
 use Rattle.std.specs.Prelude.{Option, Some, None, option_map}
 use Rattle.sd_io.specs.Tree.{NameList, Content, Node, Tree, SameBut, node_at}
 use Rattle.sd_io.specs.Outcomes.{Outcomes, never_used, built, put}

@@ -1,5 +1,5 @@
 -- Each node of an image has the device of its outcome.
-use Rattle.std.proofs.Common.{◌≡◌, ℕ, [], refl, sym, ◌∙◌, ap, Bool, true, false, append-nil}
+use Rattle.std.proofs.Common.{◌≡◌, ℕ, [], refl, sym, ◌∙◌, ap, true, append-nil}
 use Rattle.std.specs.Prelude.{Option, Some, None, is_some, IsSome, option_map}
 use Rattle.std.specs.Option.{option_map_or}
 use Rattle.std.proofs.lemmas.Bool.{false≢true}

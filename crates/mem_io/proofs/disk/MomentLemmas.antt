@@ -1,5 +1,5 @@
 -- The moments of a disk in memory.
-use Rattle.std.proofs.Common.{◌≡◌, ◌∙◌, ℕ, List, [], ◌∷◌, ◌++◌, length, sym, ap, subst}
+use Rattle.std.proofs.Common.{◌∙◌, ℕ, List, [], ◌∷◌, ◌++◌, length, sym, ap, subst}
 use Rattle.sd_io.specs.Disk.{SameTree, Advances, outcomes_now}
 use Rattle.mem_io.specs.declared.log.Change.{Change}
 use Rattle.mem_io.specs.Log.{after, outcomes_by, Tells, IsKept}

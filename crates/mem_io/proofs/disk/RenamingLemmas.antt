@@ -1,5 +1,5 @@
 -- A regular file is renamed, or not.
-use Rattle.std.proofs.Common.{subst, ◌≡◌, ◌≢◌, ◌⊎◌, inl, inr, List, ℕ, [], ◌∷◌}
+use Rattle.std.proofs.Common.{subst, ◌⊎◌, inl, inr, List, ℕ, [], ◌∷◌}
 use Rattle.sd_io.specs.Tree.{NameList, SameOrdersBut}
 use Rattle.sd_io.specs.Paths.{parent_of}
 use Rattle.sd_io.specs.Disk.{Advances, outcomes_now}

@@ -2,11 +2,11 @@
 use Rattle.std.proofs.Common.{◌≡◌, ◌≢◌, ◌⊎◌, ℕ, List, [], ◌∷◌, ◌++◌, map, refl, sym, ◌∙◌, ap, subst, Bool, true, false, cond, inl, inr}
 use Rattle.std.specs.Prelude.{Option, Some, None, IsSome, not, ◌||◌, ◌&&◌}
 use Rattle.std.specs.List.{list_any}
-use Rattle.sd_io.specs.Tree.{Name, NameList, Content, directory, link, file, other, Node, Tree, SameBut, IsName, node_at, file_at, file_node, file_content, is_directory_at, is_directory_node, is_directory_content}
-use Rattle.mem_io.specs.MemTree.{IsPlaceIn, Adds, PutsBytes, TakesAway, Moves, dev_at}
+use Rattle.sd_io.specs.Tree.{Name, NameList, Content, directory, link, file, other, Node, Tree, SameBut, IsName, node_at, file_at, file_node, is_directory_at, is_directory_node}
+use Rattle.mem_io.specs.MemTree.{IsPlaceIn, Adds, TakesAway, Moves, dev_at}
 use Rattle.sd_io.specs.Paths.{parent_of}
-use Rattle.sd_io.specs.Outcomes.{Left, gone, this, any_file, Outcome, own, older, Outcomes, never_used, built, put, own_of, left_behind, is_in, settled, alone, after_create, after_write, after_sync, after_move, after_no_move, after_remove, after_folder_sync, content_of, content_at}
-use Rattle.mem_io.specs.Log.{fits_test, is_left, is_own_of, is_tidy, has_other, has_devices, in_folder, alone_by_own, at_first, new_top, IsKept}
+use Rattle.sd_io.specs.Outcomes.{gone, any_file, Outcome, own, older, Outcomes, never_used, built, put, own_of, left_behind, is_in, settled, alone, after_create, after_write, after_sync, after_move, after_no_move, after_remove, after_folder_sync, content_of, content_at}
+use Rattle.mem_io.specs.Log.{fits_test, is_left, is_tidy, has_other, has_devices, in_folder, at_first, new_top, IsKept}
 use Rattle.sd_io.proofs.OutcomeLemmas.{put_there, put_elsewhere, own_append, own_behind, own_twice}
 use Rattle.mem_io.proofs.tree.TreeLemmas.{same_or_other, same_ends, below_top, file_or_directory}
 use Rattle.mem_io.proofs.log.OwnDeviceLemmas.{devices_more, devices_behind, devices_gone, devices_any, devices_built, devices_own, devices_alone, devices_settled}

@@ -1,9 +1,9 @@
 -- Another device changes nothing that counts in an image.
-use Rattle.std.proofs.Common.{◌≡◌, ◌≢◌, ℕ, List, [], ◌∷◌, ◌++◌, map, refl, sym, ◌∙◌, ap, Bool, true, false, cond}
+use Rattle.std.proofs.Common.{◌≡◌, ℕ, List, [], ◌∷◌, ◌++◌, map, refl, sym, ◌∙◌, ap, Bool, true, false, cond}
 use Rattle.std.specs.Prelude.{Option, Some, None, not, ◌||◌, ◌&&◌, option_map}
 use Rattle.std.specs.List.{list_any, list_all}
 use Rattle.std.proofs.lemmas.Bool.{false≢true}
-use Rattle.sd_io.specs.Tree.{Name, NameList, Content, directory, link, file, other, Node, Tree, node_at, is_directory_at, is_directory_node, is_directory_content}
+use Rattle.sd_io.specs.Tree.{NameList, Content, directory, link, file, other, Node, Tree, node_at, is_directory_at, is_directory_node, is_directory_content}
 use Rattle.mem_io.specs.MemTree.{PutsDevice}
 use Rattle.mem_io.specs.MemTrail.{begins_with, dev_within}
 use Rattle.sd_io.specs.Outcomes.{Left, gone, this, any_file, Outcome, Outcomes, own_of, content_of, content_at}

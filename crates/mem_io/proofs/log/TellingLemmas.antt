@@ -1,5 +1,5 @@
 -- Changes that tell another device leave the outcomes with that device.
-use Rattle.std.proofs.Common.{◌≡◌, ◌≢◌, ℕ, List, [], ◌∷◌, ◌++◌, map, take, refl, sym, ◌∙◌, ap, Bool, true, false, cond, inl, inr}
+use Rattle.std.proofs.Common.{◌≡◌, ℕ, List, [], ◌∷◌, ◌++◌, map, take, refl, sym, ◌∙◌, ap, Bool, true, false, cond, inl, inr}
 use Rattle.std.proofs.lemmas.List.{map-append, take-map}
 use Rattle.sd_io.specs.Tree.{NameList, Node}
 use Rattle.sd_io.specs.Outcomes.{Left, gone, this, any_file, Outcome, own, older, Outcomes, never_used, built, put, own_of, is_in, left_behind, settled, settled_left}

@@ -1,17 +1,14 @@
 -- The tests of what stands at a place and of its outcomes.
-use Rattle.std.proofs.Common.{◌≡◌, ℕ, List, [], ◌∷◌, ◌++◌, map, refl, sym, ◌∙◌, ap, subst, Bool, true, false, cond, ◌⊎◌, inl, inr, arith}
+use Rattle.std.proofs.Common.{◌≡◌, ℕ, List, [], ◌∷◌, ◌++◌, map, refl, ◌∙◌, ap, Bool, true, false, cond, arith}
 use Rattle.std.specs.Prelude.{Option, Some, None, not, ◌&&◌, ◌||◌, ◌==◌, IsSome}
 use Rattle.std.specs.List.{list_any, list_all}
-use Rattle.std.specs.Str.{bytes_eq}
 use Rattle.std.specs.Cmp.Lexicographic.{bytes_decides}
-use Rattle.std.proofs.lemmas.Bool.{eqb-true}
 use Rattle.std.proofs.lemmas.Bool.Decides.{nat_tests}
 use Rattle.sd_io.specs.Tree.{Content, directory, link, file, other, Node, file_content, file_node}
-use Rattle.sd_io.specs.Outcomes.{Left, gone, this, any_file, Outcome, own, older, Fits, Leaves, own_of, left_behind, settled, settled_left, alone, content_of}
-use Rattle.sd_io.specs.Disk.{DiskState, HoldsPresent, outcomes_now}
-use Rattle.mem_io.specs.Log.{same_content, fits_test, is_left, is_own_of, is_tidy, is_gone, has_other, alone_or_gone, alone_by_own, IsKept}
+use Rattle.sd_io.specs.Outcomes.{Left, gone, this, any_file, Outcome, own, older, own_of, left_behind, settled, settled_left, alone, content_of}
+use Rattle.mem_io.specs.Log.{same_content, fits_test, is_left, is_own_of, is_tidy, is_gone, has_other, alone_or_gone, alone_by_own}
 use Rattle.mem_io.specs.LogHolds.{both}
-use Rattle.sd_io.proofs.OutcomeLemmas.{own_append, own_behind, own_twice, own_settled}
+use Rattle.sd_io.proofs.OutcomeLemmas.{own_append, own_twice, own_settled}
 
 -- ---- contents
 

@@ -1,5 +1,5 @@
 -- A list of changes tells the outcomes of each moment.
-use Rattle.std.proofs.Common.{◌≡◌, ◌+◌, ◌≤◌, ℕ, List, [], ◌∷◌, ◌++◌, length, take, refl, sym, ◌∙◌, ap, arith, append-nil}
+use Rattle.std.proofs.Common.{◌≡◌, ◌+◌, ℕ, List, [], ◌∷◌, ◌++◌, length, refl, sym, ◌∙◌, ap, arith}
 use Rattle.std.proofs.lemmas.List.{take-append-le, length-append}
 use Rattle.sd_io.specs.Outcomes.{Outcomes}
 use Rattle.sd_io.specs.Disk.{DiskState, Advances, outcomes_now}

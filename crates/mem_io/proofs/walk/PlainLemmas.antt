@@ -1,6 +1,6 @@
 -- Where a path leads when no link is followed.
 use Rattle.std.proofs.Common.{◌≡◌, ◌⊎◌, inl, inr, ℕ, List, [], reverse, length, sym, ◌∙◌, ap, Bool, true, false, cond}
-use Rattle.std.specs.Prelude.{◌==◌, Option, Some, None}
+use Rattle.std.specs.Prelude.{◌==◌, None}
 use Rattle.std.specs.Borrow.{Bor}
 use Rattle.sd_io.specs.Tree.{NameList, Name, Tree}
 use Rattle.sd_io.specs.Paths.{Linking, parts_of, steps, reached_plain}

@@ -1,4 +1,4 @@
-use Rattle.std.proofs.Common.{◌≡◌, ◌++◌, ◌∙◌, [], ◌∷◌, append-nil, append_assoc, sym, ap, subst}
+use Rattle.std.proofs.Common.{◌++◌, ◌∙◌, [], ◌∷◌, append-nil, append_assoc, sym, ap, subst}
 use Rattle.std.proofs.lemmas.List.{nil_from_length}
 use Rattle.sd_io.specs.Tree.{Name, NameList}
 use Rattle.mem_io.specs.Log.{IsKept}
