@@ -16,7 +16,7 @@ pub record OpenList : Type 0 where
 -- The state of a disk. The tree, the clock and the outcomes count only where the disk tells its tree, everything else always.
 pub record DiskState : Type 0 where
   pub tree : Tree
-  -- rises by one with each change of the tree or of an outcome, and names the moments
+  -- rises by one with each change of the tree or of an outcome, but for devices, and names the moments
   pub clock : ℕ
   -- what a crash at each moment up to now might have left, or may leave
   pub outcomes : ℕ → Outcomes
