@@ -1,5 +1,5 @@
 -- What a pattern is read as.
-use Rattle.std.specs.Prelude.{◌≡◌, ℕ, ◌+◌, max, Bool, true, false, List, [], ◌∷◌, ◌++◌, map, Option, Some, None, encode_utf8, if◌then◌else◌, ◌&&◌, ◌||◌, ◌==◌, not}
+use Rattle.std.specs.Prelude.{◌≡◌, ℕ, ◌+◌, max, Bool, List, [], ◌∷◌, ◌++◌, map, Option, Some, None, encode_utf8, if◌then◌else◌, ◌&&◌, ◌||◌, ◌==◌, not}
 use Rattle.hir_tree.specs.declared.look.Look.{Look}
 use Rattle.hir_tree.specs.declared.look.Look.TheVariants as look
 use Rattle.pattern_syntax.specs.declared.flags.Flags.{Flags}
@@ -7,7 +7,7 @@ use Rattle.pattern_syntax.specs.Flags.{apply}
 use Rattle.pattern_syntax.specs.Atom.{Atom, single_of, coded}
 use Rattle.pattern_syntax.specs.Sets.{Set, is_any, complement, closed, folds_with_another}
 use Rattle.pattern_syntax.specs.Class.{atom_set, class_set, class_depth, inside_literals, head_literals, listed, xor}
-use Rattle.pattern_syntax.specs.Syntax.{Syntax, end, bar, pass, set, single, group, Single, atom, dot, caret, dollar, look as look_at, class, Edge, edge_of, Count, optional, star, plus, exactly, at_least, between, value, Repeated, Kind, numbered, named, flagged, inside_flags, write, Fine}
+use Rattle.pattern_syntax.specs.Syntax.{Syntax, end, bar, pass, set, single, group, Single, atom, dot, caret, dollar, look as look_at, class, edge_of, Count, optional, star, plus, exactly, at_least, between, value, Repeated, Kind, numbered, named, flagged, inside_flags, write, Fine}
 use Rattle.pattern_syntax.specs.SetTree.{SetTree, SetTrees, empty, literal, chars, bytes, looks, repetition, capture, concat, alternation, trees}
 
 -- a tree, and how deep its pattern nests

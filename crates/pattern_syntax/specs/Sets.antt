@@ -1,6 +1,6 @@
 -- Sets of characters, or of bytes where `u` is off.
 use Rattle.std.specs.Int.{is_in_range}
-use Rattle.std.specs.Prelude.{ℕ, Bool, false, List, [], ◌∷◌, codes, ◌==◌, ◌&&◌, ◌||◌, nat_lt, nat_le, nat_eq, not, map, if◌then◌else◌, Option, Some, None, unwrap_or}
+use Rattle.std.specs.Prelude.{ℕ, Bool, false, List, [], ◌∷◌, codes, ◌==◌, ◌&&◌, ◌||◌, nat_lt, nat_eq, not, map, if◌then◌else◌, Option, unwrap_or}
 use Rattle.std.specs.List.{list_any, starts_with}
 use Rattle.std.specs.Map.{lookup}
 use Rattle.std.specs.Option.{option_map_or}

@@ -1,5 +1,5 @@
 -- A reading goes on with the repetition that comes next of an item.
-use Rattle.std.proofs.Common.{◌≡◌, ℕ, Bool, true, false, List, [], ◌∷◌, ◌==◌, ◌||◌, ◌&&◌, not, if◌then◌else◌, eqb-true, refl, sym, ap, ◌∙◌, subst, true≢false, codes}
+use Rattle.std.proofs.Common.{◌≡◌, ℕ, Bool, true, false, List, [], ◌∷◌, ◌==◌, ◌||◌, ◌&&◌, not, if◌then◌else◌, eqb-true, refl, sym, ap, ◌∙◌, subst, true≢false}
 use Rattle.ucd_props.proofs.Computing.{ucd_props}
 use Rattle.unicode.specs.Binary.{is_white_space}
 use Rattle.pattern_syntax.proofs.BlanksLemmas.{seen_behind}

@@ -1,5 +1,5 @@
 -- The repetition at a place.
-use Rattle.std.proofs.Common.{◌≡◌, ℕ, ◌<◌, ◌≤◌, Bool, true, false, List, [], ◌∷◌, ◌&&◌, ◌||◌, if◌then◌else◌, None, length, drop, refl, sym, ap, ◌∙◌, subst, true≢false, arith, length-drop, codes}
+use Rattle.std.proofs.Common.{◌≡◌, ℕ, ◌<◌, ◌≤◌, Bool, true, false, List, [], ◌∷◌, ◌&&◌, ◌||◌, if◌then◌else◌, None, length, drop, refl, sym, ap, ◌∙◌, subst, true≢false, arith, length-drop}
 use Rattle.std.proofs.lemmas.Bool.{and_from, eqb-true}
 use Rattle.pattern_syntax.specs.declared.flags.Flags.{Flags}
 use Rattle.pattern_syntax.specs.declared.repetitions.Counted.{Counted}
