@@ -18,7 +18,7 @@ use Rattle.clap.proofs.WalkLemmas.{both, find-map}
 use Rattle.sd_words.specs.Command.{command}
 use Rattle.sd_words.specs.Number.{number_of}
 use Rattle.sd_words.specs.Plain as plain
-use Rattle.sd_words.specs.Plain.{Flag, Key, Part, FileWordsAskForTheirFiles, PlainWordsHaveTheTable, TreeWordsAskForTheirTree, are_plain, flag_name, given, is_on, key_name, on, part_name, part_value, plain_words, table, value_of}
+use Rattle.sd_words.specs.Plain.{Flag, Key, Part, FileWordsAskForTheirFiles, PlainWordsHaveTheTable, TreeWordsAskForTheirTree, flag_name, given, is_on, key_name, on, part_name, part_value, plain_words, table, value_of}
 use Rattle.sd_words.specs.Order.{is_set, options_in, order_if, order_in, order_of}
 use Rattle.sd_words.proofs.laws.PlainWalk.{at_row_end, held, logical, part_row, row, rules, shape}
 use Rattle.sd_words.proofs.laws.PlainRest.{all_rows, flag_no_key, key_no_flag, no_find, no_replace, no_words, options_rows, plain_walked, rest_rows, two_rows}
