@@ -2,6 +2,7 @@
 use Rattle.std.specs.Prelude.{◌≡◌, ℕ, ◌^◌, ◌<◌, ◌≤◌, ◌⊎◌, Bool, false, List, length, ◌==◌, slice_index, slice_index_or, bit_and, true, Option, IfSome}
 use Rattle.hir_tree.specs.Looks.{holds}
 use Rattle.hir_tree.specs.declared.look.Look.{Look}
+use Rattle.hir_program.specs.Entry.{IsEntry}
 use Rattle.hir_program.specs.Loops.{AreLoops}
 use Rattle.hir_program.specs.Masks.{Covers, CoverTheirSpots, HaveOwnBits, AreTakers, SaysNoMore, SaysWhatTakes, SaysWhatFollows, SaysWhichAreWide, AreMoved, AreDead, IsDead, IsPart, IsShut, HasBit, match_bit, next_of, sure_bit}
 use Rattle.hir_program.specs.Program.{spot_at}
@@ -67,6 +68,7 @@ pub record IsFilterOf (spots : List Spot) (s : Scan) : Type 0 where
   pub own : HaveOwnBits spots s.of.items s.firsts.items
   pub first : IsAskedFirst spots s.first_look
   pub loops : AreLoops spots s.loops
+  pub entry : IsEntry spots s.entry
   pub prefilter : IfSome s.prefilter (λ k. IsRequired spots s.of.items s.last_look s.start k.required × TellsStops s.takes.items s.wide k.required k.stops)
 
 -- no run begins at a place from one on to before another, as the filter says

@@ -5,6 +5,7 @@
 #![tactic(auto)]
 
 mod compile;
+mod entry;
 mod loops;
 mod push;
 mod scan;

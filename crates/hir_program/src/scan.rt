@@ -2,6 +2,7 @@
 //! prefilter.
 
 ghost use Rattle.std.specs.Prelude.{◌≡◌, ◌<◌, ◌≤◌, ◌+◌, ◌⊎◌, ℕ, false, true, List, length, vec_len, slice_index, bit_and, Some, IfOk, IfSome, IfNone};
+ghost use Rattle.hir_program.specs.Entry.{IsEntry};
 ghost use Rattle.hir_program.specs.Masks.{AreOpen, AreShifts, HasBit-prop};
 ghost use Rattle.std.proofs.Props.{props};
 ghost use Rattle.hir_tree.specs.declared.look.Look.TheVariants as look;
@@ -14,6 +15,7 @@ mod required;
 mod shifts;
 mod takes;
 
+use crate::entry::entry_of;
 use crate::loops::Loops;
 use crate::spot::Spot;
 use asked::line_start;
@@ -63,6 +65,8 @@ pub struct Scan {
     look_ahead: usize,
     /// Which bytes are run over at which spots.
     loops: Loops,
+    /// The spot at which a search begins, with group 0 begun.
+    entry: usize,
     ghost all_bytes: { vec_len takes ≡ 256 },
     ghost all_open: { vec_len open_before ≡ 256 },
     ghost open_before_bytes: { AreOpen takes.items wide last_look open_before.items } by { Prim.hlevel (props, HasBit-prop) },
@@ -124,7 +128,7 @@ impl Scan {
     ghost use Rattle.hir_program.specs.Program.{spot_at};
     ghost use Rattle.hir_program.specs.Scan.{IsFilterOf, IsOpenAt, Looked, NoEnd, NoneBegins};
 
-    /// The filter of a program; None where more than 62 spots take bytes. Refuses for want of memory alone.
+    /// The filter of a program; None where more than 62 spots take bytes, or it has no entry. Refuses for want of memory alone.
     pub fn new(alloc: Global, spots: &[Spot]) -> Result<Option<Scan>, NoMemory>
         ensures { IfOk result (λ scan. IfSome scan (λ s. IsFilterOf spots.now s)) }
     {
@@ -139,7 +143,7 @@ impl Scan {
     fn without_loops(alloc: Global, spots: &[Spot]) -> Result<Option<Scan>, NoMemory>
         ensures { IfOk result (λ scan. IfSome scan (λ s. IsFilterOf spots.now s)) }
     {
-        let Some(of) = takes::takers(alloc, spots)? else {
+        let (Some(of), Some(entry)) = (takes::takers(alloc, spots)?, entry_of(spots)) else {
             return Ok(None);
         };
         let first_look = asked::first_look(alloc, spots, of.as_slice())?;
@@ -177,7 +181,15 @@ impl Scan {
             prefilter,
             look_ahead,
             loops: Loops::none(alloc),
+            entry,
         }))
+    }
+
+    /// The spot at which a search may begin, with group 0 begun, in the place of the first one.
+    pub fn entry(&self) -> usize
+        ensures { (spots : List Spot) → IsFilterOf spots self.now → IsEntry spots result }
+    {
+        self.entry
     }
 
     /// Which bytes are run over at which spots.

@@ -16,5 +16,6 @@ returns c =
       own = before.own;
       first = before.first;
       loops = c.in_ok-scan-2.ensures;
+      entry = before.entry;
       prefilter = before.prefilter;
     }

@@ -23,10 +23,11 @@ returns c =
       own = search rules;
       first = search rules;
       loops = c.none.ensures c.args.spots.now;
+      entry = search rules;
       prefilter =
           prefilter_of c.in_ok-after.after.items c.in_ok-takes.takes.items start wide required prefilter
           (subst (λ (rows : List ℕ). IfSome required (λ k. IsRequiredOf rows start k)) c.as_slice-11.ensures.value c.rarest-required.ensures)
           (subst (λ (takes : List ℕ). IfSome prefilter (λ k. (required ≡ Some k.required) × TellsStops takes wide k.required k.stops)) c.as_slice-12.ensures.value
           c.worth_while-prefilter.ensures)
-          c.args.spots.now c.in-Some.of.items c.last_look-last_look.result (search rules) (search rules);
+          c.args.spots.now c.in-Some-Some.of.items c.last_look-last_look.result (search rules) (search rules);
     }
