@@ -3,7 +3,7 @@ use Rattle.std.proofs.Common.{◌≡◌, ℕ, zero, suc, ◌+◌, ◌<◌, ◌�
 use Rattle.std.specs.Prelude.{◌||◌, ◌==◌, option_map}
 use Rattle.std.specs.List.{flat_map}
 use Rattle.std.proofs.lemmas.List.{map-append}
-use Rattle.std.proofs.lemmas.Bool.{cond-true, cond-false, or_left, or_right}
+use Rattle.std.proofs.lemmas.Bool.{or_left, or_right}
 use Rattle.hir_tree.specs.Looks.{holds}
 use Rattle.hir_tree.specs.Runs.{Run, moved, mark, is_seen, byte_size, char_size, as_list, take_size}
 use Rattle.hir_tree.specs.RunsLaws.{forget}
@@ -12,6 +12,7 @@ use Rattle.hir_program.specs.declared.spot.Spot.{Spot}
 use Rattle.hir_program.specs.declared.spot.Spot.TheVariants as spot
 use Rattle.hir_tree.proofs.RunsLemmas.{TakesWithin, byte_size-within, char_size-within}
 use Rattle.hir_program.proofs.ProgramLemmas.{rank-marked, rank-moved, rank-closed}
+use Rattle.hir_program.proofs.EntryLemmas.{reseen, gives_seen, gives_new}
 use Rattle.hir_program.proofs.PlacedLemmas.{gives-at, gives-close}
 
 -- each of the one is among the other
@@ -40,14 +41,6 @@ append_nothing [] ys e = (refl, e)
 append_nothing (x ∷ xs) ys e = absurd (cons_not_nil x (xs ++ ys) e)
 
 module _ (text : List ℕ) (spots : List Spot) (falls : ClosesFall spots) where
-  -- what a spot gives that marks itself
-  pub gives_seen : (q : ℕ) (s : Spot) (t : Way) → spot_at spots q ≡ s → is_unmarked s ≡ false → is_seen q t.run.seen ≡ true → gives text spots q t ≡ []
-  gives_seen q s t e plain seen = gives-at text spots falls q s t e ∙ cond-false _ _ _ plain ∙ cond-true _ _ _ seen
-
-  gives_new : (q : ℕ) (s : Spot) (t : Way) → spot_at spots q ≡ s → is_unmarked s ≡ false → is_seen q t.run.seen ≡ false
-      → gives text spots q t ≡ follow text spots (gives text spots) s (marked q t)
-  gives_new q s t e plain new = gives-at text spots falls q s t e ∙ cond-false _ _ _ plain ∙ cond-false _ _ _ new
-
   -- what the bytes that are taken lead to gives nothing
   not_taken : (size : ℕ → Option ℕ) → TakesWithin text size → (v w : Run) (k l : Run → List Run) → v.at ≡ w.at
       → ((b : ℕ) → (0 < b) × (v.at + b ≤ length text) → k (moved b v) ≡ [] → l (moved b w) ≡ [])
@@ -73,10 +66,10 @@ module _ (text : List ℕ) (spots : List Spot) (falls : ClosesFall spots) where
       new_or : (s : Spot) → spot_at spots q ≡ s → is_unmarked s ≡ false
           → (is_seen q t.run.seen ≡ false → follow text spots (gives text spots) s (marked q t) ≡ [] → follow text spots (gives text spots) s (marked q u) ≡ [])
           → (b : Bool) → is_seen q u.run.seen ≡ b → gives text spots q u ≡ []
-      new_or s e plain next true seen = gives_seen q s u e plain seen
+      new_or s e plain next true seen = gives_seen text spots falls q s u e plain seen
       new_or s e plain next false seen =
           let before : is_seen q t.run.seen ≡ false = unseen_before q t.run.seen u.run.seen sub seen in
-          gives_new q s u e plain seen ∙ next before (sym (gives_new q s t e plain before) ∙ dead)
+          gives_new text spots falls q s u e plain seen ∙ next before (sym (gives_new text spots falls q s t e plain before) ∙ dead)
 
       on : (s : Spot) → spot_at spots q ≡ s → is_close s ≡ false → (s ≡ spot.Fail → ⊥) → is_seen q t.run.seen ≡ false
           → (p : ℕ) (starts starts2 : List ℕ) → gives text spots p (way starts (mark q t.run)) ≡ []
@@ -132,10 +125,6 @@ module _ (text : List ℕ) (spots : List Spot) (falls : ClosesFall spots) where
 
   pub mono : (q : ℕ) (t u : Way) → t.run.at ≡ u.run.at → Subset t.run.seen u.run.seen → gives text spots q t ≡ [] → gives text spots q u ≡ []
   mono q t u = mono-within (suc (rank text spots q t)) q t u (omega arith)
-
--- the same with other spots seen
-abbrev pub reseen : List ℕ → Way → Way
-reseen xs t = record { run = record { at = t.run.at; groups = t.run.groups; seen = xs }; starts = t.starts }
 
 module _ (text : List ℕ) (spots : List Spot) (falls : ClosesFall spots) where
   -- each of these was seen, or gives nothing here

@@ -4,7 +4,7 @@ use Rattle.std.specs.Option.{option_or}
 use Rattle.hir_tree.specs.Runs.{Run}
 use Rattle.hir_program.specs.Masks.{IsDead}
 use Rattle.hir_core.specs.Pass.{comes, first_of, fresh, keeps, stops_give, visiting, was_visited}
-use Rattle.hir_program.specs.Program.{gives, spot_at, some_run}
+use Rattle.hir_program.specs.Program.{Way, closed, gives, spot_at, some_run}
 use Rattle.hir_core.specs.Trails.{Stop, stops_on, way_of}
 use Rattle.hir_core.specs.declared.closure.Turn.{Turn}
 use Rattle.hir_core.specs.declared.closure.Turn.TheVariants as turn
@@ -59,7 +59,13 @@ module _ (text : List ℕ) (spots : List Spot) (begin : ℕ) where
       × (marks' ≡ trying p.1.run.at p.0 marks)
       × ((s ≡ spot.Match) → ⊥)
 
-  -- one turn of a thread, after which the trail is this one: it is a match, or others come in its place
+  -- A match ends at the stop, and this is its way: at once, or with the group ended that ends there.
+  abbrev pub ComesToMatch : Stop → Way → Type 0
+  ComesToMatch p w =
+      ((w ≡ p.1) × (spot_at spots p.0 ≡ spot.Match))
+      ⊎ ((i : ℕ) × (f : ℕ) × (spot_at spots p.0 ≡ spot.Close i f) × (spot_at spots f ≡ spot.Match) × (w ≡ closed i p.1))
+
+  -- one turn of a thread, after which the trail is this one: it comes to a match, or others come in its place
   abbrev pub TurnedAt : Turn → Stop → Trail → List Bool → List Bool → List Stop → Type 0
   TurnedAt (turn.On q) p trail marks marks' stack = GivesWayTo p marks marks' stack (stops_on q trail)
-  TurnedAt turn.Match p trail marks marks' stack = (way_of trail ≡ p.1) × (spot_at spots p.0 ≡ spot.Match) × (marks' ≡ marks)
+  TurnedAt turn.Match p trail marks marks' stack = ComesToMatch p (way_of trail) × (marks' ≡ marks)

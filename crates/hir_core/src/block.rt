@@ -9,6 +9,7 @@ ghost use Rattle.hir_core.specs.Sizes.{IsSizeTaken};
 ghost use Rattle.hir_core.specs.Trails.{stops_of, stops_on, way_of};
 ghost use Rattle.hir_core.specs.Tries.{CountsTries};
 ghost use Rattle.hir_program.specs.declared.spot.Spot.{Spot};
+ghost use Rattle.hir_program.specs.declared.spot.Spot.TheVariants as spot;
 
 use crate::closure::{Turn, count, lead};
 use crate::run_over::run_over;
@@ -98,6 +99,19 @@ fn advance(
     }
 }
 
+/// The index of the group that ends at a spot, if a match ends behind it.
+fn last_end(spots: &[Spot], here: &Spot) -> Option<usize>
+    ensures { IfSome result (λ index. (next : ℕ) × (here.now ≡ spot.Close index next) × (spot_at spots.now next ≡ spot.Match)) }
+{
+    let Spot::Close { index, next } = here else {
+        return None;
+    };
+    match spots.get(*next) {
+        Some(Spot::Match) => Some(*index),
+        _ => None,
+    }
+}
+
 /// The search of a block: the thread that is followed, the spots that were tried, and the threads that go on past the block.
 #[derive(Drop)]
 pub struct Block {
@@ -131,8 +145,8 @@ impl Block {
         Ok(())
     }
 
-    /// Follows the thread, which is in the block, from this spot to those that it leads to, and says whether it is a match, or where
-    /// it goes on. Of two ways it leaves out one that can't come to a match. Refuses for want of memory alone.
+    /// Follows the thread, which is in the block, from this spot to those that it leads to, and says whether it comes to a match, or
+    /// where it goes on. Of two ways it leaves out one that can't come to a match. Refuses for want of memory alone.
     fn turn<L: Ledger>(
         &mut self,
         spots: &[Spot],
@@ -157,6 +171,10 @@ impl Block {
             return Ok(Turn::On(None));
         };
         if let Spot::Match = here {
+            return Ok(Turn::Match);
+        }
+        if let Some(index) = last_end(spots, here) {
+            self.trail.close(index)?;
             return Ok(Turn::Match);
         }
         let mark = mark_of(spots.len(), places, self.trail.at, spot);
@@ -307,9 +325,9 @@ impl Block {
         ensures ticks { CountsTries L.noted spots.now places.begin places.end self.old.marks self.new.marks steps.old steps.new }
     {
         while starts.place < places.end {
-            self.trail.begin(starts.place, groups)?;
+            self.trail.begin_whole(starts.place, groups)?;
             starts.place += 1;
-            if self.follow(spots, filter, text, places, 0, steps)? {
+            if self.follow(spots, filter, text, places, filter.entry(), steps)? {
                 return Ok(true);
             }
             self.pass_over(filter, text, starts);

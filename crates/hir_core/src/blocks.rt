@@ -110,7 +110,9 @@ impl Blocks {
     {
         let found = self.follow_block(spots, filter, text, places, starts, groups, steps)?;
         self.best.update(found, &mut self.block.trail);
-        mem::swap(&mut self.threads, &mut self.block.later);
+        if !self.threads.is_empty() || !self.block.later.is_empty() {
+            mem::swap(&mut self.threads, &mut self.block.later);
+        }
         Ok(())
     }
 

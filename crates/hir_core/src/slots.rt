@@ -143,11 +143,18 @@ impl Slots {
         ensures refused { IfErr result (λ _. self.new ≡ replicate (length self.old) None) }
         ensures ticks { TicksAtMost L.noted ((length text.now + 1 - at) * counted spots.now) steps.old steps.new }
     {
-        unset(&mut self.spans);
-        if !self
+        let found = match self
             .blocks
-            .search(spots, filter, text, at, groups, places, steps)?
+            .search(spots, filter, text, at, groups, places, steps)
         {
+            Ok(found) => found,
+            Err(error) => {
+                unset(&mut self.spans);
+                return Err(error);
+            }
+        };
+        if !found {
+            unset(&mut self.spans);
             return Ok(false);
         }
         set(&mut self.spans, self.blocks.groups());

@@ -77,6 +77,15 @@ impl Trail {
         Ok(())
     }
 
+    /// A thread begins at a place, where group 0 begins, with groups up to this index. Refuses for want of memory alone.
+    pub fn begin_whole(&mut self, at: usize, groups: u32) -> Result<(), NoMemory>
+        ensures { IfOk result (λ _. way_of self.new ≡ opened (way [] (runs.begin at groups))) }
+    {
+        self.begin(at, groups)?;
+        self.starts.push(at)?;
+        Ok(())
+    }
+
     /// Drops the alternatives.
     pub fn clear(&mut self)
         ensures way { way_of self.new ≡ way_of self.old }

@@ -406,6 +406,15 @@ module _ (text : List ℕ) (spots : List Spot) (falls : ClosesFall spots) (begin
         ap (λ (x : Stop). option_or (first_of (stops_give text spots kept)) (Some (forget x.1.run))) (sym a.4)
         ∙ blocking-match text spots falls goal a.0 (stops_give text spots kept) a.1 a.2 (ap (λ (x : Stop). spot_at spots x.0) a.4 ∙ k) a.7
 
+    -- so it is at the end of a group behind which a match ends
+    pub Searching-ended : (i f : ℕ) → spot_at spots p.0 ≡ spot.Close i f → spot_at spots f ≡ spot.Match → Searching goal marks kept (p ∷ rest)
+        → option_or (first_of (stops_give text spots kept)) (Some (forget (closed i p.1).run)) ≡ goal
+    Searching-ended i f k m c =
+        let a = apart c in
+        ap (λ (x : Stop). option_or (first_of (stops_give text spots kept)) (Some (forget (closed i x.1).run))) (sym a.4)
+        ∙ blocking-match text spots falls goal a.0 (stops_give text spots kept) (entry f (closed i a.1.way)) a.2 m
+        (close_entry goal marks kept a.0 a.1 a.2 a.3 a.6.0.1 a.6.1 a.7 i f (ap (λ (x : Stop). spot_at spots x.0) a.4 ∙ k))
+
   -- a thread comes into the block
   pub Searching-begin : (marks : List Bool) (kept : List Stop) (p : Stop) → p.1.run.seen ≡ []
       → AreSpent text spots begin marks (some_run (stops_give text spots kept))

@@ -8,7 +8,7 @@ use Rattle.hir_tree.specs.Looks.{holds}
 use Rattle.hir_tree.specs.Runs.{Run, byte_size, char_size}
 use Rattle.hir_tree.specs.RunsLaws.{forget}
 use Rattle.hir_tree.proofs.ListLemmas.{All-append, All-weaker}
-use Rattle.hir_core.specs.Blocks.{mark_of, trying, AreLeft, GivesWayTo, AreSpent, KeepsMarks}
+use Rattle.hir_core.specs.Blocks.{mark_of, trying, AreLeft, ComesToMatch, GivesWayTo, AreSpent, KeepsMarks}
 use Rattle.hir_core.specs.Pass.{AllFrom, first_of, taken, leads, leads_on, comes, ends_match, keeps, was_visited, visiting, stop_gives, stops_give}
 use Rattle.hir_program.specs.Program.{spot_at, Way, ClosesFall, some_run}
 use Rattle.hir_core.specs.Trails.{Stop}
@@ -17,7 +17,7 @@ use Rattle.hir_program.specs.declared.spot.Spot.TheVariants as spot
 use Rattle.hir_core.proofs.closure.TurnLemmas.{visited_again, turn_weight, weight_less, weight_set, goes_on, keeps_later, length-visiting, set_stays}
 use Rattle.hir_core.proofs.block.BlockEndLemmas.{EndsBy, EndsBy-dead, EndsBy-kept, EndsBy-spent, EndsBy-turn}
 use Rattle.hir_core.proofs.block.MarkLemmas.{mark-within}
-use Rattle.hir_core.proofs.block.BlockTurnLemmas.{Searching, Searching-turn, Searching-dead, Searching-dead_second, Searching-kept, Searching-match, Searching-begin, Searching-end}
+use Rattle.hir_core.proofs.block.BlockTurnLemmas.{Searching, Searching-turn, Searching-dead, Searching-dead_second, Searching-kept, Searching-match, Searching-ended, Searching-begin, Searching-end}
 
 -- What the loop over the stack of a block keeps true.
 abbrev pub FollowsIn : List ℕ → List Spot → ℕ → ℕ → Option Run → List Bool → List Stop → List Stop → Type 0
@@ -261,8 +261,15 @@ module _ (text : List ℕ) (spots : List Spot) (begin end : ℕ) (goal : Option 
       (subst (λ ps. turn_weight marks rest < turn_weight marks ps) (sym e) less)
 
   -- it is a match
-  pub FollowsIn-match : spot_at spots p.0 ≡ spot.Match → option_or (first_of (stops_give text spots kept)) (Some (forget p.1.run)) ≡ goal
-  FollowsIn-match k = Searching-match text spots h.0 begin end goal marks kept rest p k searching
+  pub FollowsIn-match : (w : Way) → ComesToMatch text spots begin p w → option_or (first_of (stops_give text spots kept)) (Some (forget w.run)) ≡ goal
+  FollowsIn-match w comes = elim comes [
+    | inl here ↦
+        ap (λ (v : Way). option_or (first_of (stops_give text spots kept)) (Some (forget v.run))) here.0
+        ∙ Searching-match text spots h.0 begin end goal marks kept rest p here.1 searching
+    | inr ended ↦
+        ap (λ (v : Way). option_or (first_of (stops_give text spots kept)) (Some (forget v.run))) ended.4
+        ∙ Searching-ended text spots h.0 begin end goal marks kept rest p ended.0 ended.1 ended.2 ended.3 searching
+  ]
 
 pub FollowsIn-end : (text : List ℕ) (spots : List Spot) (begin end : ℕ) (goal : Option Run) (marks : List Bool) (kept stack : List Stop) → stack ≡ []
     → FollowsIn text spots begin end goal marks kept stack

@@ -1,12 +1,15 @@
 -- The threads that come into a block, followed one after another, and those that begin in it.
-use Rattle.std.proofs.Common.{◌≡◌, ℕ, ◌+◌, ◌-◌, ◌<◌, ◌≤◌, Bool, false, List, [], ◌∷◌, ◌++◌, length, Option, Some, None, refl, sym, ap, ◌∙◌, subst, true≢false, append-nil, append_assoc, arith}
+use Rattle.std.proofs.Common.{◌≡◌, ℕ, ◌+◌, ◌-◌, ◌<◌, ◌≤◌, Bool, false, List, [], ◌∷◌, ◌++◌, length, map, Option, Some, None, refl, sym, ap, ◌∙◌, subst, true≢false, append-nil, append_assoc, arith}
 use Rattle.std.specs.Prelude.{is_some}
 use Rattle.std.specs.Option.{option_or}
-use Rattle.hir_tree.specs.Runs.{Run, begin}
+use Rattle.std.proofs.lemmas.List.{map-append}
+use Rattle.hir_tree.specs.Runs.{Run, begin, first}
+use Rattle.hir_tree.specs.RunsLaws.{forget}
 use Rattle.hir_core.specs.Blocks.{AreSpent, IsFollowed}
+use Rattle.hir_program.specs.Entry.{IsEntry}
 use Rattle.hir_program.specs.Masks.{NoRun}
 use Rattle.hir_core.specs.Pass.{AllFrom, first_of, stop_gives, stops_give, begins, first_from, answer}
-use Rattle.hir_program.specs.Program.{way, some_run}
+use Rattle.hir_program.specs.Program.{way, opened, some_run, ClosesFall}
 use Rattle.hir_core.specs.Trails.{Stop}
 use Rattle.hir_program.specs.declared.spot.Spot.{Spot}
 use Rattle.hir_core.proofs.pass.PassLemmas.{first_of_two}
@@ -69,16 +72,23 @@ module _ (text : List ℕ) (spots : List Spot) (from_place : ℕ) where
   followed_finds runs None marks old kept h = or_none _ ∙ h.1
   followed_finds runs (Some m) marks old kept h = h
 
-  -- a thread that begins at a place was followed
-  pub answer-begun : (groups place : ℕ) (found : Option Run) (marks : List Bool) (old kept : List Stop) (start : Stop) → place ≤ length text
-      → start ≡ (0, way [] (begin place groups))
+  -- what differs in what it saw alone has the same first run
+  first_same : (xs ys zs : List Run) → map forget ys ≡ map forget zs → first_of (xs ++ ys) ≡ first_of (xs ++ zs)
+  first_same xs ys zs e =
+      ap first (map-append forget xs ys ∙ ap (λ rs. map forget xs ++ rs) e ∙ sym (map-append forget xs zs))
+
+  -- a thread that begins at a place, at an entry of the program, was followed
+  pub answer-begun : (groups place : ℕ) (found : Option Run) (marks : List Bool) (old kept : List Stop) (start : Stop) (entry : ℕ) → ClosesFall spots
+      → IsEntry spots entry → place ≤ length text → start ≡ (entry, opened (way [] (begin place groups)))
       → IsFollowed text spots from_place (stop_gives text spots start) found marks old kept
       → answer text spots groups (place + 1) (stops_give text spots kept) found ≡ answer text spots groups place (stops_give text spots old) None
-  answer-begun groups place found marks old kept start within starts h =
+  answer-begun groups place found marks old kept start entry falls enters within starts h =
       ap (answer text spots groups (place + 1) (stops_give text spots kept)) (sym (or_none found))
       ∙ answer-round text spots place groups within (stops_give text spots old) (stops_give text spots kept) None found
-      (followed_finds (begins text spots groups place) found marks old kept
-      (subst (λ (p : Stop). IsFollowed text spots from_place (stop_gives text spots p) found marks old kept) starts h))
+      (followed_finds (stop_gives text spots start) found marks old kept h
+      ∙ ap (λ (p : Stop). first_of (stops_give text spots old ++ stop_gives text spots p)) starts
+      ∙ first_same (stops_give text spots old) (stop_gives text spots (entry, opened (way [] (begin place groups)))) (begins text spots groups place)
+      (sym (enters falls text place groups)))
 
   -- the threads of a block were followed
   pub answer-followed : (groups start : ℕ) (found best : Option Run) (marks : List Bool) (old kept threads : List Stop) → old ≡ []

@@ -8,7 +8,8 @@ use Rattle.hir_tree.specs.Runs.{Run, is_seen}
 use Rattle.hir_tree.specs.RunsLaws.{forget}
 use Rattle.hir_program.specs.Program.{Way, gives, ClosesFall}
 use Rattle.hir_program.specs.declared.spot.Spot.{Spot}
-use Rattle.hir_core.proofs.PruningLemmas.{Subset, Subset-mark, mono, extend, reseen, Covered}
+use Rattle.hir_program.proofs.EntryLemmas.{reseen}
+use Rattle.hir_core.proofs.PruningLemmas.{Subset, Subset-mark, mono, extend, Covered}
 
 -- a spot that is still to be tried, with what its path saw at this place
 pub record Entry : Type 0 where

@@ -8,7 +8,8 @@ use Rattle.hir_program.specs.Program.{spot_at, is_close, is_unmarked, tie, Way, 
 use Rattle.hir_program.specs.declared.spot.Spot.{Spot}
 use Rattle.hir_program.specs.declared.spot.Spot.TheVariants as spot
 use Rattle.hir_program.proofs.PlacedLemmas.{gives-close}
-use Rattle.hir_core.proofs.PruningLemmas.{mono, gives_seen}
+use Rattle.hir_program.proofs.EntryLemmas.{gives_seen}
+use Rattle.hir_core.proofs.PruningLemmas.{mono}
 use Rattle.hir_core.proofs.closure.ClosureLemmas.{Entry, Answered}
 
 -- ---- spots that a test holds of

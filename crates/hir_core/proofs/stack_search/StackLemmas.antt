@@ -23,7 +23,8 @@ use Rattle.hir_tree.proofs.ListLemmas.{All-append, All-weaker}
 use Rattle.hir_tree.proofs.RunsLemmas.{TakesWithin, byte_size-within, char_size-within}
 use Rattle.hir_program.proofs.ProgramLemmas.{rank-marked, rank-moved, rank-closed}
 use Rattle.hir_program.proofs.PlacedLemmas.{gives-at}
-use Rattle.hir_core.proofs.PruningLemmas.{reseen, extend}
+use Rattle.hir_program.proofs.EntryLemmas.{reseen}
+use Rattle.hir_core.proofs.PruningLemmas.{extend}
 
 -- the members of a set
 other : (n m : ℕ) (seen : List ℕ) → (n ≡ m → ⊥) → is_seen m (n ∷ seen) ≡ is_seen m seen

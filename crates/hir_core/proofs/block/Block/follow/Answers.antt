@@ -1,4 +1,4 @@
-use Rattle.std.proofs.Common.{List, ◌∷◌, ◌++◌, Some, refl, sym, ap₂, ◌∙◌, subst, arith}
+use Rattle.std.proofs.Common.{List, ◌∷◌, ◌++◌, Some, refl, sym, ap, ap₂, ◌∙◌, subst, arith}
 use Rattle.std.specs.Option.{option_or}
 use Rattle.hir_core.specs.Blocks.{KeepsMarks}
 use Rattle.hir_program.specs.Program.{Way}
@@ -70,9 +70,9 @@ returns-in-Match-clause-followed g c =
     c.loop-here.self.marks c.run_over.new.marks room refl back c.run_over.ensures.way c.run_over.ensures.stops c.run_over.ensures.forward c.run_over.ensures.over
     c.loop-here.invariant.follows in
     let step = rw c.in-Match.is at c.in_ok-turn.ensures.turned in
-    ap₂ (λ (ks : List Stop) (w : Way). option_or (first_of (stops_give c.args.text.now c.args.spots.now ks)) (Some w.run)) c.turn.ensures.later step.0
+    ap (λ (ks : List Stop). option_or (first_of (stops_give c.args.text.now c.args.spots.now ks)) (Some (way_of c.turn.new.self.trail).run)) c.turn.ensures.later
     ∙ FollowsIn-match c.args.text.now c.args.spots.now c.args.places.begin c.args.places.end _ c.run_over.new.marks c.loop-here.self.later (stops_of c.run_over.new.trail) _
-    (c.in-Some.here, way_of c.run_over.new.trail) refl run.0 step.1
+    (c.in-Some.here, way_of c.run_over.new.trail) refl run.0 (way_of c.turn.new.self.trail) step.0
 
 pub returns-in-Match-clause-marks : goal.returns-in-Match-clause-marks
 returns-in-Match-clause-marks g c =
@@ -84,7 +84,7 @@ returns-in-Match-clause-marks g c =
     c.loop-here.self.marks c.run_over.new.marks room refl back c.run_over.ensures.way c.run_over.ensures.stops c.run_over.ensures.forward c.run_over.ensures.over
     c.loop-here.invariant.follows in
     let step = rw c.in-Match.is at c.in_ok-turn.ensures.turned in
-    subst (KeepsMarks c.args.self.now.marks) (sym step.2) (KeepsMarks-then c.loop-here.invariant.marks run.1)
+    subst (KeepsMarks c.args.self.now.marks) (sym step.1) (KeepsMarks-then c.loop-here.invariant.marks run.1)
 
 pub loop-here-smaller : goal.loop-here-smaller
 loop-here-smaller g c =

@@ -16,7 +16,8 @@ returns-then-branch-clause-ticks g c = visits_then c.loop-starts.invariant.ticks
 pub returns-then-branch-clause-answer : goal.returns-then-branch-clause-answer
 returns-then-branch-clause-answer g c =
     answer-begun c.args.text.now c.args.spots.now c.args.places.begin c.args.groups c.loop-starts.starts.place (match_of true c.follow.new.self.trail) c.follow.new.self.marks c.loop-starts.self.later
-    c.follow.new.self.later (0, way_of c.begin.new.self) (omega arith) (ap (λ (w : Way). (0, w)) c.in_ok-begin.ensures)
+    c.follow.new.self.later (c.entry.result, way_of c.begin_whole.new.self) c.entry.result c.requires.falls (c.entry.ensures c.args.spots.now c.requires.filters)
+    (omega arith) (ap (λ (w : Way). (c.entry.result, w)) c.in_ok-begin_whole.ensures)
     (rw c.if-branch.true at c.in_ok-follow.ensures.followed)
     ∙ c.loop-starts.invariant.answer
 
@@ -30,7 +31,8 @@ loop-starts-preserved g c =
       answer =
           c.pass_over.ensures.answer c.args.spots.now c.args.groups c.requires.filters
           ∙ answer-begun c.args.text.now c.args.spots.now c.args.places.begin c.args.groups c.loop-starts.starts.place None c.follow.new.self.marks c.loop-starts.self.later
-          c.follow.new.self.later (0, way_of c.begin.new.self) (omega arith) (ap (λ (w : Way). (0, w)) c.in_ok-begin.ensures) followed
+          c.follow.new.self.later (c.entry.result, way_of c.begin_whole.new.self) c.entry.result c.requires.falls (c.entry.ensures c.args.spots.now c.requires.filters)
+          (omega arith) (ap (λ (w : Way). (c.entry.result, w)) c.in_ok-begin_whole.ensures) followed
           ∙ c.loop-starts.invariant.answer;
       later = c.in_ok-follow.ensures.later;
       spent = followed.0;
