@@ -109,12 +109,12 @@ module _ (text : List ℕ) (spots : List Spot) (falls : ClosesFall spots) where
           new_or (spot.Look l f) e refl
           (λ new gone. look (holds l text t.run.at) (holds l text u.run.at) _ _ (ap (holds l text) at) (on (spot.Look l f) e refl (λ x. cc) new f t.starts u.starts) gone)
           (is_seen q u.run.seen) refl
-      cases (spot.Bytes set f) e =
-          new_or (spot.Bytes set f) e refl
-          (λ new gone. taken (spot.Bytes set f) (byte_size set text) (byte_size-within set text) f e refl gone) (is_seen q u.run.seen) refl
-      cases (spot.Chars set f) e =
-          new_or (spot.Chars set f) e refl
-          (λ new gone. taken (spot.Chars set f) (char_size set text) (char_size-within set text) f e refl gone) (is_seen q u.run.seen) refl
+      cases (spot.Bytes f set) e =
+          new_or (spot.Bytes f set) e refl
+          (λ new gone. taken (spot.Bytes f set) (byte_size set text) (byte_size-within set text) f e refl gone) (is_seen q u.run.seen) refl
+      cases (spot.Chars f set) e =
+          new_or (spot.Chars f set) e refl
+          (λ new gone. taken (spot.Chars f set) (char_size set text) (char_size-within set text) f e refl gone) (is_seen q u.run.seen) refl
 
   -- what gives nothing gives nothing either where more was seen, whatever the groups
   pub mono-within : (n q : ℕ) (t u : Way) → rank text spots q t < n → t.run.at ≡ u.run.at → Subset t.run.seen u.run.seen
@@ -198,8 +198,8 @@ module _ (text : List ℕ) (spots : List Spot) (falls : ClosesFall spots) where
           (is_seen q xs) refl
       cases (spot.Look l f) e =
           new_or (spot.Look l f) e refl (λ new. look (holds l text t.run.at) _ _ (on (spot.Look l f) e refl (λ x. cc) new f t.starts)) (is_seen q xs) refl
-      cases (spot.Bytes set f) e = new_or (spot.Bytes set f) e refl (λ new. refl) (is_seen q xs) refl
-      cases (spot.Chars set f) e = new_or (spot.Chars set f) e refl (λ new. refl) (is_seen q xs) refl
+      cases (spot.Bytes f set) e = new_or (spot.Bytes f set) e refl (λ new. refl) (is_seen q xs) refl
+      cases (spot.Chars f set) e = new_or (spot.Chars f set) e refl (λ new. refl) (is_seen q xs) refl
 
   extend-within : (n q : ℕ) (t : Way) (xs : List ℕ) → rank text spots q t < n → Subset t.run.seen xs → Covered t xs
       → map forget (gives text spots q t) ≡ map forget (gives text spots q (reseen xs t))

@@ -40,8 +40,8 @@ taken (Some bytes) q w = (q, way w.starts (moved bytes w.run)) ∷ []
 
 -- where a spot leads by bytes
 abbrev pub leads_on : List ℕ → Spot → Way → List Stop
-leads_on text (spot.Bytes set q) w = taken (byte_size set text w.run.at) q w
-leads_on text (spot.Chars set q) w = taken (char_size set text w.run.at) q w
+leads_on text (spot.Bytes q set) w = taken (byte_size set text w.run.at) q w
+leads_on text (spot.Chars q set) w = taken (char_size set text w.run.at) q w
 leads_on text _ w = []
 
 -- What a thread leads to at a place, where the spot was visited or not: what comes onto the stack, and what is kept for
@@ -67,8 +67,8 @@ visiting s q visited = if ends_match s then visited else slice_set visited q tru
 
 -- A visit of the spot is counted: it takes bytes, looks, goes on both ways, or ends a group other than the whole match.
 abbrev pub is_counted : Spot → Bool
-is_counted (spot.Bytes set q) = true
-is_counted (spot.Chars set q) = true
+is_counted (spot.Bytes q set) = true
+is_counted (spot.Chars q set) = true
 is_counted (spot.Look l q) = true
 is_counted (spot.Split p q) = true
 is_counted (spot.Close i q) = nat_lt 0 i

@@ -41,8 +41,8 @@ places_of stack = map place_of stack
 
 -- where a spot leads, the preferred first
 abbrev pub leads : List ℕ → Spot → Way → List Place
-leads text (spot.Bytes set q) w = map (λ r. (q, way w.starts r)) (take_size (byte_size set text) w.run)
-leads text (spot.Chars set q) w = map (λ r. (q, way w.starts r)) (take_size (char_size set text) w.run)
+leads text (spot.Bytes q set) w = map (λ r. (q, way w.starts r)) (take_size (byte_size set text) w.run)
+leads text (spot.Chars q set) w = map (λ r. (q, way w.starts r)) (take_size (char_size set text) w.run)
 leads text (spot.Look l q) w = if holds l text w.run.at then (q, w) ∷ [] else []
 leads text (spot.Jump q) w = (q, w) ∷ []
 leads text (spot.Split p q) w = (p, w) ∷ (q, w) ∷ []

@@ -92,7 +92,7 @@ fn advance(
     match spots.get(spot) {
         Some(Spot::Bytes { next, .. } | Spot::Chars { next, .. }) => {
             let size = taken_size(spots, filter, text, trail.at, spot);
-            Ok(move_on(size, *next, trail))
+            Ok(move_on(size, *next as usize, trail))
         }
         Some(here) => lead(here, text, trail),
         None => Ok(None),
@@ -106,8 +106,8 @@ fn last_end(spots: &[Spot], here: &Spot) -> Option<usize>
     let Spot::Close { index, next } = here else {
         return None;
     };
-    match spots.get(*next) {
-        Some(Spot::Match) => Some(*index),
+    match spots.get(*next as usize) {
+        Some(Spot::Match) => Some(*index as usize),
         _ => None,
     }
 }
@@ -185,11 +185,11 @@ impl Block {
         count(here, steps);
         if let Spot::Split { first, second } = here {
             let at = self.trail.at;
-            if !filter.may_go_on(*first, text, at) {
-                return Ok(Turn::On(Some(*second)));
+            if !filter.may_go_on(*first as usize, text, at) {
+                return Ok(Turn::On(Some(*second as usize)));
             }
-            if !filter.may_go_on(*second, text, at) {
-                return Ok(Turn::On(Some(*first)));
+            if !filter.may_go_on(*second as usize, text, at) {
+                return Ok(Turn::On(Some(*first as usize)));
             }
         }
         Ok(Turn::On(advance(spots, filter, text, spot, &mut self.trail)?))

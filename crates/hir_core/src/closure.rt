@@ -35,22 +35,22 @@ pub fn lead(spot: &Spot, text: &[u8], trail: &mut Trail) -> Result<Option<usize>
     match spot {
         Spot::Look { look, next } => {
             if holds(*look, text, trail.at) {
-                return Ok(Some(*next));
+                return Ok(Some(*next as usize));
             }
             Ok(None)
         }
-        Spot::Jump { next } => Ok(Some(*next)),
+        Spot::Jump { next } => Ok(Some(*next as usize)),
         Spot::Split { first, second } => {
-            trail.push(*second)?;
-            Ok(Some(*first))
+            trail.push(*second as usize)?;
+            Ok(Some(*first as usize))
         }
         Spot::Open { next } => {
             trail.open()?;
-            Ok(Some(*next))
+            Ok(Some(*next as usize))
         }
         Spot::Close { index, next } => {
-            trail.close(*index)?;
-            Ok(Some(*next))
+            trail.close(*index as usize)?;
+            Ok(Some(*next as usize))
         }
         _ => Ok(None),
     }
@@ -146,14 +146,14 @@ impl Closure {
         count(here, steps);
         let at = self.trail.at;
         match here {
-            Spot::Bytes { set, next } => {
+            Spot::Bytes { next, set } => {
                 let size = byte_size(set, text, at);
-                keep(size, *next, &self.trail, &mut self.later)?;
+                keep(size, *next as usize, &self.trail, &mut self.later)?;
                 Ok(Turn::On(None))
             }
-            Spot::Chars { set, next } => {
+            Spot::Chars { next, set } => {
                 let size = char_size(set, text, at);
-                keep(size, *next, &self.trail, &mut self.later)?;
+                keep(size, *next as usize, &self.trail, &mut self.later)?;
                 Ok(Turn::On(None))
             }
             _ => Ok(Turn::On(lead(here, text, &mut self.trail)?)),

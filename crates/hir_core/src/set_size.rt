@@ -3,12 +3,12 @@
 ghost use Rattle.std.specs.Prelude.{◌≡◌, ◌≤◌, length};
 ghost use Rattle.hir_tree.specs.Runs.{byte_size, char_size};
 
-use crate::{ByteRanges, CharRanges};
 use bstr::decode_utf8;
+use hir_tree::{SharedBytes, SharedChars};
 
 /// How many bytes a member of a set of bytes takes at a place: one, if it stands there.
 #[tactic(auto, unfolding(hir_tree::specs::Runs::byte_size))]
-pub fn byte_size(set: &ByteRanges, text: &[u8], at: usize) -> Option<usize>
+pub fn byte_size(set: &SharedBytes, text: &[u8], at: usize) -> Option<usize>
     ensures { result ≡ byte_size set.now text.now at }
 {
     match text.get(at).copied() {
@@ -19,7 +19,7 @@ pub fn byte_size(set: &ByteRanges, text: &[u8], at: usize) -> Option<usize>
 
 /// How many bytes the UTF-8 of a member of a set of characters takes at a place, if it stands there.
 #[tactic(auto, unfolding(hir_tree::specs::Runs::char_size))]
-pub fn char_size(set: &CharRanges, text: &[u8], at: usize) -> Option<usize>
+pub fn char_size(set: &SharedChars, text: &[u8], at: usize) -> Option<usize>
     requires { at ≤ length text.now }
     ensures { result ≡ char_size set.now text.now at }
 {

@@ -143,27 +143,27 @@ fn lead(
 {
     let at = from.at;
     match spot {
-        Spot::Bytes { set, next } => from.go_past(byte_size(set, text, at), *next, stack),
-        Spot::Chars { set, next } => from.go_past(char_size(set, text, at), *next, stack),
+        Spot::Bytes { next, set } => from.go_past(byte_size(set, text, at), *next as usize, stack),
+        Spot::Chars { next, set } => from.go_past(char_size(set, text, at), *next as usize, stack),
         Spot::Look { look, next } => {
             if !holds(*look, text, at) {
                 return Ok(());
             }
-            from.go(*next, stack)
+            from.go(*next as usize, stack)
         }
-        Spot::Jump { next } => from.go(*next, stack),
+        Spot::Jump { next } => from.go(*next as usize, stack),
         Spot::Split { first, second } => {
-            let other = from.copy_at(alloc, *second)?;
+            let other = from.copy_at(alloc, *second as usize)?;
             stack.push(other)?;
-            from.go(*first, stack)
+            from.go(*first as usize, stack)
         }
         Spot::Open { next } => {
             from.open_group()?;
-            from.go(*next, stack)
+            from.go(*next as usize, stack)
         }
         Spot::Close { index, next } => {
-            from.close_group(*index);
-            from.go(*next, stack)
+            from.close_group(*index as usize);
+            from.go(*next as usize, stack)
         }
         Spot::Fail | Spot::Match => Ok(()),
     }

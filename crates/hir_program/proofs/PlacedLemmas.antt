@@ -91,9 +91,9 @@ module _ (text : List ℕ) (spots : List Spot) (falls : ClosesFall spots) where
   placed-runs empty n f p starts r h =
       gives-visit n (spot.Jump f) starts r (gives_on f starts) (λ s. s ∷ []) p refl (sym (append-nil _))
   placed-runs (byte_in set) n f p starts r h =
-      gives-visit n (spot.Bytes set f) starts r (gives_on f starts) (take_size (byte_size set text)) p refl refl
+      gives-visit n (spot.Bytes f set) starts r (gives_on f starts) (take_size (byte_size set text)) p refl refl
   placed-runs (char_in set) n f p starts r h =
-      gives-visit n (spot.Chars set f) starts r (gives_on f starts) (take_size (char_size set text)) p refl refl
+      gives-visit n (spot.Chars f set) starts r (gives_on f starts) (take_size (char_size set text)) p refl refl
   placed-runs (look l) n f p starts r h =
       gives-visit n (spot.Look l f) starts r (gives_on f starts) (λ s. if holds l text s.at then s ∷ [] else []) p refl
       (cases (holds l text r.at))

@@ -62,8 +62,8 @@ tie_le spots q = cases (spot_at spots q) refl
   where
     cases : (s : Spot) → spot_at spots q ≡ s → tie s q ≤ length spots
     cases (spot.Close i f) e = omega (arith, not_fail spots q _ e (λ h. cc))
-    cases (spot.Bytes set f) e = omega arith
-    cases (spot.Chars set f) e = omega arith
+    cases (spot.Bytes f set) e = omega arith
+    cases (spot.Chars f set) e = omega arith
     cases (spot.Look l f) e = omega arith
     cases (spot.Jump f) e = omega arith
     cases (spot.Split a b) e = omega arith
@@ -159,9 +159,9 @@ module _ (text : List ℕ) (spots : List Spot) where
           let low = falls q i f e in
           let mine : tie (spot_at spots q) q ≡ q + 1 = ap (λ x. tie x q) e in
           same f (closed i t) (rw mine (omega (arith, low)))
-      cases (spot.Bytes set f) e = seen_or (spot.Bytes set f) (λ new. take (byte_size set text) (byte_size-within set text) f (untied q _ e refl)) _ refl
-      cases (spot.Chars set f) e =
-          seen_or (spot.Chars set f) (λ new. take (char_size set text) (char_size-within set text) f (untied q _ e refl)) _ refl
+      cases (spot.Bytes f set) e = seen_or (spot.Bytes f set) (λ new. take (byte_size set text) (byte_size-within set text) f (untied q _ e refl)) _ refl
+      cases (spot.Chars f set) e =
+          seen_or (spot.Chars f set) (λ new. take (char_size set text) (char_size-within set text) f (untied q _ e refl)) _ refl
       cases (spot.Look l f) e =
           seen_or (spot.Look l f) (λ new. ap (λ xs. cond (holds l text t.run.at) xs []) (lower _ e refl (λ x. cc) new f (marked q t) refl refl)) _ refl
       cases (spot.Jump f) e = seen_or (spot.Jump f) (λ new. lower _ e refl (λ x. cc) new f (marked q t) refl refl) _ refl

@@ -8,8 +8,8 @@ use Rattle.hir_program.specs.declared.spot.Spot.TheVariants as spot
 
 -- the spot goes on at the other, without a byte or behind one
 abbrev pub goes_on_at : ℕ → Spot → Bool
-goes_on_at p (spot.Bytes set q) = q == p
-goes_on_at p (spot.Chars set q) = q == p
+goes_on_at p (spot.Bytes q set) = q == p
+goes_on_at p (spot.Chars q set) = q == p
 goes_on_at p (spot.Look l q) = q == p
 goes_on_at p (spot.Jump q) = q == p
 goes_on_at p (spot.Split q r) = q == p || r == p

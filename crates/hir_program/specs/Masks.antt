@@ -47,20 +47,20 @@ row_place mask i = 256 * (i / 8) + mask / 2 ^ (8 * (i / 8)) % 256
 
 -- the spot takes bytes
 abbrev pub is_taker : Spot → Bool
-is_taker (spot.Bytes set q) = true
-is_taker (spot.Chars set q) = true
+is_taker (spot.Bytes q set) = true
+is_taker (spot.Chars q set) = true
 is_taker _ = false
 
 -- the spot that comes after the bytes
 abbrev pub next_of : Spot → ℕ
-next_of (spot.Bytes set q) = q
-next_of (spot.Chars set q) = q
+next_of (spot.Bytes q set) = q
+next_of (spot.Chars q set) = q
 next_of _ = 0
 
 -- the spot takes this byte, or the ASCII character that it is
 abbrev pub takes_byte : Spot → ℕ → Bool
-takes_byte (spot.Bytes set q) b = in_set set b
-takes_byte (spot.Chars set q) b = nat_lt b 128 && in_set set b
+takes_byte (spot.Bytes q set) b = in_set set b
+takes_byte (spot.Chars q set) b = nat_lt b 128 && in_set set b
 takes_byte _ b = false
 
 -- the set has a member beyond ASCII
@@ -69,7 +69,7 @@ has_wide set = list_any (λ r. nat_lt 127 r.1) set
 
 -- the spot may take a character beyond ASCII
 abbrev pub is_wide : Spot → Bool
-is_wide (spot.Chars set q) = has_wide set
+is_wide (spot.Chars q set) = has_wide set
 is_wide _ = false
 
 -- where a spot leads without a byte

@@ -64,8 +64,8 @@ tie s q = if is_close s then q + 1 else 0
 module _ (text : List ℕ) (spots : List Spot) where
   -- what a spot gives to a way, where `next` says what the others give
   abbrev pub follow : Gives → Spot → Way → List Run
-  follow next (spot.Bytes set q) w = flat_map (λ r. next q (way w.starts r)) (take_size (byte_size set text) w.run)
-  follow next (spot.Chars set q) w = flat_map (λ r. next q (way w.starts r)) (take_size (char_size set text) w.run)
+  follow next (spot.Bytes q set) w = flat_map (λ r. next q (way w.starts r)) (take_size (byte_size set text) w.run)
+  follow next (spot.Chars q set) w = flat_map (λ r. next q (way w.starts r)) (take_size (char_size set text) w.run)
   follow next (spot.Look l q) w = if holds l text w.run.at then next q w else []
   follow next (spot.Jump q) w = next q w
   follow next (spot.Split p q) w = next p w ++ next q w
@@ -104,8 +104,8 @@ ClosesFall spots = (q i f : ℕ) → spot_at spots q ≡ spot.Close i f → tie 
 -- The core stands in the program at n, each node at its number, and what follows it at f.
 abbrev pub Placed : List Spot → ℕ → ℕ → Core → Type 0
 Placed spots n f empty = spot_at spots n ≡ spot.Jump f
-Placed spots n f (byte_in ranges) = spot_at spots n ≡ spot.Bytes ranges f
-Placed spots n f (char_in ranges) = spot_at spots n ≡ spot.Chars ranges f
+Placed spots n f (byte_in ranges) = spot_at spots n ≡ spot.Bytes f ranges
+Placed spots n f (char_in ranges) = spot_at spots n ≡ spot.Chars f ranges
 Placed spots n f (look l) = spot_at spots n ≡ spot.Look l f
 Placed spots n f (group i a) =
     (spot_at spots n ≡ spot.Open (n + 2)) × (spot_at spots (n + 1) ≡ spot.Close i f) × Placed spots (n + 2) (n + 1) a

@@ -19,8 +19,9 @@ use hir_tree::{Bytes, Hir};
 use sd_base::NoMemory;
 use std::alloc::Global;
 
-/// Programs have fewer spots than this, since no memory holds more.
-const SPOTS_BELOW: usize = 1 << 62;
+/// A pattern takes fewer spots than this: they and the three of the whole match have numbers below 2^32. What takes more would need
+/// 64 GiB, and is refused as a want of memory.
+const SPOTS_BELOW: usize = (1 << 32) - 2;
 
 /// The program of a pattern. Refuses for want of memory alone.
 pub fn program(alloc: Global, hir: &Hir) -> Result<Vec<Spot>, NoMemory>
@@ -33,7 +34,7 @@ pub fn program(alloc: Global, hir: &Hir) -> Result<Vec<Spot>, NoMemory>
         return Err(NoMemory);
     }
     let mut spots = Vec::with_capacity(alloc, count + 3)?;
-    push_ends(0, count + 2, &mut spots)?;
+    push_ends(0, (count + 2) as u32, &mut spots)?;
     compile(alloc, hir, 1, &mut spots)?;
     spots.push(Spot::Match)?;
     Ok(spots)
@@ -42,8 +43,8 @@ pub fn program(alloc: Global, hir: &Hir) -> Result<Vec<Spot>, NoMemory>
 /// Appends the spots of a pattern, which the spot `next` follows. Refuses for want of memory alone, and leaves some of the
 /// spots then.
 #[cycle(compile)]
-fn compile(alloc: Global, hir: &Hir, next: usize, out: &mut Vec<Spot>) -> Result<(), NoMemory>
-    requires { vec_len out.old + numbers (core_of hir.now) < 2 ^ 63 }
+fn compile(alloc: Global, hir: &Hir, next: u32, out: &mut Vec<Spot>) -> Result<(), NoMemory>
+    requires { vec_len out.old + numbers (core_of hir.now) < 2 ^ 32 }
     ensures { OnOk result (Lays out.old.items out.new.items next (core_of hir.now)) }
 {
     match hir {
@@ -60,7 +61,7 @@ fn compile(alloc: Global, hir: &Hir, next: usize, out: &mut Vec<Spot>) -> Result
             }
         },
         Hir::Capture(group) => {
-            let end = out.len() + 1;
+            let end = (out.len() + 1) as u32;
             push_ends(group.index, next, out)?;
             compile(alloc, &group.sub, end, out)
         }
@@ -71,8 +72,8 @@ fn compile(alloc: Global, hir: &Hir, next: usize, out: &mut Vec<Spot>) -> Result
 
 /// Appends one part after another.
 #[cycle(compile)]
-fn lay_row(alloc: Global, parts: &[Hir], next: usize, out: &mut Vec<Spot>) -> Result<(), NoMemory>
-    requires { vec_len out.old + numbers (pair_all (map core_of parts.now)) < 2 ^ 63 }
+fn lay_row(alloc: Global, parts: &[Hir], next: u32, out: &mut Vec<Spot>) -> Result<(), NoMemory>
+    requires { vec_len out.old + numbers (pair_all (map core_of parts.now)) < 2 ^ 32 }
     ensures { OnOk result (Lays out.old.items out.new.items next (pair_all (map core_of parts.now))) }
 {
     if parts.is_empty() {
@@ -88,18 +89,13 @@ fn lay_row(alloc: Global, parts: &[Hir], next: usize, out: &mut Vec<Spot>) -> Re
 
 /// Appends one of the parts, the first preferred.
 #[cycle(compile)]
-fn lay_choice(
-    alloc: Global,
-    parts: &[Hir],
-    next: usize,
-    out: &mut Vec<Spot>,
-) -> Result<(), NoMemory>
-    requires { vec_len out.old + numbers (choice_all (map core_of parts.now)) < 2 ^ 63 }
+fn lay_choice(alloc: Global, parts: &[Hir], next: u32, out: &mut Vec<Spot>) -> Result<(), NoMemory>
+    requires { vec_len out.old + numbers (choice_all (map core_of parts.now)) < 2 ^ 32 }
     ensures { OnOk result (Lays out.old.items out.new.items next (choice_all (map core_of parts.now))) }
 {
     for part in parts {
         let first = out.len() + 1;
-        push_split(first, first + size(part), out)?;
+        push_split(first as u32, (first + size(part)) as u32, out)?;
         compile(alloc, part, next, out)?;
     }
     push_fail(out)
@@ -112,10 +108,10 @@ fn lay_at_least(
     part: &Hir,
     least: u32,
     greedy: bool,
-    next: usize,
+    next: u32,
     out: &mut Vec<Spot>,
 ) -> Result<(), NoMemory>
-    requires { vec_len out.old + numbers (at_least greedy least (core_of part.now)) < 2 ^ 63 }
+    requires { vec_len out.old + numbers (at_least greedy least (core_of part.now)) < 2 ^ 32 }
     ensures { OnOk result (Lays out.old.items out.new.items next (at_least greedy least (core_of part.now))) }
 {
     if least == 0 {
@@ -131,19 +127,19 @@ fn lay_any(
     alloc: Global,
     part: &Hir,
     greedy: bool,
-    next: usize,
+    next: u32,
     out: &mut Vec<Spot>,
 ) -> Result<(), NoMemory>
-    requires { vec_len out.old + numbers (at_least greedy 0 (core_of part.now)) < 2 ^ 63 }
+    requires { vec_len out.old + numbers (at_least greedy 0 (core_of part.now)) < 2 ^ 32 }
     ensures { OnOk result (Lays out.old.items out.new.items next (at_least greedy 0 (core_of part.now))) }
 {
     let first = out.len() + 1;
     if greedy {
-        push_split(first, first + 2 + size(part), out)?;
+        push_split(first as u32, (first + 2 + size(part)) as u32, out)?;
         lay_rounds(alloc, part, greedy, next, out)?;
         lay_empty(next, out)
     } else {
-        push_split(first, first + 1, out)?;
+        push_split(first as u32, (first + 1) as u32, out)?;
         lay_empty(next, out)?;
         lay_rounds(alloc, part, greedy, next, out)
     }
@@ -155,13 +151,13 @@ fn lay_rounds(
     alloc: Global,
     part: &Hir,
     greedy: bool,
-    next: usize,
+    next: u32,
     out: &mut Vec<Spot>,
 ) -> Result<(), NoMemory>
-    requires { vec_len out.old + numbers (plus greedy (core_of part.now)) < 2 ^ 63 }
+    requires { vec_len out.old + numbers (plus greedy (core_of part.now)) < 2 ^ 32 }
     ensures { OnOk result (Lays out.old.items out.new.items next (plus greedy (core_of part.now))) }
 {
-    let again = out.len() + 1;
+    let again = (out.len() + 1) as u32;
     push_rounds(greedy, next, out)?;
     compile(alloc, part, again, out)
 }
@@ -174,10 +170,10 @@ fn lay_with_more(
     least: u32,
     more: u32,
     greedy: bool,
-    next: usize,
+    next: u32,
     out: &mut Vec<Spot>,
 ) -> Result<(), NoMemory>
-    requires { vec_len out.old + numbers (with_more greedy least more (core_of part.now)) < 2 ^ 63 }
+    requires { vec_len out.old + numbers (with_more greedy least more (core_of part.now)) < 2 ^ 32 }
     ensures { OnOk result (Lays out.old.items out.new.items next (with_more greedy least more (core_of part.now))) }
 {
     if more > 0 {
@@ -194,7 +190,7 @@ fn lay_with_more(
 /// Appends so many copies of a part, before what is appended next.
 #[cycle(compile)]
 fn lay_copies(alloc: Global, part: &Hir, count: u32, out: &mut Vec<Spot>) -> Result<(), NoMemory>
-    requires { vec_len out.old + numbers (copies count (core_of part.now) empty) < 2 ^ 63 }
+    requires { vec_len out.old + numbers (copies count (core_of part.now) empty) < 2 ^ 32 }
     ensures { OnOk result ((next : ℕ) (b : Core) → Waits out.old.items out.new.items next (copies count (core_of part.now) b) b) }
 {
     if count == 0 {
@@ -214,11 +210,11 @@ fn lay_up_to(
     part: &Hir,
     count: u32,
     greedy: bool,
-    next: usize,
+    next: u32,
     out: &mut Vec<Spot>,
 ) -> Result<(), NoMemory>
     requires some { 0 < count }
-    requires fits { vec_len out.old + numbers (up_to greedy count (core_of part.now)) < 2 ^ 63 }
+    requires fits { vec_len out.old + numbers (up_to greedy count (core_of part.now)) < 2 ^ 32 }
     ensures { OnOk result (Lays out.old.items out.new.items next (up_to greedy count (core_of part.now))) }
 {
     if greedy {
@@ -234,21 +230,21 @@ fn lay_greedy(
     alloc: Global,
     part: &Hir,
     count: u32,
-    next: usize,
+    next: u32,
     out: &mut Vec<Spot>,
 ) -> Result<(), NoMemory>
     requires some { 0 < count }
-    requires fits { vec_len out.old + numbers (up_to true count (core_of part.now)) < 2 ^ 63 }
+    requires fits { vec_len out.old + numbers (up_to true count (core_of part.now)) < 2 ^ 32 }
     ensures { OnOk result (Lays out.old.items out.new.items next (up_to true count (core_of part.now))) }
 {
     let size = size(part);
     let mut left_out = out.len() + up_to_size(size, count) - 1;
     for _left in (1..count).rev() {
-        push_split(out.len() + 1, left_out, out)?;
+        push_split((out.len() + 1) as u32, left_out as u32, out)?;
         lay_first(alloc, part, size, out)?;
         left_out -= 1;
     }
-    push_split(out.len() + 1, left_out, out)?;
+    push_split((out.len() + 1) as u32, left_out as u32, out)?;
     compile(alloc, part, next, out)?;
     lay_empties(count, next, out)
 }
@@ -259,11 +255,11 @@ fn lay_lazy(
     alloc: Global,
     part: &Hir,
     count: u32,
-    next: usize,
+    next: u32,
     out: &mut Vec<Spot>,
 ) -> Result<(), NoMemory>
     requires some { 0 < count }
-    requires fits { vec_len out.old + numbers (up_to false count (core_of part.now)) < 2 ^ 63 }
+    requires fits { vec_len out.old + numbers (up_to false count (core_of part.now)) < 2 ^ 32 }
     ensures { OnOk result (Lays out.old.items out.new.items next (up_to false count (core_of part.now))) }
 {
     let size = size(part);
@@ -279,22 +275,17 @@ fn lay_lazy(
 #[cycle(compile)]
 fn lay_first(alloc: Global, part: &Hir, size: usize, out: &mut Vec<Spot>) -> Result<(), NoMemory>
     requires size { size ≡ numbers (core_of part.now) }
-    requires fits { vec_len out.old + numbers (core_of part.now) + 1 < 2 ^ 63 }
+    requires fits { vec_len out.old + numbers (core_of part.now) + 1 < 2 ^ 32 }
     ensures { OnOk result (LaysFirst out.old.items out.new.items (core_of part.now)) }
 {
     let first = out.len() + 1;
-    push_jump(first, out)?;
-    compile(alloc, part, first + size, out)
+    push_jump(first as u32, out)?;
+    compile(alloc, part, (first + size) as u32, out)
 }
 
 /// Appends bytes one after another.
-fn lay_literal(
-    alloc: Global,
-    bytes: &Bytes,
-    next: usize,
-    out: &mut Vec<Spot>,
-) -> Result<(), NoMemory>
-    requires { vec_len out.old + numbers (literal bytes.now) < 2 ^ 63 }
+fn lay_literal(alloc: Global, bytes: &Bytes, next: u32, out: &mut Vec<Spot>) -> Result<(), NoMemory>
+    requires { vec_len out.old + numbers (literal bytes.now) < 2 ^ 32 }
     ensures { OnOk result (Lays out.old.items out.new.items next (literal bytes.now)) }
 {
     if bytes.len() == 0 {
@@ -303,21 +294,21 @@ fn lay_literal(
     let last = bytes.len() - 1;
     for i in 0..last {
         let first = out.len() + 1;
-        push_jump(first, out)?;
-        push_byte(alloc, bytes.get(i), first + 1, out)?;
+        push_jump(first as u32, out)?;
+        push_byte(alloc, bytes.get(i), (first + 1) as u32, out)?;
     }
     push_byte(alloc, bytes.get(last), next, out)
 }
 
 /// Appends a spot that takes nothing.
-fn lay_empty(next: usize, out: &mut Vec<Spot>) -> Result<(), NoMemory>
+fn lay_empty(next: u32, out: &mut Vec<Spot>) -> Result<(), NoMemory>
     ensures { OnOk result (Lays out.old.items out.new.items next empty) }
 {
     push_jump(next, out)
 }
 
 /// Appends so many spots that take nothing.
-fn lay_empties(count: u32, next: usize, out: &mut Vec<Spot>) -> Result<(), NoMemory>
+fn lay_empties(count: u32, next: u32, out: &mut Vec<Spot>) -> Result<(), NoMemory>
     ensures { OnOk result (LaysEmpties count out.old.items out.new.items next) }
 {
     for _i in 0..count {
@@ -327,11 +318,11 @@ fn lay_empties(count: u32, next: usize, out: &mut Vec<Spot>) -> Result<(), NoMem
 }
 
 /// Appends the choice of taking nothing before what is appended next.
-fn lay_or_none(next: usize, out: &mut Vec<Spot>) -> Result<(), NoMemory>
-    requires { vec_len out.old + 2 < 2 ^ 63 }
+fn lay_or_none(next: u32, out: &mut Vec<Spot>) -> Result<(), NoMemory>
+    requires { vec_len out.old + 2 < 2 ^ 32 }
     ensures { OnOk result ((b : Core) → Waits out.old.items out.new.items next (optional false b) b) }
 {
     let first = out.len() + 1;
-    push_split(first, first + 1, out)?;
+    push_split(first as u32, (first + 1) as u32, out)?;
     lay_empty(next, out)
 }

@@ -15,8 +15,8 @@ fn goes_on_at(to: usize, spot: &Spot) -> bool
         | Spot::Look { next, .. }
         | Spot::Jump { next }
         | Spot::Open { next }
-        | Spot::Close { next, .. } => *next == to,
-        Spot::Split { first, second } => *first == to || *second == to,
+        | Spot::Close { next, .. } => *next as usize == to,
+        Spot::Split { first, second } => *first as usize == to || *second as usize == to,
         Spot::Fail | Spot::Match => false,
     }
 }
@@ -41,11 +41,14 @@ pub fn entry_of(spots: &[Spot]) -> Option<usize>
     let Some(Spot::Open { next }) = spots.get(0) else {
         return None;
     };
-    if *next == 0 || !is_behind_first(spots, 0) {
+    let next = *next as usize;
+    if next == 0 || !is_behind_first(spots, 0) {
         return None;
     }
-    match spots.get(*next) {
-        Some(Spot::Jump { next: behind }) if is_behind_first(spots, *next) => Some(*behind),
-        _ => Some(*next),
+    match spots.get(next) {
+        Some(Spot::Jump { next: behind }) if is_behind_first(spots, next) => {
+            Some(*behind as usize)
+        }
+        _ => Some(next),
     }
 }

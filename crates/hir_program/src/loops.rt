@@ -38,7 +38,7 @@ fn leads_to(spots: &[Spot], place: usize, to: usize) -> bool
     ensures { result ≡ true → LeadsTo (spot_at spots.now place) to }
 {
     match spots.get(place) {
-        Some(Spot::Bytes { next, .. } | Spot::Chars { next, .. }) => *next == to,
+        Some(Spot::Bytes { next, .. } | Spot::Chars { next, .. }) => *next as usize == to,
         _ => false,
     }
 }
@@ -50,7 +50,7 @@ fn ends_surely(spots: &[Spot], from: usize) -> bool
     let mut place = from;
     for _ in 0..spots.len() {
         match spots.get(place) {
-            Some(Spot::Close { next, .. }) => place = *next,
+            Some(Spot::Close { next, .. }) => place = *next as usize,
             Some(Spot::Match) => return true,
             _ => return false,
         }
@@ -65,17 +65,18 @@ fn ways_at(spots: &[Spot], place: usize) -> Option<Ways>
     let Some(Spot::Split { first, second }) = spots.get(place) else {
         return None;
     };
-    if leads_to(spots, *first, place) {
+    let (first, second) = (*first as usize, *second as usize);
+    if leads_to(spots, first, place) {
         return Some(Ways {
-            round: *first,
-            out: *second,
-            is_sure: ends_surely(spots, *second),
+            round: first,
+            out: second,
+            is_sure: ends_surely(spots, second),
         });
     }
-    if leads_to(spots, *second, place) {
+    if leads_to(spots, second, place) {
         return Some(Ways {
-            round: *second,
-            out: *first,
+            round: second,
+            out: first,
             is_sure: false,
         });
     }

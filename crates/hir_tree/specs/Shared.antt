@@ -1,6 +1,5 @@
 -- What a list of ranges holds that copies share.
 use Rattle.std.specs.Prelude.{ℕ, List, []}
-use Rattle.std.specs.Arc.{arc_value}
 use Rattle.hir_tree.specs.declared.shared.Held.{Held}
 use Rattle.hir_tree.specs.declared.shared.Held.TheVariants as held
 
@@ -8,4 +7,4 @@ use Rattle.hir_tree.specs.declared.shared.Held.TheVariants as held
 abbrev pub ranges_in : Held → List (ℕ × ℕ)
 ranges_in held.Empty = []
 ranges_in (held.Own ranges) = ranges.value.items
-ranges_in (held.Shared ranges) = (arc_value ranges).items
+ranges_in (held.Shared ranges) = ranges

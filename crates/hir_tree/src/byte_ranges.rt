@@ -1,11 +1,12 @@
 //! Sets of bytes as ranges.
 
-ghost use Rattle.std.specs.Prelude.{◌≡◌, ◌↔◌, ◌⊎◌, ◌<◌, ◌≤◌, [], ◌∷◌, ℕ, length, slice_get, IfOk, OnOk, OnErr, Some};
+ghost use Rattle.std.specs.Prelude.{◌≡◌, ◌↔◌, ◌⊎◌, ◌<◌, ◌≤◌, [], ℕ, length, slice_get, IfOk, OnOk, OnErr, Some};
 ghost use Rattle.hir_tree.specs.Ranges.{AreByteRanges, Holds, IsWithin};
 ghost use Rattle.hir_tree.specs.Runs.{in_set};
 
 use crate::ranges::holds_number;
 use crate::shared::SharedRanges;
+use crate::shared_bytes::SharedBytes;
 use sd_base::NoMemory;
 use std::alloc::Global;
 use std::marker::Model;
@@ -37,20 +38,20 @@ impl ByteRanges {
         }
     }
 
-    /// One byte alone. Refuses for want of memory alone.
-    pub fn of_byte(alloc: Global, byte: u8) -> Result<ByteRanges, NoMemory>
-        ensures { IfOk result (λ set. set ≡ (byte, byte) ∷ []) }
-    {
-        let ranges = SharedRanges::of_one(alloc, (u32::from(byte), u32::from(byte)))?;
-        Ok(ByteRanges { ranges })
-    }
-
     /// A copy of the set, which shares its ranges with copies of it. Refuses for want of memory alone.
     pub fn try_clone(&self, alloc: Global) -> Result<ByteRanges, NoMemory>
         ensures { IfOk result (λ copy. copy ≡ self.now) }
     {
         let ranges = self.ranges.try_clone(alloc)?;
         Ok(ByteRanges { ranges })
+    }
+
+    /// The set in one pointer, which shares its ranges with copies of the set. Refuses for want of memory alone.
+    pub fn shared(&self, alloc: Global) -> Result<SharedBytes, NoMemory>
+        ensures { IfOk result (λ shared. shared ≡ self.now) }
+    {
+        let ranges = self.ranges.in_one(alloc)?;
+        Ok(SharedBytes { ranges })
     }
 
     /// Unites a range with the set. Refuses for want of memory alone, and then changes nothing.

@@ -7,6 +7,7 @@ ghost use Rattle.hir_tree.specs.Runs.{in_set};
 
 use crate::ranges::holds_number;
 use crate::shared::SharedRanges;
+use crate::shared_chars::SharedChars;
 use sd_base::NoMemory;
 use std::alloc::Global;
 use std::marker::Model;
@@ -18,7 +19,7 @@ const GAP_START: u32 = 0xD800;
 const GAP_LEN: u32 = 0x800;
 
 /// How many characters come before a character, in the order of their codes.
-fn number_of(char: char) -> u32
+pub(crate) fn number_of(char: char) -> u32
     ensures number { nth_char result ≡ char }
     ensures in_range { result < 0x10F800 }
 {
@@ -31,7 +32,7 @@ fn number_of(char: char) -> u32
 }
 
 /// The character before which so many come.
-fn char_at(number: u32) -> char
+pub(crate) fn char_at(number: u32) -> char
     requires { number < 0x10F800 }
     ensures { result ≡ nth_char number }
 {
@@ -81,6 +82,14 @@ impl CharRanges {
     {
         let ranges = self.ranges.try_clone(alloc)?;
         Ok(CharRanges { ranges })
+    }
+
+    /// The set in one pointer, which shares its ranges with copies of the set. Refuses for want of memory alone.
+    pub fn shared(&self, alloc: Global) -> Result<SharedChars, NoMemory>
+        ensures { IfOk result (λ shared. shared ≡ self.now) }
+    {
+        let ranges = self.ranges.in_one(alloc)?;
+        Ok(SharedChars { ranges })
     }
 
     /// Unites a range with the set. Refuses for want of memory alone, and then changes nothing.

@@ -20,10 +20,13 @@ mod look;
 mod onward;
 mod plain_text;
 mod range_laws;
+mod range_list;
 mod ranges;
 mod runs_examples;
 mod runs_laws;
 mod shared;
+mod shared_bytes;
+mod shared_chars;
 mod side;
 mod tree_laws;
 
@@ -56,6 +59,8 @@ pub use runs_laws::{
     choices_join_runs, numbers_do_not_matter, preferred_is_the_first_run,
     preferred_matches_are_whole, rounds_are_not_cut_off, runs_go_forward,
 };
+pub use shared_bytes::SharedBytes;
+pub use shared_chars::SharedChars;
 pub use tree_laws::{
     a_tree_is_made_of_the_trees_of_the_parts, trees_in_a_row_are_sound_where_each_is,
     trees_in_a_row_have_the_groups_of_each, trees_in_a_row_take_the_spots_of_each,

@@ -1,13 +1,13 @@
 //! Lists of ranges that copies share.
 
-ghost use Rattle.std.specs.Prelude.{◌≡◌, ◌↔◌, ◌⊎◌, ◌<◌, ◌≤◌, [], ◌∷◌, ℕ, All, IfOk, OnOk, OnErr, length, slice_index_or};
+ghost use Rattle.std.specs.Prelude.{◌≡◌, ◌↔◌, ◌⊎◌, ◌<◌, ◌≤◌, [], ℕ, All, IfOk, OnOk, OnErr, length, slice_index_or};
 ghost use Rattle.hir_tree.specs.Ranges.{AreApart, Holds, IsWithin, next_byte};
 
+use crate::range_list::RangeList;
 use crate::ranges::unite;
 use sd_base::NoMemory;
 use std::alloc::Global;
 use std::marker::Model;
-use std::sync::Arc;
 
 /// Who has a list of ranges.
 #[derive(Drop)]
@@ -17,7 +17,7 @@ enum Held {
     /// The one that has it.
     Own(Box<Vec<(u32, u32)>>),
     /// The one that has it, with its copies.
-    Shared(Arc<Vec<(u32, u32)>>),
+    Shared(RangeList),
 }
 
 /// A list of ranges of numbers. Copies share one, so a pattern's program takes no more room for a set that stands at many of its spots.
@@ -48,16 +48,6 @@ impl SharedRanges {
         }
     }
 
-    /// One range. Refuses for want of memory alone.
-    pub(crate) fn of_one(alloc: Global, range: (u32, u32)) -> Result<SharedRanges, NoMemory>
-        ensures { IfOk result (λ one. one ≡ range ∷ []) }
-    {
-        let mut ranges = Vec::new(alloc);
-        ranges.push(range)?;
-        let held = Held::Own(Box::new(alloc, ranges)?);
-        Ok(SharedRanges { alloc, held })
-    }
-
     /// The ranges.
     pub(crate) fn as_slice(&self) -> &[(u32, u32)]
         ensures value { result.now ≡ self.now }
@@ -85,11 +75,21 @@ impl SharedRanges {
             Held::Empty => Held::Empty,
             Held::Own(ranges) => {
                 let copy = Vec::from_slice(alloc, ranges.as_slice())?;
-                Held::Shared(Arc::new(alloc, copy)?)
+                Held::Shared(RangeList::of_list(alloc, copy)?)
             }
-            Held::Shared(ranges) => Held::Shared(Arc::try_clone(ranges)?),
+            Held::Shared(ranges) => Held::Shared(ranges.try_clone()?),
         };
         Ok(SharedRanges { alloc, held })
+    }
+
+    /// The list in one pointer, which is shared where the list is. Refuses for want of memory alone.
+    pub(crate) fn in_one(&self, alloc: Global) -> Result<RangeList, NoMemory>
+        ensures { IfOk result (λ list. list ≡ self.now) }
+    {
+        match &self.held {
+            Held::Shared(ranges) => ranges.try_clone(),
+            _ => RangeList::of_slice(alloc, self.as_slice()),
+        }
     }
 
     /// Unites a range with the list, in a copy of its own. Refuses for want of memory alone, and then changes nothing.

@@ -1,6 +1,6 @@
 //! What the lists of a pattern's tree hold after some calls.
 
-use hir_tree::{ByteRanges, Bytes, CharRanges};
+use hir_tree::{ByteRanges, Bytes, CharRanges, SharedBytes};
 use sd_base::NoMemory;
 use std::process::Abort;
 use std::test::Fail;
@@ -123,8 +123,10 @@ fn members_of_a_set_of_bytes(rt: HostRuntime) -> Result<(), Fail> {
     assert!(rt; !b"/:`g\xff".iter().any(|byte| set.contains(*byte)));
     let copy = set.try_clone(rt.alloc())?;
     check_bytes(&rt, &copy, &[(b'0', b'9'), (b'a', b'f')]);
-    let one = ByteRanges::of_byte(rt.alloc(), b'x')?;
-    check_bytes(&rt, &one, &[(b'x', b'x')]);
+    let shared = copy.shared(rt.alloc())?;
+    assert!(rt; shared.len() == 2 && shared.get(1) == (b'a', b'f') && shared.contains(b'5'));
+    let one = SharedBytes::of_byte(rt.alloc(), b'x')?;
+    assert!(rt; one.len() == 1 && one.get(0) == (b'x', b'x') && !one.contains(b'y'));
     Ok(())
 }
 

@@ -218,11 +218,11 @@ module _ (text : List ℕ) (spots : List Spot) (falls : ClosesFall spots) (begin
 
       turn_new : (s : Spot) → spot_at spots e.spot ≡ s → is_unmarked s ≡ false
           → Searching goal (slice_set marks mark true) kept ((leads text s (bare e).1 ++ leads_on text s (bare e).1) ++ map bare es)
-      turn_new (spot.Bytes set f) k plain =
-          take (spot.Bytes set f) (byte_size set text (place e)) f k plain (sized (byte_size set text) (byte_size-within set text))
+      turn_new (spot.Bytes f set) k plain =
+          take (spot.Bytes f set) (byte_size set text (place e)) f k plain (sized (byte_size set text) (byte_size-within set text))
           (taken_gives text spots falls (place e) (byte_size set text (place e)) f e.spot e.way)
-      turn_new (spot.Chars set f) k plain =
-          take (spot.Chars set f) (char_size set text (place e)) f k plain (sized (char_size set text) (char_size-within set text))
+      turn_new (spot.Chars f set) k plain =
+          take (spot.Chars f set) (char_size set text (place e)) f k plain (sized (char_size set text) (char_size-within set text))
           (taken_gives text spots falls (place e) (char_size set text (place e)) f e.spot e.way)
       turn_new (spot.Look l f) k plain = lead (spot.Look l f) k plain refl refl (look_same f (holds l text (place e)))
       turn_new (spot.Jump f) k plain = lead (spot.Jump f) k plain refl refl (sym (append-nil _))
@@ -286,8 +286,8 @@ module _ (text : List ℕ) (spots : List Spot) (falls : ClosesFall spots) (begin
               (((λ past. absurd (omega (arith, past, to))), calm), tt) (close_entry i f k)
       at_spot seen v spot.Match k live few = absurd (live refl)
       at_spot seen v spot.Fail k live few = inside spot.Fail k few refl seen v
-      at_spot seen v (spot.Bytes set f) k live few = inside (spot.Bytes set f) k few refl seen v
-      at_spot seen v (spot.Chars set f) k live few = inside (spot.Chars set f) k few refl seen v
+      at_spot seen v (spot.Bytes f set) k live few = inside (spot.Bytes f set) k few refl seen v
+      at_spot seen v (spot.Chars f set) k live few = inside (spot.Chars f set) k few refl seen v
       at_spot seen v (spot.Look l f) k live few = inside (spot.Look l f) k few refl seen v
       at_spot seen v (spot.Jump f) k live few = inside (spot.Jump f) k few refl seen v
       at_spot seen v (spot.Split a b) k live few = inside (spot.Split a b) k few refl seen v

@@ -38,10 +38,10 @@ module _ (text : List ℕ) where
   comes_from begin spot.Fail false w from within = tt
   comes_from begin spot.Match true w from within = tt
   comes_from begin spot.Match false w from within = tt
-  comes_from begin (spot.Bytes set f) true w from within = tt
-  comes_from begin (spot.Bytes set f) false w from within = tt
-  comes_from begin (spot.Chars set f) true w from within = tt
-  comes_from begin (spot.Chars set f) false w from within = tt
+  comes_from begin (spot.Bytes f set) true w from within = tt
+  comes_from begin (spot.Bytes f set) false w from within = tt
+  comes_from begin (spot.Chars f set) true w from within = tt
+  comes_from begin (spot.Chars f set) false w from within = tt
   comes_from begin (spot.Look l f) true w from within = tt
   comes_from begin (spot.Look l f) false w from within = cases (holds l text w.run.at)
     where
@@ -63,12 +63,12 @@ module _ (text : List ℕ) where
 module _ (text : List ℕ) (spots : List Spot) where
   -- a spot leads to two others at most, also by bytes
   on_few : (s : Spot) (w : Way) (rest : List Stop) → length ((leads text s w ++ leads_on text s w) ++ rest) ≤ 2 + length rest
-  on_few (spot.Bytes set f) w rest = cases (byte_size set text w.run.at)
+  on_few (spot.Bytes f set) w rest = cases (byte_size set text w.run.at)
     where
       cases : (o : Option ℕ) → length (taken o f w ++ rest) ≤ 2 + length rest
       cases None = omega arith
       cases (Some k) = omega arith
-  on_few (spot.Chars set f) w rest = cases (char_size set text w.run.at)
+  on_few (spot.Chars f set) w rest = cases (char_size set text w.run.at)
     where
       cases : (o : Option ℕ) → length (taken o f w ++ rest) ≤ 2 + length rest
       cases None = omega arith

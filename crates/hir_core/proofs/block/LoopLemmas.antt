@@ -75,10 +75,10 @@ module _ (text : List ℕ) (spots : List Spot) (falls : ClosesFall spots) where
           ∙ append-nil _ ∙ ap (λ (p : ℕ). gives text spots p (later t)) next
 
       cases : (s : Spot) → spot_at spots r ≡ s → LeadsTo s q → takes_byte s (slice_index text t.run.at) ≡ true → gives text spots r t ≡ gives text spots q (later t)
-      cases (spot.Bytes set f) k leads takes =
-          on (spot.Bytes set f) (byte_size set text) f k refl leads.1 refl (byte-size text set t.run.at within ∙ ap one_if takes)
-      cases (spot.Chars set f) k leads takes =
-          on (spot.Chars set f) (char_size set text) f k refl leads.1 refl (char-size text set t.run.at within low ∙ ap one_if (second _ _ takes))
+      cases (spot.Bytes f set) k leads takes =
+          on (spot.Bytes f set) (byte_size set text) f k refl leads.1 refl (byte-size text set t.run.at within ∙ ap one_if takes)
+      cases (spot.Chars f set) k leads takes =
+          on (spot.Chars f set) (char_size set text) f k refl leads.1 refl (char-size text set t.run.at within low ∙ ap one_if (second _ _ takes))
       cases (spot.Look l f) k leads takes = absurd (true≢false (sym leads.0))
       cases (spot.Jump f) k leads takes = absurd (true≢false (sym leads.0))
       cases (spot.Split a b) k leads takes = absurd (true≢false (sym leads.0))

@@ -46,10 +46,10 @@ size-of-ascii text s at takes within low says = record { leads = λ w here taker
   where
     on : (w : Way) → w.run.at ≡ at → (s : Spot) → is_taker s ≡ true → takes ≡ takes_byte s (slice_index text at)
         → leads_on text s w ≡ taken (one_if takes) (next_of s) w
-    on w here (spot.Bytes set q) taker e =
+    on w here (spot.Bytes q set) taker e =
         ap (λ (i : ℕ). taken (byte_size set text i) q w) here ∙ ap (λ (o : Option ℕ). taken o q w) (byte-size text set at within)
         ∙ ap (λ (b : Bool). taken (one_if b) q w) (sym e)
-    on w here (spot.Chars set q) taker e =
+    on w here (spot.Chars q set) taker e =
         ap (λ (i : ℕ). taken (char_size set text i) q w) here ∙ ap (λ (o : Option ℕ). taken o q w) (char-size text set at within low)
         ∙ ap (λ (b : Bool). taken (one_if b) q w) (sym (e ∙ ap (λ (b : Bool). b && in_set set (slice_index text at)) (lt-ltb _ _ low)))
     on w here (spot.Look l q) taker e = absurd (true≢false (sym taker))
@@ -65,7 +65,7 @@ within-at text size within at None e = search rules
 within-at text size within at (Some k) e = (within at k (sym e)).1
 
 -- a spot takes what its set takes
-pub size-of-bytes : (text : List ℕ) (s : Spot) (set : List (ℕ × ℕ)) (q at : ℕ) (o : Option ℕ) → s ≡ spot.Bytes set q → o ≡ byte_size set text at
+pub size-of-bytes : (text : List ℕ) (s : Spot) (set : List (ℕ × ℕ)) (q at : ℕ) (o : Option ℕ) → s ≡ spot.Bytes q set → o ≡ byte_size set text at
     → IsSizeTaken text s at o
 size-of-bytes text s set q at o k e = record {
   leads = λ w here taker.
@@ -74,7 +74,7 @@ size-of-bytes text s set q at o k e = record {
   within = within-at text (byte_size set text) (byte_size-within set text) at o e;
 }
 
-pub size-of-chars : (text : List ℕ) (s : Spot) (set : List (ℕ × ℕ)) (q at : ℕ) (o : Option ℕ) → s ≡ spot.Chars set q → o ≡ char_size set text at
+pub size-of-chars : (text : List ℕ) (s : Spot) (set : List (ℕ × ℕ)) (q at : ℕ) (o : Option ℕ) → s ≡ spot.Chars q set → o ≡ char_size set text at
     → IsSizeTaken text s at o
 size-of-chars text s set q at o k e = record {
   leads = λ w here taker.

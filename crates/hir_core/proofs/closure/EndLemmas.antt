@@ -142,8 +142,8 @@ module _ (text : List ℕ) (spots : List Spot) (falls : ClosesFall spots) (at : 
             lower f low j g (λ p n. let high = other p n in omega arith) e v
         cases spot.Match e v m = absurd (m e)
         cases spot.Fail e v m = own f v (ap is_unmarked e)
-        cases (spot.Bytes set g) e v m = own f v (ap is_unmarked e)
-        cases (spot.Chars set g) e v m = own f v (ap is_unmarked e)
+        cases (spot.Bytes g set) e v m = own f v (ap is_unmarked e)
+        cases (spot.Chars g set) e v m = own f v (ap is_unmarked e)
         cases (spot.Look l g) e v m = own f v (ap is_unmarked e)
         cases (spot.Jump g) e v m = own f v (ap is_unmarked e)
         cases (spot.Split a b) e v m = own f v (ap is_unmarked e)
@@ -198,8 +198,8 @@ module _ (text : List ℕ) (spots : List Spot) (falls : ClosesFall spots) (at : 
           (λ p was mark. spent p (own_of spots visited list are p was (own_plain (spot_at spots p) mark))) q i f (λ p n. absurd (none p n)) k v
       cases spot.Match k = plain (ap is_close k)
       cases spot.Fail k = plain (ap is_close k)
-      cases (spot.Bytes set f) k = plain (ap is_close k)
-      cases (spot.Chars set f) k = plain (ap is_close k)
+      cases (spot.Bytes f set) k = plain (ap is_close k)
+      cases (spot.Chars f set) k = plain (ap is_close k)
       cases (spot.Look l f) k = plain (ap is_close k)
       cases (spot.Jump f) k = plain (ap is_close k)
       cases (spot.Split a b) k = plain (ap is_close k)

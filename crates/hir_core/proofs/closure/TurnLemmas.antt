@@ -125,8 +125,8 @@ module _ (text : List ℕ) (spots : List Spot) (falls : ClosesFall spots) (at : 
   led_bare (spot.Split a b) e = refl
   led_bare (spot.Open f) e = refl
   led_bare (spot.Close i f) e = refl
-  led_bare (spot.Bytes set f) e = refl
-  led_bare (spot.Chars set f) e = refl
+  led_bare (spot.Bytes f set) e = refl
+  led_bare (spot.Chars f set) e = refl
   led_bare spot.Fail e = refl
   led_bare spot.Match e = refl
 
@@ -140,8 +140,8 @@ module _ (text : List ℕ) (spots : List Spot) (falls : ClosesFall spots) (at : 
   led_children (spot.Split a b) e here = ((here, refl), ((here, refl), tt))
   led_children (spot.Open f) e here = ((here, refl), tt)
   led_children (spot.Close i f) e here = ((here, refl), tt)
-  led_children (spot.Bytes set f) e here = tt
-  led_children (spot.Chars set f) e here = tt
+  led_children (spot.Bytes f set) e here = tt
+  led_children (spot.Chars f set) e here = tt
   led_children spot.Fail e here = tt
   led_children spot.Match e here = tt
 
@@ -204,8 +204,8 @@ module _ (text : List ℕ) (spots : List Spot) (falls : ClosesFall spots) (at : 
 
       cases : (s : Spot) → spot_at spots e.spot ≡ s → is_unmarked s ≡ false
           → Closing goal (slice_set bits e.spot true) (kept ++ leads_on text s (bare e).1) (leads text s (bare e).1 ++ map bare es)
-      cases (spot.Bytes set f) k plain = onto (spot.Bytes set f) _ k plain (taken_gives (byte_size set text e.way.run.at) f e.spot e.way)
-      cases (spot.Chars set f) k plain = onto (spot.Chars set f) _ k plain (taken_gives (char_size set text e.way.run.at) f e.spot e.way)
+      cases (spot.Bytes f set) k plain = onto (spot.Bytes f set) _ k plain (taken_gives (byte_size set text e.way.run.at) f e.spot e.way)
+      cases (spot.Chars f set) k plain = onto (spot.Chars f set) _ k plain (taken_gives (char_size set text e.way.run.at) f e.spot e.way)
       cases (spot.Look l f) k plain = onward (spot.Look l f) k plain refl (look_same f (holds l text e.way.run.at))
       cases (spot.Jump f) k plain = onward (spot.Jump f) k plain refl (sym (append-nil _))
       cases (spot.Split a b) k plain =
@@ -285,8 +285,8 @@ module _ (text : List ℕ) (spots : List Spot) (falls : ClosesFall spots) (at : 
       cases (spot.Close i f) k live seen v = ended i f k seen v
       cases spot.Match k live seen v = absurd (live refl)
       cases spot.Fail k live seen v = failed k seen v
-      cases (spot.Bytes set f) k live seen v = plainly (spot.Bytes set f) k refl (inside _ k (λ x. cc)) seen v
-      cases (spot.Chars set f) k live seen v = plainly (spot.Chars set f) k refl (inside _ k (λ x. cc)) seen v
+      cases (spot.Bytes f set) k live seen v = plainly (spot.Bytes f set) k refl (inside _ k (λ x. cc)) seen v
+      cases (spot.Chars f set) k live seen v = plainly (spot.Chars f set) k refl (inside _ k (λ x. cc)) seen v
       cases (spot.Look l f) k live seen v = plainly (spot.Look l f) k refl (inside _ k (λ x. cc)) seen v
       cases (spot.Jump f) k live seen v = plainly (spot.Jump f) k refl (inside _ k (λ x. cc)) seen v
       cases (spot.Split a b) k live seen v = plainly (spot.Split a b) k refl (inside _ k (λ x. cc)) seen v
@@ -482,8 +482,8 @@ module _ (text : List ℕ) where
       cases (Some k) e = let h = within w.run.at k e in ((omega arith, h.1), tt)
 
   leads_on_later : (s : Spot) (w : Way) → AllLater text w.run.at (leads_on text s w)
-  leads_on_later (spot.Bytes set f) w = taken_later (byte_size set text) (byte_size-within set text) f w
-  leads_on_later (spot.Chars set f) w = taken_later (char_size set text) (char_size-within set text) f w
+  leads_on_later (spot.Bytes f set) w = taken_later (byte_size set text) (byte_size-within set text) f w
+  leads_on_later (spot.Chars f set) w = taken_later (char_size set text) (char_size-within set text) f w
   leads_on_later (spot.Look l f) w = tt
   leads_on_later (spot.Jump f) w = tt
   leads_on_later (spot.Split a b) w = tt
@@ -562,8 +562,8 @@ pub length-visiting : (s : Spot) (q : ℕ) (bits : List Bool) → length (visiti
 length-visiting (spot.Close i f) q bits = length-set bits q true
 length-visiting spot.Match q bits = refl
 length-visiting spot.Fail q bits = length-set bits q true
-length-visiting (spot.Bytes set f) q bits = length-set bits q true
-length-visiting (spot.Chars set f) q bits = length-set bits q true
+length-visiting (spot.Bytes f set) q bits = length-set bits q true
+length-visiting (spot.Chars f set) q bits = length-set bits q true
 length-visiting (spot.Look l f) q bits = length-set bits q true
 length-visiting (spot.Jump f) q bits = length-set bits q true
 length-visiting (spot.Split a b) q bits = length-set bits q true

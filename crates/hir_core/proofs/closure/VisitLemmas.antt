@@ -37,8 +37,8 @@ visits-visiting spots bits q e = cases (spot_at spots q) refl
     cases : (s : Spot) → spot_at spots q ≡ s → counted_visits spots (visiting s q bits) ≡ counted_visits spots bits + visit_ticks s (was_visited bits q)
     cases (spot.Close i f) k = visits_set spots bits q e ∙ ap (λ s. counted_visits spots bits + visit_ticks s (was_visited bits q)) k
     cases spot.Match k = omega arith
-    cases (spot.Bytes set f) k = visits_set spots bits q e ∙ ap (λ s. counted_visits spots bits + visit_ticks s (was_visited bits q)) k
-    cases (spot.Chars set f) k = visits_set spots bits q e ∙ ap (λ s. counted_visits spots bits + visit_ticks s (was_visited bits q)) k
+    cases (spot.Bytes f set) k = visits_set spots bits q e ∙ ap (λ s. counted_visits spots bits + visit_ticks s (was_visited bits q)) k
+    cases (spot.Chars f set) k = visits_set spots bits q e ∙ ap (λ s. counted_visits spots bits + visit_ticks s (was_visited bits q)) k
     cases (spot.Look l f) k = visits_set spots bits q e ∙ ap (λ s. counted_visits spots bits + visit_ticks s (was_visited bits q)) k
     cases (spot.Jump f) k = visits_set spots bits q e ∙ ap (λ s. counted_visits spots bits + visit_ticks s (was_visited bits q)) k
     cases (spot.Split a b) k = visits_set spots bits q e ∙ ap (λ s. counted_visits spots bits + visit_ticks s (was_visited bits q)) k

@@ -57,8 +57,8 @@ module _ (spots : List Spot) where
   -- the spots of a core that is placed in the program
   placed_tally : (core : Core) (n f : ℕ) → Placed spots n f core → tally n (numbers core) ≤ core_spots core
   placed_tally empty n f p = let one = tally_first n 0 1 (spot.Jump f) p refl in omega (arith, one)
-  placed_tally (byte_in ranges) n f p = let one = tally_first n 0 1 (spot.Bytes ranges f) p refl in omega (arith, one)
-  placed_tally (char_in ranges) n f p = let one = tally_first n 0 1 (spot.Chars ranges f) p refl in omega (arith, one)
+  placed_tally (byte_in ranges) n f p = let one = tally_first n 0 1 (spot.Bytes f ranges) p refl in omega (arith, one)
+  placed_tally (char_in ranges) n f p = let one = tally_first n 0 1 (spot.Chars f ranges) p refl in omega (arith, one)
   placed_tally (look l) n f p = let one = tally_first n 0 1 (spot.Look l f) p refl in omega (arith, one)
   placed_tally (group i a) n f p =
       let whole = group_tally i n f (core_spots a) a p (placed_tally a (n + 2) (n + 1) p.2) in

@@ -36,10 +36,10 @@ module _ (text : List ℕ) (spots : List Spot) (count : ℕ) where
   past_whole next whole f w (Some k) h = All-append (IsWhole count) (next f (way w.starts (moved k w.run))) [] (whole f (way w.starts (moved k w.run)) h.0) tt
 
   follow_whole : (next : Gives) → GivesWhole text count next → (s : Spot) (w : Way) → IsSound text count w → AllWhole count (follow text spots next s w)
-  follow_whole next whole (spot.Bytes set f) w h =
-      past_whole next whole f w (byte_size set text w.run.at) (leads-sound text count (spot.Bytes set f) w h)
-  follow_whole next whole (spot.Chars set f) w h =
-      past_whole next whole f w (char_size set text w.run.at) (leads-sound text count (spot.Chars set f) w h)
+  follow_whole next whole (spot.Bytes f set) w h =
+      past_whole next whole f w (byte_size set text w.run.at) (leads-sound text count (spot.Bytes f set) w h)
+  follow_whole next whole (spot.Chars f set) w h =
+      past_whole next whole f w (char_size set text w.run.at) (leads-sound text count (spot.Chars f set) w h)
   follow_whole next whole (spot.Look l f) w h = cases (holds l text w.run.at)
     where
       cases : (b : Bool) → AllWhole count (if b then next f w else [])

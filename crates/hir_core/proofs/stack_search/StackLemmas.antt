@@ -175,8 +175,8 @@ sound-begin text at groups h = record { within = h; begun = tt; ended = lie_none
 
 module _ (text : List ℕ) where
   leads-few : (s : Spot) (w : Way) → length (leads text s w) ≤ 2
-  leads-few (spot.Bytes set f) w = past-few f w (byte_size set text w.run.at)
-  leads-few (spot.Chars set f) w = past-few f w (char_size set text w.run.at)
+  leads-few (spot.Bytes f set) w = past-few f w (byte_size set text w.run.at)
+  leads-few (spot.Chars f set) w = past-few f w (char_size set text w.run.at)
   leads-few (spot.Look l f) w = cases (holds l text w.run.at)
     where
       cases : (b : Bool) → length {A = Place} (if b then (f, w) ∷ [] else []) ≤ 2
@@ -206,8 +206,8 @@ module _ (text : List ℕ) where
       cases (Some k) e = (sound-on count w (w.run.at + k) [] (omega arith) ((within w.run.at k e).1) h, tt)
 
   pub leads-sound : (count : ℕ) (s : Spot) (w : Way) → IsSound text count w → AllSound text count (leads text s w)
-  leads-sound count (spot.Bytes set f) w h = past-sound count (byte_size set text) (byte_size-within set text) f w h
-  leads-sound count (spot.Chars set f) w h = past-sound count (char_size set text) (char_size-within set text) f w h
+  leads-sound count (spot.Bytes f set) w h = past-sound count (byte_size set text) (byte_size-within set text) f w h
+  leads-sound count (spot.Chars f set) w h = past-sound count (char_size set text) (char_size-within set text) f w h
   leads-sound count (spot.Look l f) w h = cases (holds l text w.run.at)
     where
       cases : (b : Bool) → AllSound text count (if b then (f, w) ∷ [] else [])
@@ -254,8 +254,8 @@ module _ (text : List ℕ) (spots : List Spot) (falls : ClosesFall spots) where
   -- a spot gives what those give to which it leads
   leads-give : (s : Spot) (w : Way) (xs : List ℕ) → SameSeen w.run.seen xs → (s ≡ spot.Match → ⊥)
       → map forget (follow text spots (gives text spots) s w) ≡ flat_map (gives_at text spots) (leads text s (reseen xs w))
-  leads-give (spot.Bytes set f) w xs same other = past-gives f w (byte_size set text w.run.at)
-  leads-give (spot.Chars set f) w xs same other = past-gives f w (char_size set text w.run.at)
+  leads-give (spot.Bytes f set) w xs same other = past-gives f w (byte_size set text w.run.at)
+  leads-give (spot.Chars f set) w xs same other = past-gives f w (char_size set text w.run.at)
   leads-give (spot.Look l f) w xs same other = cases (holds l text w.run.at)
     where
       cases : (b : Bool) → map forget (cond b (gives text spots f w) []) ≡ flat_map (gives_at text spots) (if b then (f, reseen xs w) ∷ [] else [])
@@ -291,8 +291,8 @@ module _ (text : List ℕ) (spots : List Spot) (falls : ClosesFall spots) where
           rw (← rank-same p (way starts (mark q w.run)) (way starts (reseen xs w).run) refl same) lower
 
       cases : (t : Spot) → spot_at spots q ≡ t → is_unmarked t ≡ false → AllLower text spots (rank text spots q w) (leads text t (reseen xs w))
-      cases (spot.Bytes set f) at u = past-lower (byte_size set text) (byte_size-within set text) q f _ w xs at refl
-      cases (spot.Chars set f) at u = past-lower (char_size set text) (char_size-within set text) q f _ w xs at refl
+      cases (spot.Bytes f set) at u = past-lower (byte_size set text) (byte_size-within set text) q f _ w xs at refl
+      cases (spot.Chars f set) at u = past-lower (char_size set text) (char_size-within set text) q f _ w xs at refl
       cases (spot.Look l f) at u = held (holds l text w.run.at)
         where
           held : (b : Bool) → AllLower text spots (rank text spots q w) (if b then (f, reseen xs w) ∷ [] else [])
@@ -358,8 +358,8 @@ module _ (text : List ℕ) (spots : List Spot) (falls : ClosesFall spots) where
 
 pub unmarked_unless : (s : Spot) → (s ≡ spot.Match → ⊥) → ((i f : ℕ) → s ≡ spot.Close i f → ⊥) → is_unmarked s ≡ false
 unmarked_unless (spot.Close i f) m k = absurd (k i f refl)
-unmarked_unless (spot.Bytes set f) m k = refl
-unmarked_unless (spot.Chars set f) m k = refl
+unmarked_unless (spot.Bytes f set) m k = refl
+unmarked_unless (spot.Chars f set) m k = refl
 unmarked_unless (spot.Look l f) m k = refl
 unmarked_unless (spot.Jump f) m k = refl
 unmarked_unless (spot.Split a b) m k = refl

@@ -69,12 +69,12 @@ pushed_two old new s t e = record {
 }
 
 -- a spot that takes a byte was pushed
-pub lays_bytes : (old new : List Spot) (f : ℕ) (set : List (ℕ × ℕ)) → new ≡ old ++ spot.Bytes set f ∷ [] → Lays old new f (byte_in set)
-lays_bytes old new f set e = let one = pushed old new (spot.Bytes set f) e in record { size = one.size; kept = one.kept; placed = one.here }
+pub lays_bytes : (old new : List Spot) (f : ℕ) (set : List (ℕ × ℕ)) → new ≡ old ++ spot.Bytes f set ∷ [] → Lays old new f (byte_in set)
+lays_bytes old new f set e = let one = pushed old new (spot.Bytes f set) e in record { size = one.size; kept = one.kept; placed = one.here }
 
 -- a spot that takes a character was pushed
-pub lays_chars : (old new : List Spot) (f : ℕ) (set : List (ℕ × ℕ)) → new ≡ old ++ spot.Chars set f ∷ [] → Lays old new f (char_in set)
-lays_chars old new f set e = let one = pushed old new (spot.Chars set f) e in record { size = one.size; kept = one.kept; placed = one.here }
+pub lays_chars : (old new : List Spot) (f : ℕ) (set : List (ℕ × ℕ)) → new ≡ old ++ spot.Chars f set ∷ [] → Lays old new f (char_in set)
+lays_chars old new f set e = let one = pushed old new (spot.Chars f set) e in record { size = one.size; kept = one.kept; placed = one.here }
 
 -- a spot that goes on was pushed
 pub lays_empty : (old new : List Spot) (f : ℕ) → new ≡ old ++ spot.Jump f ∷ [] → Lays old new f empty

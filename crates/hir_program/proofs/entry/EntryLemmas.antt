@@ -96,8 +96,8 @@ module _ (text : List ℕ) (spots : List Spot) (falls : ClosesFall spots) where
         cases (spot.Look l f) e =
             new_or (spot.Look l f) e refl
             (λ new. look (holds l text t.run.at) _ _ (on (spot.Look l f) e refl (λ x. cc) new f t.starts (eq-eqb f f refl))) (is_seen q xs) refl
-        cases (spot.Bytes set f) e = new_or (spot.Bytes set f) e refl (λ new. refl) (is_seen q xs) refl
-        cases (spot.Chars set f) e = new_or (spot.Chars set f) e refl (λ new. refl) (is_seen q xs) refl
+        cases (spot.Bytes f set) e = new_or (spot.Bytes f set) e refl (λ new. refl) (is_seen q xs) refl
+        cases (spot.Chars f set) e = new_or (spot.Chars f set) e refl (λ new. refl) (is_seen q xs) refl
 
     alike-within : (n q : ℕ) (t : Way) (xs : List ℕ) → rank text spots q t < n → is_seen q behind ≡ false → Alike t.run.seen xs
         → map forget (gives text spots q t) ≡ map forget (gives text spots q (reseen xs t))

@@ -20,10 +20,10 @@ fn lead(spot: &Spot, stack: &mut Vec<usize>) -> Result<(), NoMemory>
         Spot::Look { next, .. }
         | Spot::Jump { next }
         | Spot::Open { next }
-        | Spot::Close { next, .. } => stack.push(*next)?,
+        | Spot::Close { next, .. } => stack.push(*next as usize)?,
         Spot::Split { first, second } => {
-            stack.push(*first)?;
-            stack.push(*second)?;
+            stack.push(*first as usize)?;
+            stack.push(*second as usize)?;
         }
         _ => {}
     }
@@ -168,7 +168,7 @@ fn next_of(spots: &[Spot], place: usize) -> usize
     ensures { result ≡ next_of (spot_at spots.now place) }
 {
     match spots.get(place) {
-        Some(Spot::Bytes { next, .. } | Spot::Chars { next, .. }) => *next,
+        Some(Spot::Bytes { next, .. } | Spot::Chars { next, .. }) => *next as usize,
         _ => 0,
     }
 }

@@ -8,7 +8,7 @@ ghost use Rattle.hir_program.specs.Masks.{HasBit, Grows, GrowsOnly, AreOpen, IsO
 use crate::scan::asked::may_hold_before;
 use crate::scan::bits::{MATCH, SURE, masks, with_bit};
 use crate::spot::Spot;
-use hir_tree::{ByteRanges, CharRanges, Look};
+use hir_tree::{Look, SharedBytes, SharedChars};
 use sd_base::NoMemory;
 use std::alloc::Global;
 
@@ -52,7 +52,7 @@ fn add_range(takes: &mut [u64], bit: usize, start: u8, end: u8)
 }
 
 /// Adds the bit of a spot at the bytes of a set.
-fn add_bytes(takes: &mut [u64], bit: usize, set: &ByteRanges)
+fn add_bytes(takes: &mut [u64], bit: usize, set: &SharedBytes)
     requires room { length takes.old ≡ 256 }
     requires bit { bit < 64 }
     ensures grows { Grows takes.old takes.new }
@@ -81,7 +81,7 @@ fn add_ascii(takes: &mut [u64], bit: usize, start: char, end: char)
 }
 
 /// Adds the bit of a spot at the ASCII characters of a set.
-fn add_chars(takes: &mut [u64], bit: usize, set: &CharRanges)
+fn add_chars(takes: &mut [u64], bit: usize, set: &SharedChars)
     requires room { length takes.old ≡ 256 }
     requires bit { bit < 64 }
     ensures grows { Grows takes.old takes.new }
@@ -137,7 +137,7 @@ pub fn takes(alloc: Global, spots: &[Spot], of: &[usize]) -> Result<Vec<u64>, No
 }
 
 /// Whether a set has a member beyond ASCII.
-fn has_wide(set: &CharRanges) -> bool
+fn has_wide(set: &SharedChars) -> bool
     ensures { result ≡ has_wide set.now }
 {
     for i in 0..set.len() {

@@ -29,8 +29,8 @@ compile-returns-in_ok-push_ends-in-Capture t c =
     let whole : group index body ≡ core_of c.args.hir.now = sym (ap core_of c.in-Capture.is ∙ ap (λ part. group index (core_of part)) (sym c.deref-in-Capture.ensures)) in
     on_ok c.compile.result
     (λ l. subst (Lays c.args.out.now.items c.compile.new.out.items c.args.next) whole
-    (lays_group c.args.out.now.items c.push_ends.new.out.items c.compile.new.out.items c.args.next c.len-end.result index body (omega arith)
-    (c.in_ok-push_ends-in-Capture.ensures ∙ ap (λ n. c.args.out.now.items ++ spot.Open (n + 2) ∷ spot.Close index c.args.next ∷ []) (sym c.len-end.ensures)) l))
+    (lays_group c.args.out.now.items c.push_ends.new.out.items c.compile.new.out.items c.args.next c.len.result index body (omega arith)
+    (c.in_ok-push_ends-in-Capture.ensures ∙ ap (λ n. c.args.out.now.items ++ spot.Open (n + 2) ∷ spot.Close index c.args.next ∷ []) (sym c.len.ensures)) l))
     c.compile.ensures
 
 pub compile-returns-in-Concat : goal.compile-returns-in-Concat

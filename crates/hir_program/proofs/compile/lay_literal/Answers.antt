@@ -1,8 +1,20 @@
-use Rattle.std.proofs.Common.{◌≡◌, ◌-◌, ◌+◌, sym, arith}
+use Rattle.std.proofs.Common.{◌≡◌, ◌-◌, ◌+◌, get_or, refl, sym, arith}
 use Rattle.std.proofs.lemmas.Option.{get_or_from_slice_get}
 use Rattle.hir_tree.specs.Core.{one_byte, literal}
-use Rattle.hir_program.proofs.compile.CompileLemmas.{on_ok, waits_pair, waits_row, lays_row}
+use Rattle.hir_program.proofs.compile.CompileLemmas.{on_ok, row_holds, waits_pair, waits_row, lays_row}
 use Rattle.hir_program.proofs.compile.lay_literal.Goals as goal
+
+pub overflow_cast-first : goal.overflow_cast-first
+overflow_cast-first c =
+    let bytes = c.args.bytes.now in
+    let held = row_holds one_byte bytes c.loop-i.i 0 (get_or bytes c.loop-i.i 0) (omega arith) refl in
+    omega (arith, held, c.requires, c.loop-i.invariant.size)
+
+pub overflow_cast-first-in-loop-i : goal.overflow_cast-first-in-loop-i
+overflow_cast-first-in-loop-i c =
+    let bytes = c.args.bytes.now in
+    let held = row_holds one_byte bytes c.loop-i.i 0 (get_or bytes c.loop-i.i 0) (omega arith) refl in
+    omega (arith, held, c.requires, c.loop-i.invariant.size)
 
 pub loop-i-preserved : goal.loop-i-preserved
 loop-i-preserved c =

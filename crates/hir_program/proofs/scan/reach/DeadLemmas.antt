@@ -94,8 +94,8 @@ held_way false xs e = refl
 module _ (text : List ℕ) (spots : List Spot) where
   -- how many bytes a spot takes at a place
   abbrev pub spot_size : Spot → ℕ → Option ℕ
-  spot_size (spot.Bytes set q) at = byte_size set text at
-  spot_size (spot.Chars set q) at = char_size set text at
+  spot_size (spot.Bytes q set) at = byte_size set text at
+  spot_size (spot.Chars q set) at = char_size set text at
   spot_size _ at = None
 
   -- nothing follows the bytes that are taken
@@ -117,10 +117,10 @@ module _ (text : List ℕ) (spots : List Spot) where
     where
       cases : (s : Spot) → is_taker s ≡ true → ((k : ℕ) → spot_size s at ≡ Some k → IsDead text spots (at + k) (next_of s))
           → visit_as text spots (gives_within text spots n) s q w ≡ []
-      cases (spot.Bytes set f) taker after =
+      cases (spot.Bytes f set) taker after =
           either_way _ _ (none_taken n f w.starts (mark q w.run) (byte_size set text)
           (λ k e. after k (subst (λ i. byte_size set text i ≡ Some k) here e) n (way w.starts (moved k (mark q w.run))) (ap (λ i. i + k) here)))
-      cases (spot.Chars set f) taker after =
+      cases (spot.Chars f set) taker after =
           either_way _ _ (none_taken n f w.starts (mark q w.run) (char_size set text)
           (λ k e. after k (subst (λ i. char_size set text i ≡ Some k) here e) n (way w.starts (moved k (mark q w.run))) (ap (λ i. i + k) here)))
       cases (spot.Look l f) taker after = absurd (true≢false (sym taker))
@@ -133,8 +133,8 @@ module _ (text : List ℕ) (spots : List Spot) where
 
   -- the bytes stand in the text
   pub spot_size-within : (s : Spot) (at k : ℕ) → spot_size s at ≡ Some k → (0 < k) × (at + k ≤ length text)
-  spot_size-within (spot.Bytes set f) at k e = byte_size-within set text at k e
-  spot_size-within (spot.Chars set f) at k e = char_size-within set text at k e
+  spot_size-within (spot.Bytes f set) at k e = byte_size-within set text at k e
+  spot_size-within (spot.Chars f set) at k e = char_size-within set text at k e
   spot_size-within (spot.Look l f) at k e = absurd (none-some k e)
   spot_size-within (spot.Jump f) at k e = absurd (none-some k e)
   spot_size-within (spot.Split a b) at k e = absurd (none-some k e)
@@ -177,8 +177,8 @@ module _ (text : List ℕ) (spots : List Spot) where
             ∙ takers q r (ap is_taker e ∙ t) (suc n) w here
 
         cases : (s : Spot) → spot_at spots q ≡ s → visit_as text spots (gives_within text spots n) s q w ≡ []
-        cases (spot.Bytes set f) e = taker (spot.Bytes set f) e refl
-        cases (spot.Chars set f) e = taker (spot.Chars set f) e refl
+        cases (spot.Bytes f set) e = taker (spot.Bytes f set) e refl
+        cases (spot.Chars f set) e = taker (spot.Chars f set) e refl
         cases (spot.Look l f) e = either_way _ _ (looks l f e)
         cases (spot.Jump f) e = either_way _ _ (next (spot.Jump f) (λ asks. asks) e f (0, omega arith, refl) (marked q w) here)
         cases (spot.Split a b) e =
@@ -299,8 +299,8 @@ module _ (text : List ℕ) where
   -- Where a spot takes what begins with an ASCII byte, or no character beyond ASCII, it takes one byte, which is a byte that it takes.
   pub one_byte : (spots : List Spot) (s : Spot) (at k : ℕ) → (slice_index text at < 128) ⊎ (is_wide s ≡ false) → spot_size text spots s at ≡ Some k
       → (k ≡ 1) × (takes_byte s (slice_index text at) ≡ true)
-  one_byte spots (spot.Bytes set f) at k narrow e = byte_one text set at k e
-  one_byte spots (spot.Chars set f) at k narrow e = char_one text set at k narrow e
+  one_byte spots (spot.Bytes f set) at k narrow e = byte_one text set at k e
+  one_byte spots (spot.Chars f set) at k narrow e = char_one text set at k narrow e
   one_byte spots (spot.Look l f) at k narrow e = absurd (none-some k e)
   one_byte spots (spot.Jump f) at k narrow e = absurd (none-some k e)
   one_byte spots (spot.Split a b) at k narrow e = absurd (none-some k e)

@@ -128,8 +128,8 @@ abbrev pub walk_weight : List Bool → List ℕ → ℕ
 walk_weight reached stack = 2 * sum_by unreached reached + length stack
 
 few_ways : (s : Spot) → length (ways_on s) ≤ 2
-few_ways (spot.Bytes set f) = omega arith
-few_ways (spot.Chars set f) = omega arith
+few_ways (spot.Bytes f set) = omega arith
+few_ways (spot.Chars f set) = omega arith
 few_ways (spot.Look l f) = omega arith
 few_ways (spot.Jump f) = omega arith
 few_ways (spot.Split a b) = omega arith
