@@ -2,9 +2,9 @@ mod LevelLemmas
 mod BlockLemmas
 mod MarkLemmas
 mod BlockEndLemmas
-mod BlockTurnLemmas
+pub mod BlockTurnLemmas
 mod FollowLemmas
 mod SizeLemmas
-mod LoopLemmas
+pub mod LoopLemmas
 pub mod ThreadsLemmas
 pub mod TryLemmas

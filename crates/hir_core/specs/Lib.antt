@@ -1,5 +1,6 @@
 pub mod Blocks
 pub mod Compiled
+pub mod FirstWays
 pub mod Found
 pub mod Pass
 pub mod Rows

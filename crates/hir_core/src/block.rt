@@ -57,7 +57,13 @@ fn move_on(size: Option<usize>, next: usize, trail: &mut Trail) -> Option<usize>
 }
 
 /// How many bytes a spot takes at a place, if it takes any. Of a byte of ASCII the filter tells by a bit.
-fn taken_size(spots: &[Spot], filter: &Scan, text: &[u8], at: usize, spot: usize) -> Option<usize>
+pub fn taken_size(
+    spots: &[Spot],
+    filter: &Scan,
+    text: &[u8],
+    at: usize,
+    spot: usize,
+) -> Option<usize>
     requires filters { IsFilterOf spots.now filter.now }
     requires at { at ≤ length text.now }
     ensures { IsSizeTaken text.now (spot_at spots.now spot) at result }

@@ -1,14 +1,15 @@
 //! The search over a text, block by block: bounded backtracking in each, and the threads that go on past it are kept for the next.
 
-ghost use Rattle.std.specs.Prelude.{◌≡◌, ◌+◌, ◌-◌, ◌*◌, ◌≤◌, ◌<◌, [], None, false, is_some, length, IfOk};
+ghost use Rattle.std.specs.Prelude.{◌≡◌, ◌+◌, ◌-◌, ◌*◌, ◌≤◌, ◌<◌, [], None, false, true, is_some, length, IfOk};
 ghost use Rattle.std.specs.Option.{option_or};
 ghost use Rattle.hir_core.specs.Blocks.{AreSpent};
-ghost use Rattle.hir_core.specs.Pass.{answer, best_in, counted, first_from, match_of, stops_give, AllFrom};
+ghost use Rattle.hir_core.specs.Pass.{answer, begins, best_in, counted, first_from, first_of, match_of, stops_give, AllFrom};
 ghost use Rattle.hir_program.specs.Program.{ClosesFall, some_run};
 ghost use Rattle.hir_program.specs.Scan.{IsFilterOf};
 ghost use Rattle.sd_base.specs.Steps.{TicksAtMost};
 
 use crate::block::{Block, Places};
+use crate::first_way::follow_first_way;
 use crate::pass::Best;
 use crate::thread_list::ThreadList;
 use hir_program::{Scan, Spot, Starts};
@@ -116,6 +117,41 @@ impl Blocks {
         Ok(())
     }
 
+    /// Goes the first way of the thread that begins at a place, if the text has that place, and says whether it comes to a match: it is then the
+    /// best one. Else nothing is noted. Where blocks have another size than usual, as tests ask for, it isn't gone. Refuses for want of memory
+    /// alone.
+    fn follow_first_way<L: Ledger>(
+        &mut self,
+        spots: &[Spot],
+        filter: &Scan,
+        text: &[u8],
+        at: usize,
+        groups: u32,
+        count: usize,
+        steps: &mut Steps<L>,
+    ) -> Result<bool, NoMemory>
+        requires falls { ClosesFall spots.now }
+        requires filters { IsFilterOf spots.now filter.now }
+        requires within { at ≤ length text.now + 1 }
+        ensures found { IfOk result (λ found. found ≡ true → (at ≤ length text.now) × (is_some (best_in self.new.best) ≡ true)
+            × (best_in self.new.best ≡ first_of (begins text.now spots.now groups at))) }
+        ensures best { IfOk result (λ found. found ≡ false → self.new.best ≡ self.old.best) }
+        ensures threads { self.new.threads ≡ self.old.threads }
+        ensures silent { IfOk result (λ found. found ≡ false → steps.new ≡ steps.old) }
+        ensures ticks { TicksAtMost L.noted ((length text.now + 1 - at) * counted spots.now) steps.old steps.new }
+    {
+        if at > text.len() || count < PLACES {
+            return Ok(false);
+        }
+        let trail = &mut self.block.trail;
+        trail.begin_whole(at, groups)?;
+        if !follow_first_way(spots, filter, text, filter.entry(), trail, steps)? {
+            return Ok(false);
+        }
+        self.best.update(true, trail);
+        Ok(true)
+    }
+
     /// Looks for the first run of the least place, from one on, at which a program gives a run, and says whether there is one:
     /// it is then the best match. A block has so many places, at least one and at most [`PLACES`]. Refuses for want of memory alone.
     pub fn search<L: Ledger>(
@@ -141,6 +177,9 @@ impl Blocks {
         let count = count.clamp(1, PLACES);
         let mut starts = Starts::from(at);
         starts.pass_over(filter, text);
+        if self.follow_first_way(spots, filter, text, starts.place, groups, count, steps)? {
+            return Ok(true);
+        }
         let mut begin = starts.place;
         while begin <= text.len() {
             let end = (begin + count).min(text.len() + 1);

@@ -74,7 +74,7 @@ fn keep(
 }
 
 /// Whether a visit of a spot is counted.
-fn is_counted(spot: &Spot) -> bool
+pub fn is_counted(spot: &Spot) -> bool
     ensures { result ≡ is_counted spot.now }
 {
     match spot {

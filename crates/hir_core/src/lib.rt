@@ -7,6 +7,7 @@
 mod block;
 mod blocks;
 mod closure;
+mod first_way;
 mod pass;
 mod plain;
 mod run_over;

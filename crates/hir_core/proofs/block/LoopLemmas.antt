@@ -57,7 +57,7 @@ first_up_to kept xs ys more rest is (inr some) =
 
 module _ (text : List ℕ) (spots : List Spot) (falls : ClosesFall spots) where
   -- a byte later
-  abbrev later : Way → Way
+  abbrev pub later : Way → Way
   later t = way t.starts (moved 1 (forget t.run))
 
   -- a spot that takes the byte gives what follows it
@@ -96,7 +96,7 @@ module _ (text : List ℕ) (spots : List Spot) (falls : ClosesFall spots) where
       cases false k = refl
 
   -- a loop gives what it gives a byte later, and then more only if there is a run before
-  abbrev GoesOn : ℕ → Way → Type 0
+  abbrev pub GoesOn : ℕ → Way → Type 0
   GoesOn q t =
       (more : List Run) × (follow text spots (gives text spots) (spot_at spots q) (marked q t) ≡ gives text spots q (later t) ++ more)
       × ((more ≡ []) ⊎ (nonempty (gives text spots q (later t)) ≡ true))
@@ -116,7 +116,7 @@ module _ (text : List ℕ) (spots : List Spot) (falls : ClosesFall spots) where
         ∙ nonempty-append (gives text spots w.round (marked q (later t))) (gives text spots w.out (marked q (later t)))
         ∙ or_right _ _ (sym (some_run-nonempty _) ∙ are.sure sure falls text (marked q (later t)))
 
-    goes-on : GoesOn q t
+    pub goes-on : GoesOn q t
     goes-on = elim are.sides [
       | inl split ↦ (
         gives text spots w.out (marked q t),

@@ -1,5 +1,5 @@
 -- The threads that come into a block, followed one after another, and those that begin in it.
-use Rattle.std.proofs.Common.{◌≡◌, ℕ, ◌+◌, ◌-◌, ◌<◌, ◌≤◌, Bool, false, List, [], ◌∷◌, ◌++◌, length, map, Option, Some, None, refl, sym, ap, ◌∙◌, subst, true≢false, append-nil, append_assoc, arith}
+use Rattle.std.proofs.Common.{◌≡◌, ℕ, suc, ◌+◌, ◌-◌, ◌<◌, ◌≤◌, Bool, true, false, List, [], ◌∷◌, ◌++◌, length, map, Option, Some, None, refl, sym, ap, ◌∙◌, subst, true≢false, append-nil, append_assoc, arith}
 use Rattle.std.specs.Prelude.{is_some}
 use Rattle.std.specs.Option.{option_or}
 use Rattle.std.proofs.lemmas.List.{map-append}
@@ -144,3 +144,18 @@ answer-start text spots groups at to place threads best none no_best same after 
     ∙ ap (λ ts. answer text spots groups place (stops_give text spots ts) best) none
     ∙ ap (λ b. option_or b (first_from text spots groups (length text + 1 - place) place)) no_best
     ∙ ap (λ p. first_from text spots groups (length text + 1 - p) p) same
+
+-- the answer, where what begins at the first place that may have a run has one
+pub answer-there : (text : List ℕ) (spots : List Spot) (groups at to place : ℕ) (best : Option Run) → place ≡ at → place ≤ to → to ≤ length text
+    → NoRun text spots place to → is_some best ≡ true → best ≡ first_of (begins text spots groups to)
+    → best ≡ first_from text spots groups (length text + 1 - at) at
+answer-there text spots groups at to place best same after within empty some found =
+    here best some found ∙ ap (λ n. first_from text spots groups n to) (let k : suc (length text - to) ≡ length text + 1 - to = omega arith in k)
+    ∙ answer-start text spots groups at to place [] None refl refl same after (omega (arith, within)) empty
+  where
+    rest : Option Run
+    rest = first_from text spots groups (length text - to) (to + 1)
+
+    here : (best : Option Run) → is_some best ≡ true → best ≡ first_of (begins text spots groups to) → best ≡ option_or (first_of (begins text spots groups to)) rest
+    here None some found = absurd (true≢false (sym some))
+    here (Some m) some found = ap (λ o. option_or o rest) found

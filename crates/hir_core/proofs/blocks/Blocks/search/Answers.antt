@@ -1,25 +1,37 @@
-use Rattle.std.proofs.Common.{◌≡◌, ◌+◌, ◌≤◌, [], length, sym, ◌∙◌, arith}
+use Rattle.std.proofs.Common.{◌≡◌, ◌+◌, ◌≤◌, [], length, sym, ap, ◌∙◌, subst, arith}
 use Rattle.std.proofs.lemmas.List.{nil_from_length}
 use Rattle.std.proofs.lemmas.Bool.{eqb-true}
 use Rattle.hir_core.specs.Pass.{best_in, counted}
-use Rattle.hir_core.proofs.block.ThreadsLemmas.{answer-start, answer-done, none-from}
+use Rattle.hir_core.proofs.block.ThreadsLemmas.{answer-start, answer-there, answer-done, none-from}
+use Rattle.sd_base.specs.Steps.{IsTicked}
 use Rattle.sd_base.proofs.StepsLemmas.{at_most, at_most_add, at_most_more, ticked_none}
 use Rattle.hir_core.proofs.block.TryLemmas.{blocks_to}
 use Rattle.hir_core.proofs.blocks.Blocks.search.Goals as goal
 
+pub returns-then-branch-clause-first : goal.returns-then-branch-clause-first
+returns-then-branch-clause-first g c =
+    let found = c.in_ok-follow_first_way.ensures.found c.if-branch.true in
+    answer-there c.args.text.now c.args.spots.now c.args.groups c.args.at c.pass_over.new.self.place c.from-starts.result.place
+    (best_in c.follow_first_way.new.self.best) c.from-starts.ensures c.pass_over.ensures.after found.0
+    (c.pass_over.ensures.none c.args.spots.now c.requires.filters) found.1 found.2
+
 pub loop-begin-init : goal.loop-begin-init
-loop-begin-init g c = record {
-  from = none-from c.args.text.now c.pass_over.new.self.place c.clear.new.self c.clear.ensures;
-  answer =
-      answer-start c.args.text.now c.args.spots.now c.args.groups c.args.at c.pass_over.new.self.place c.from-starts.result.place c.clear.new.self
-      (best_in c.clear-2.new.self) c.clear.ensures c.clear-2.ensures c.from-starts.ensures c.pass_over.ensures.after c.pass_over.ensures.within
-      (c.pass_over.ensures.none c.args.spots.now c.requires.filters);
-  within = c.pass_over.ensures.within;
-  starts = c.pass_over.ensures.within;
-  after = omega (arith, c.pass_over.ensures.after, c.from-starts.ensures);
-  next = λ e. omega arith;
-  ticks = at_most (omega arith) (ticked_none g.L.Ledger.noted c.args.steps.now);
-}
+loop-begin-init g c =
+    let threads = c.in_ok-follow_first_way.ensures.threads ∙ c.clear.ensures in
+    let best = ap best_in (c.in_ok-follow_first_way.ensures.best c.if-branch.false) ∙ c.clear-2.ensures in
+    let silent = c.in_ok-follow_first_way.ensures.silent c.if-branch.false in
+    record {
+      from = none-from c.args.text.now c.pass_over.new.self.place c.follow_first_way.new.self.threads threads;
+      answer =
+          answer-start c.args.text.now c.args.spots.now c.args.groups c.args.at c.pass_over.new.self.place c.from-starts.result.place
+          c.follow_first_way.new.self.threads (best_in c.follow_first_way.new.self.best) threads best c.from-starts.ensures c.pass_over.ensures.after
+          c.pass_over.ensures.within (c.pass_over.ensures.none c.args.spots.now c.requires.filters);
+      within = c.pass_over.ensures.within;
+      starts = c.pass_over.ensures.within;
+      after = omega (arith, c.pass_over.ensures.after, c.from-starts.ensures);
+      next = λ e. omega arith;
+      ticks = at_most (omega arith) (subst (λ steps. IsTicked g.L.Ledger.noted 0 c.args.steps.now steps) (sym silent) (ticked_none g.L.Ledger.noted c.args.steps.now));
+    }
 
 pub returns-clause-first : goal.returns-clause-first
 returns-clause-first g c =
