@@ -102,7 +102,8 @@ impl Searcher {
 
     /// [`search_at`](Searcher::search_at) with counted steps: one for each visit of a spot that takes a byte or a character,
     /// looks, goes on both ways, or ends a group other than the whole match. At a place of the text each spot is visited once at most.
-    /// Where the pattern is one text, or the filter passes over a place, nothing is visited.
+    /// Where the pattern is one text, or the filter passes over a place, nothing is visited. The first way that is gone in vain before
+    /// all others isn't noted: it is gone once more.
     pub fn search_at_steps<L: Ledger>(
         &self,
         text: &[u8],
