@@ -74,6 +74,10 @@ impl Template {
         requires within { LieIn groups.now haystack.now }
         ensures { OnOk result (dst.new.items ≡ dst.old.items ++ pieces_text (group_text haystack.now groups.now) self.now.pieces.items) }
     {
+        if let Some(text) = self.text() {
+            dst.extend_from_slice(text)?;
+            return Ok(());
+        }
         for piece in &self.pieces {
             append_piece(piece, haystack, groups, dst)?;
         }
