@@ -57,6 +57,7 @@ fn move_on(size: Option<usize>, next: usize, trail: &mut Trail) -> Option<usize>
 }
 
 /// How many bytes a spot takes at a place, if it takes any. Of a byte of ASCII the filter tells by a bit.
+#[inline(always)]
 pub fn taken_size(
     spots: &[Spot],
     filter: &Scan,

@@ -46,6 +46,7 @@ impl<'a> Search<'a> {
     }
 
     /// The next match, whose groups the search then holds. Refuses for want of memory alone.
+    #[inline(always)]
     pub(crate) fn next(&mut self, content: &[u8]) -> Result<Option<Match>, NoMemory>
         ensures found { IfOk result (IsFirst (accepts self.old.last (end_at (tree_of self.old.matcher.now.searcher) content.now)) self.old.from (length content.now)) }
         ensures within { IfOk result (λ found. IfSome found (LiesWithin (length content.now))) }
@@ -64,6 +65,7 @@ impl<'a> Search<'a> {
     }
 
     /// The first match from where the search goes on, but for an empty one at the end of the match before.
+    #[inline(always)]
     fn next_member(&mut self, content: &[u8]) -> Result<Option<Match>, NoMemory>
         ensures found { IfOk result (IsFirst (accepts self.old.last (end_at (tree_of self.old.matcher.now.searcher) content.now)) self.old.from (length content.now)) }
         ensures within { IfOk result (λ found. IfSome found (LiesWithin (length content.now))) }

@@ -65,6 +65,7 @@ impl Template {
     }
 
     /// Adds the text to `dst`, with the groups of a match of the haystack. Refuses for want of memory alone.
+    #[inline(always)]
     pub(crate) fn append(
         &self,
         haystack: &[u8],
