@@ -54,7 +54,7 @@ pub fn replace_file<D: Disk, R: Replaces>(
     let found = find_file(alloc, disk, path)?;
     let rewritten = file_change(replacer, found.bytes)?;
     match rewritten {
-        Rewritten::Same(count) => Ok(Rewrite {
+        Rewritten::Same { count, .. } => Ok(Rewrite {
             changed: false,
             replaced: count,
         }),
@@ -98,7 +98,7 @@ pub fn file_change<R: Replaces>(replacer: &R, bytes: Vec<u8>) -> Result<Rewritte
     ensures few { IfOk result (AreFewIn bytes.items) }
 {
     if bytes.is_empty() {
-        return Ok(Rewritten::Same(0));
+        return Ok(Rewritten::Same { bytes, count: 0 });
     }
     replacer.rewrite(bytes)
 }

@@ -66,11 +66,11 @@ fn line_of<R: Replaces>(path: Text, bytes: Vec<u8>, replacer: &R) -> Result<Plan
 {
     let before = digest(&bytes);
     match file_change(replacer, bytes)? {
-        Rewritten::Same(replaced) => Ok(PlanLine {
+        Rewritten::Same { count, .. } => Ok(PlanLine {
             before,
             after: before,
             changed: false,
-            replaced,
+            replaced: count,
             path,
         }),
         Rewritten::Other(other) => Ok(PlanLine {

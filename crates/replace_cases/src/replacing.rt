@@ -137,7 +137,10 @@ fn rewrites(alloc: Global, replacer: &Replacer, old: &[u8], new: &[u8], count: u
 /// Whether bytes that were given away became these, with so many matches replaced.
 fn is_right(rewritten: &Rewritten, old: &[u8], new: &[u8], count: u128) -> bool {
     match rewritten {
-        Rewritten::Same(counted) => new == old && *counted == count,
+        Rewritten::Same {
+            bytes,
+            count: counted,
+        } => new == old && bytes.as_slice() == new && *counted == count,
         Rewritten::Other(changed) => {
             new != old && changed.new_bytes.as_slice() == new && changed.count == count
         }

@@ -31,12 +31,12 @@ abbrev pub AreFew : List ℕ → Option Changed → Type 0
 AreFew bytes None = Unit {0}
 AreFew bytes (Some changed) = changed.count ≤ length bytes + 1
 
--- what is told of bytes that were given away: as many spans were replaced, and they are the same, or what they became differs from them
+-- what is told of bytes that were given away: as many spans were replaced, and the same ones are given back, or what they became differs from them
 abbrev pub TellsRewritten : Change → List ℕ → Rewritten → Type 0
-TellsRewritten change bytes (Same count) = change bytes bytes count
+TellsRewritten change bytes (Same same count) = (same.items ≡ bytes) × change bytes bytes count
 TellsRewritten change bytes (Other changed) = change bytes changed.new_bytes.items changed.count × (changed.new_bytes.items ≢ bytes)
 
 -- there too are no more spans than places where one may begin
 abbrev pub AreFewIn : List ℕ → Rewritten → Type 0
-AreFewIn bytes (Same count) = count ≤ length bytes + 1
+AreFewIn bytes (Same same count) = count ≤ length bytes + 1
 AreFewIn bytes (Other changed) = changed.count ≤ length bytes + 1

@@ -12,8 +12,13 @@ pub struct Changed {
 /// What became of bytes that were given away.
 #[derive(Debug, Drop)]
 pub enum Rewritten {
-    /// They are as they were: so many spans were replaced, each by its own bytes, or none.
-    Same(u128),
+    /// They are as they were, and given back: so many spans were replaced, each by its own bytes, or none.
+    Same {
+        /// The bytes.
+        bytes: Vec<u8>,
+        /// How many spans were replaced.
+        count: u128,
+    },
     /// Others took their place.
     Other(Changed),
 }

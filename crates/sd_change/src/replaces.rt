@@ -38,10 +38,16 @@ pub trait Replaces {
         ensures few { IfOk result (AreFewIn content.items) }
     {
         let Some(changed) = self.change(&content)? else {
-            return Ok(Rewritten::Same(0));
+            return Ok(Rewritten::Same {
+                bytes: content,
+                count: 0,
+            });
         };
         if changed.new_bytes == content {
-            return Ok(Rewritten::Same(changed.count));
+            return Ok(Rewritten::Same {
+                bytes: content,
+                count: changed.count,
+            });
         }
         Ok(Rewritten::Other(changed))
     }

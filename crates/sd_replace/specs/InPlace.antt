@@ -51,5 +51,5 @@ pub record HasPut (old : Room) (piece : List ℕ) (new : Room) : Type 0 where
 
 -- what bytes have become, of which these are the new ones, with so many matches replaced
 abbrev pub Became : List ℕ → List ℕ → ℕ → Rewritten → Type 0
-Became bytes new_bytes count (Same counted) = (new_bytes ≡ bytes) × (counted ≡ count)
+Became bytes new_bytes count (Same same counted) = (same.items ≡ new_bytes) × (counted ≡ count) × (new_bytes ≡ bytes)
 Became bytes new_bytes count (Other changed) = (changed.new_bytes.items ≡ new_bytes) × (changed.count ≡ count) × (new_bytes ≢ bytes)

@@ -42,7 +42,10 @@ impl Replacer {
         ensures few { IfOk result (AreFewIn content.items) }
     {
         let Some(first) = self.find_first(search, content.as_slice())? else {
-            return Ok(Rewritten::Same(0));
+            return Ok(Rewritten::Same {
+                bytes: content,
+                count: 0,
+            });
         };
         self.rewrite_from(content, search, first)
     }
@@ -92,6 +95,7 @@ impl Replacer {
     }
 
     /// Puts the text of a match in its place. One that is made of groups is made in `made`, whose memory serves for the next one.
+    #[inline(always)]
     fn put_one(
         &self,
         groups: &RegexCaptures,
@@ -121,6 +125,9 @@ impl Replacer {
     }
 }
 
+/// How many new bytes that lie beside the old ones are moved back into their room: to move more may take longer than it saves.
+const FEW: usize = 4096;
+
 /// Old bytes, of which those at the front give way to new ones, for as long as these fit.
 #[derive(Drop)]
 pub(crate) struct Room {
@@ -133,7 +140,7 @@ pub(crate) struct Room {
     count: u128,
     /// Whether what is written differs from what stood there.
     differs: bool,
-    /// All new bytes so far, once the room was wanting.
+    /// All new bytes so far, once the room was wanting, until they are moved back.
     beside: Option<Vec<u8>>,
 }
 
@@ -154,6 +161,7 @@ impl Room {
     }
 
     /// Keeps the old bytes up to a match, and puts a text in its place. Refuses for want of memory alone.
+    #[inline(always)]
     fn put(&mut self, alloc: Global, found: Match, text: &[u8]) -> Result<(), NoMemory>
         requires order { self.old.written ≤ self.old.read }
         requires ahead { self.old.read ≤ found.start }
@@ -170,10 +178,46 @@ impl Room {
         self.add(alloc, found.end(), text)?;
         self.read = found.end();
         self.count += 1;
+        if self.beside.is_some() {
+            self.come_back();
+        }
         Ok(())
     }
 
+    /// Whether few new bytes lie beside the old ones, and fit into the room again before those that are still to come.
+    fn fits_again(&self) -> bool
+        ensures within { result ≡ true → length (made_of self.now) ≤ length self.now.bytes.items }
+        ensures more { result ≡ true → self.now.written ≤ length (made_of self.now) }
+        ensures order { result ≡ true → length (made_of self.now) ≤ self.now.read }
+    {
+        let Some(made) = &self.beside else {
+            return false;
+        };
+        let room = self.read.min(self.bytes.len()).min(FEW);
+        self.written <= made.len() && made.len() <= room
+    }
+
+    /// Moves the new bytes that lie beside the old ones back into their room, if they fit there again.
+    #[inline(never)]
+    fn come_back(&mut self)
+        requires order { self.old.written ≤ self.old.read }
+        ensures room { (bytes : List ℕ) → IsRoomOf bytes self.old → IsRoomOf bytes self.new }
+        ensures made { made_of self.new ≡ made_of self.old }
+        ensures order { self.new.written ≤ self.old.read }
+        ensures read { self.new.read ≡ self.old.read }
+        ensures count { self.new.count ≡ self.old.count }
+    {
+        if !self.fits_again() {
+            return;
+        }
+        if let Some(made) = self.beside.take() {
+            self.written = 0;
+            self.write(&made);
+        }
+    }
+
     /// Keeps the old bytes up to a place: they follow the new ones.
+    #[inline(always)]
     fn keep_to(&mut self, place: usize) -> Result<(), NoMemory>
         requires order { self.old.written ≤ self.old.read }
         requires ahead { self.old.read ≤ place }
@@ -196,6 +240,7 @@ impl Room {
     }
 
     /// Writes the old bytes up to a place behind the new ones.
+    #[inline(always)]
     fn move_to(&mut self, place: usize)
         requires order { self.old.written ≤ self.old.read }
         requires ahead { self.old.read ≤ place }
@@ -218,6 +263,7 @@ impl Room {
     }
 
     /// Adds a text to the new bytes: in the room up to a place, or beside the old ones where it doesn't fit.
+    #[inline(always)]
     fn add(&mut self, alloc: Global, end: usize, text: &[u8]) -> Result<(), NoMemory>
         requires order { self.old.written ≤ end }
         requires within { end ≤ length self.old.bytes.items }
@@ -241,6 +287,7 @@ impl Room {
     fn write(&mut self, text: &[u8])
         requires { self.old.written + length text.now ≤ length self.old.bytes.items }
         ensures put { HasPut self.old text.now self.new }
+        ensures read { self.new.read ≡ self.old.read }
         ensures count { self.new.count ≡ self.old.count }
         ensures beside { self.new.beside ≡ self.old.beside }
     {
@@ -258,6 +305,7 @@ impl Room {
     }
 
     /// The new bytes in the room and a text, with memory for as many as there are old ones.
+    #[inline(never)]
     fn made_beside(&self, alloc: Global, text: &[u8]) -> Result<Vec<u8>, NoMemory>
         requires { self.now.written ≤ length self.now.bytes.items }
         ensures { IfOk result (λ made. made.items ≡ take self.now.written self.now.bytes.items ++ text.now) }
@@ -285,11 +333,16 @@ impl Room {
         ensures { (bytes : List ℕ) → IsRoomOf bytes self → Became bytes (made_of self) self.count result }
     {
         let count = self.count;
-        if !self.is_other() {
-            return Rewritten::Same(count);
-        }
+        let is_other = self.is_other();
         let new_bytes = self.into_made();
-        Rewritten::Other(Changed { new_bytes, count })
+        if is_other {
+            Rewritten::Other(Changed { new_bytes, count })
+        } else {
+            Rewritten::Same {
+                bytes: new_bytes,
+                count,
+            }
+        }
     }
 
     /// Whether the new bytes are others than the old ones, of which none is left.

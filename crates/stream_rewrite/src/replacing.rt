@@ -7,7 +7,7 @@ ghost use Rattle.stream_rewrite.specs.Stream.{Becomes, DoesStream, StreamFails, 
 use crate::reading::read_all;
 use crate::{StreamFault, write_all};
 use sd_base::NoMemory;
-use sd_change::Replaces;
+use sd_change::{Replaces, Rewritten};
 use sd_io::{Sink, Source};
 use std::alloc::Global;
 
@@ -42,12 +42,12 @@ pub fn replace_stream<S: Source, O: Sink, R: Replaces>(
     Ok(())
 }
 
-/// What the bytes become.
+/// What the bytes become, for which their own room may serve.
 fn change_all<R: Replaces>(replacer: &R, content: Vec<u8>) -> Result<Vec<u8>, NoMemory>
     ensures { IfOk result (λ new. Becomes (R.change replacer.now) content.items new.items) }
 {
-    match replacer.change(&content)? {
-        None => Ok(content),
-        Some(changed) => Ok(changed.new_bytes),
+    match replacer.rewrite(content)? {
+        Rewritten::Same { bytes, .. } => Ok(bytes),
+        Rewritten::Other(changed) => Ok(changed.new_bytes),
     }
 }

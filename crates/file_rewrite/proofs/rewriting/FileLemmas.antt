@@ -1,6 +1,7 @@
 -- A file that was found is kept, or its bytes are exchanged.
 use Rattle.std.proofs.Common.{◌≡◌, ◌≢◌, ◌⊎◌, ◌≤◌, ℕ, Bool, true, false, List, [], ◌∷◌, refl, sym, ◌∙◌, ap, subst, inl, inr, arith}
 use Rattle.std.specs.Prelude.{IsTrue, Option, Some, None, is_some, Err, IsErrOf}
+use Rattle.std.specs.Global.{Vec}
 use Rattle.std.proofs.lemmas.Option.{same_Some}
 use Rattle.sd_io.specs.Tree.{NameList, Content, file, Tree, SameBut, node_at, file_at}
 use Rattle.sd_io.specs.Paths.{parts_of, parent_of, reached}
@@ -35,8 +36,8 @@ one_of_file change one [] new_bytes others m n a b = (a.0 ∙ sym b.0, a.1 ∙ s
 one_of_file change one (byte ∷ bytes) new_bytes others m n a b = one (byte ∷ bytes) new_bytes others m n a b
 
 -- what the replacer's answer tells
-pub told_same : (change : Change) (bytes : List ℕ) (answer : Rewritten) (count : ℕ) → answer ≡ Same count → TellsRewritten change bytes answer → change bytes bytes count
-told_same change bytes answer count is tells = subst (TellsRewritten change bytes) is tells
+pub told_same : (change : Change) (bytes : List ℕ) (answer : Rewritten) (same : Vec ℕ) (count : ℕ) → answer ≡ Same same count → TellsRewritten change bytes answer → change bytes bytes count
+told_same change bytes answer same count is tells = (subst (TellsRewritten change bytes) is tells).1
 
 pub told_other : (change : Change) (bytes new : List ℕ) (answer : Rewritten) (changed : Changed) → answer ≡ Other changed → new ≡ changed.new_bytes.items
     → TellsRewritten change bytes answer → change bytes new changed.count × (new ≢ bytes)

@@ -110,3 +110,38 @@ beside_room bytes old new piece same written differs made room = record {
   same = λ no. same ∙ room.same (sym differs ∙ no);
   other = λ yes rest e. room.other (sym differs ∙ yes) (piece ++ rest) (sym (append_assoc (made_of old) piece rest) ∙ ap (λ (l : List ℕ). l ++ rest) (sym made) ∙ e);
 }
+
+-- what lay beside the bytes is written over the first of them
+module _ (old first new : Room) (made : List ℕ) (is : made_of old ≡ made) (same : first.bytes.items ≡ old.bytes.items) (start : first.written ≡ 0) (differs : first.differs ≡ old.differs)
+    (put : HasPut first made new) (more : old.written ≤ 0 + length made) (fits : 0 + length made ≤ length old.bytes.items) (none : new.beside ≡ None) where
+  there : new.bytes.items ≡ put_over old.bytes.items 0 made
+  there = put.bytes ∙ (λ i. put_over (same i) (start i) made)
+
+  back_written : new.written ≡ 0 + length made
+  back_written = put.written ∙ ap (λ (n : ℕ). n + length made) start
+
+  back_made : made_of new ≡ made_of old
+  back_made = made_in new none ∙ (λ i. take (back_written i) (there i)) ∙ over_made old.bytes.items 0 made fits ∙ sym is
+
+  -- what stood there was something else
+  others_there : (bytes rest : List ℕ) → IsRoomOf bytes old → made ++ rest ≡ bytes → slice_range first.bytes.items first.written (first.written + length made) ≢ made
+      → (b : Bool) → old.differs ≡ b → ⊥
+  others_there bytes rest room so others true d = room.other d rest (ap (λ (l : List ℕ). l ++ rest) is ∙ so)
+  others_there bytes rest room so others false d =
+      others ((λ i. slice_range (same i) (start i) (start i + length made)) ∙ begin_so old.bytes.items 0 made fits rest (so ∙ sym (room.same d)))
+
+  pub back_room : (bytes : List ℕ) → IsRoomOf bytes old → IsRoomOf bytes new
+  back_room bytes room = record {
+    left = (λ i. drop (back_written i) (there i)) ∙ over_left old.bytes.items 0 made fits ∙ left_later old.bytes.items bytes old.written (0 + length made) room.left more
+        ∙ ap (λ (n : ℕ). drop n bytes) (sym back_written);
+    size = ap length there ∙ over_long old.bytes.items 0 made fits ∙ room.size;
+    same = λ no.
+        let before = put.told.same no in
+        there ∙ over_same old.bytes.items 0 made fits ((λ i. slice_range (sym same i) (sym start i) (sym start i + length made)) ∙ before.1) ∙ room.same (sym differs ∙ before.0);
+    other = λ yes rest e.
+        let so : made ++ rest ≡ bytes = ap (λ (l : List ℕ). l ++ rest) (sym (back_made ∙ is)) ∙ e in
+        elim (put.told.other yes) [
+          | inl before ↦ room.other (sym differs ∙ before) rest (ap (λ (l : List ℕ). l ++ rest) is ∙ so)
+          | inr others ↦ others_there bytes rest room so others old.differs refl
+        ];
+  }

@@ -81,8 +81,10 @@ module _ (replacement : Replacement) (bytes : List ℕ) (lawful : IsLawful (end_
 -- what is told of bytes, once the change is known
 told : (replacement : Replacement) (bytes new_bytes : List ℕ) (count : ℕ) → Changes replacement bytes new_bytes count → (rewritten : Rewritten) → Became bytes new_bytes count rewritten
     → TellsRewritten (Changes replacement) bytes rewritten
-told replacement bytes new_bytes count changes (Same counted) became =
-    subst (λ (l : List ℕ). Changes replacement bytes l counted) became.0 (subst (λ (n : ℕ). Changes replacement bytes new_bytes n) (sym became.1) changes)
+told replacement bytes new_bytes count changes (Same same counted) became = (
+  became.0 ∙ became.2,
+  subst (λ (l : List ℕ). Changes replacement bytes l counted) became.2 (subst (λ (n : ℕ). Changes replacement bytes new_bytes n) (sym became.1) changes),
+)
 told replacement bytes new_bytes count changes (Other changed) became = (
   subst (λ (l : List ℕ). Changes replacement bytes l changed.count) (sym became.0) (subst (λ (n : ℕ). Changes replacement bytes new_bytes n) (sym became.1) changes),
   λ e. became.2 (sym became.0 ∙ e),
@@ -95,7 +97,7 @@ ends_told replacement bytes new_bytes count changes (Err error) became = tt
 
 -- there are few
 few_of : (bytes new_bytes : List ℕ) (count : ℕ) → count ≤ length bytes + 1 → (rewritten : Rewritten) → Became bytes new_bytes count rewritten → AreFewIn bytes rewritten
-few_of bytes new_bytes count few (Same counted) became = omega (arith, few, became.1)
+few_of bytes new_bytes count few (Same same counted) became = omega (arith, few, became.1)
 few_of bytes new_bytes count few (Other changed) became = omega (arith, few, became.1)
 
 pub ends_few : {E : Type 0} (bytes new_bytes : List ℕ) (count : ℕ) → count ≤ length bytes + 1 → (result : Result Rewritten E) → IfOk result (Became bytes new_bytes count) → IfOk result (AreFewIn bytes)

@@ -1,14 +1,11 @@
 -- Which replacer is asked for, and why none is made.
-use Rattle.std.proofs.Common.{◌≡◌, ℕ, ◌<◌, ◌≤◌, ◌^◌, Bool, true, false, cond, List, [], ◌∷◌, ◌++◌, length, Contains, Option, Some, None, IfSome, option_map, refl, sym, ap, ◌∙◌, subst, arith, length-append}
+use Rattle.std.proofs.Common.{◌≡◌, ℕ, ◌<◌, ◌≤◌, Bool, true, false, List, [], ◌∷◌, ◌++◌, Contains, Option, Some, None, IfSome, option_map, refl, sym, ap, ◌∙◌, subst, arith}
 use Rattle.std.proofs.lemmas.List.Elements.{All-contains, Contains-append_right}
-use Rattle.std.proofs.lemmas.Str.{encodes-chars}
-use Rattle.std.proofs.Math.Utf8.{encode, encodes}
-use Rattle.std.specs.Str.{IsUtf8, chars}
+use Rattle.std.specs.Str.{chars}
 use Rattle.hir_tree.specs.Tree.{Tree}
 use Rattle.pattern_syntax.specs.Reads.{Found}
 use Rattle.pattern_core.specs.Answers.{flags_of, most_depth}
-use Rattle.pattern_core.specs.Escape.{encoded, escaped_char, escaped_text, is_meta}
-use Rattle.grep_regex.specs.Building.{IsAscii, IsBuilt, IsRefused, size_of}
+use Rattle.grep_regex.specs.Building.{IsBuilt, IsRefused, size_of}
 use Rattle.grep_regex.specs.Options.{optioned, terminator, together}
 use Rattle.grep_regex.specs.Readings.{AreReadAs, IsReadAs, pattern_flags, written}
 use Rattle.grep_regex.specs.Stripping.{asks_for, not_allowed}

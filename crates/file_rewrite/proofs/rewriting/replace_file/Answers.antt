@@ -67,7 +67,7 @@ returns-in_err-rewritten-clause-crash g c =
 pub returns-in-Same-clause-rewritten : goal.returns-in-Same-clause-rewritten
 returns-in-Same-clause-rewritten g c =
     λ told.
-    let is_same = told_same (FileChange (g.R.Replaces.change c.args.replacer.now)) c.in_ok-found.found.bytes.items _ c.in-Same.count c.in-Same.is c.in_ok-rewritten.ensures.told in
+    let is_same = told_same (FileChange (g.R.Replaces.change c.args.replacer.now)) c.in_ok-found.found.bytes.items _ _ c.in-Same.count c.in-Same.is c.in_ok-rewritten.ensures.told in
     kept_file (g.R.Replaces.change c.args.replacer.now) (g.D.Disk.state c.args.disk.now) _ _ _ _ c.in_ok-found.ensures.tree (c.in_ok-found.ensures.found told) (record { changed = false; replaced = c.in-Same.count }) c.in-Same.count refl refl is_same
 
 pub returns-in-Same-clause-no_path : goal.returns-in-Same-clause-no_path
@@ -81,7 +81,7 @@ returns-in-Same-clause-crash g c =
 pub returns-in-Same-clause-durable : goal.returns-in-Same-clause-durable
 returns-in-Same-clause-durable g c =
     λ told.
-    let is_same = told_same (FileChange (g.R.Replaces.change c.args.replacer.now)) c.in_ok-found.found.bytes.items _ c.in-Same.count c.in-Same.is c.in_ok-rewritten.ensures.told in
+    let is_same = told_same (FileChange (g.R.Replaces.change c.args.replacer.now)) c.in_ok-found.found.bytes.items _ _ c.in-Same.count c.in-Same.is c.in_ok-rewritten.ensures.told in
     kept_durable (g.R.Replaces.change c.args.replacer.now) (g.D.Disk.state c.args.disk.now) _ _ _ _ c.in_ok-found.ensures.tree (c.in_ok-found.ensures.found told) (g.met.R.Replaces.one c.args.replacer.now) c.in-Same.count is_same
 
 -- ---- they are exchanged
