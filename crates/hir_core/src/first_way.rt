@@ -1,7 +1,7 @@
 //! The first way of a thread, which is tried before blocks are searched: at each spot the preferred way that the filter doesn't rule out is
 //! gone, with no marks, and none is kept to come back to. Most patterns that match often match so.
 
-ghost use Rattle.std.specs.Prelude.{◌≡◌, ◌+◌, ◌-◌, ◌*◌, ◌<◌, ◌≤◌, ◌^◌, ◌⊎◌, ℕ, List, [], true, false, length, slice_index, slice_index_or, Some, IfOk, IfSome};
+ghost use Rattle.std.specs.Prelude.{◌≡◌, ◌+◌, ◌-◌, ◌*◌, ◌<◌, ◌≤◌, ◌^◌, ◌⊎◌, ℕ, List, [], true, false, length, slice_index, slice_index_or, Some, IfNone, IfOk, IfSome};
 ghost use Rattle.sd_base.specs.Steps.{IsTicked, TicksAtMost};
 ghost use Rattle.hir_program.specs.Loops.{AreLoops};
 ghost use Rattle.hir_program.specs.Masks.{IsDead, is_taker, next_of};
@@ -91,7 +91,9 @@ fn take(
     requires filters { IsFilterOf spots.now filter.now }
     requires at { trail.old.at ≤ length text.now }
     requires next { (is_taker (spot_at spots.now now.spot) ≡ true) × (next_of (spot_at spots.now now.spot) ≡ next) }
-    ensures { IfSome result (λ next. GoesFirst text.now spots.now now trail.old next trail.new) }
+    ensures gone { IfSome result (λ next. GoesFirst text.now spots.now now trail.old next trail.new) }
+    ensures anew { IfSome result (λ next. next.bar ≡ 0) }
+    ensures stays { IfNone result (trail.new ≡ trail.old) }
 {
     let size = taken_size(spots, filter, text, trail.at, now.spot)?;
     trail.move_on(size);
@@ -100,6 +102,66 @@ fn take(
         bar: 0,
         visits: now.visits.saturating_add(1),
     })
+}
+
+/// Takes bytes at a spot, if it takes any there, and goes on behind them, and behind all rounds of the loop that it leads to, if it does.
+#[inline(always)]
+fn take_rounds(
+    spots: &[Spot],
+    filter: &Scan,
+    text: &[u8],
+    now: Reached,
+    trail: &mut Trail,
+) -> Option<Reached>
+    requires falls { ClosesFall spots.now }
+    requires filters { IsFilterOf spots.now filter.now }
+    requires at { trail.old.at ≤ length text.now }
+    ensures gone { IfSome result (λ next. GoesFirst text.now spots.now now trail.old next trail.new) }
+    ensures stays { IfNone result (trail.new ≡ trail.old) }
+{
+    let Some(Spot::Bytes { next, .. } | Spot::Chars { next, .. }) = spots.get(now.spot) else {
+        return None;
+    };
+    let behind = take(spots, filter, text, now, *next as usize, trail)?;
+    let Some(Spot::Split { first, second }) = spots.get(behind.spot) else {
+        return Some(behind);
+    };
+    let (first, second) = (*first as usize, *second as usize);
+    Some(split(spots, filter, text, behind, first, second, trail))
+}
+
+/// Goes into a repetition at the spot before it, as `\w*` has one: by a jump to a spot that takes bytes, and on behind these. `None` where it
+/// is no such spot, or none are taken.
+#[inline(always)]
+fn enter(
+    spots: &[Spot],
+    filter: &Scan,
+    text: &[u8],
+    now: Reached,
+    first: usize,
+    second: usize,
+    trail: &mut Trail,
+) -> Option<Reached>
+    requires falls { ClosesFall spots.now }
+    requires filters { IsFilterOf spots.now filter.now }
+    requires at { trail.old.at ≤ length text.now }
+    requires split { spot_at spots.now now.spot ≡ spot.Split first second }
+    requires new_here { now.bar ≤ now.spot }
+    ensures gone { IfSome result (λ next. GoesFirst text.now spots.now now trail.old next trail.new) }
+    ensures stays { IfNone result (trail.new ≡ trail.old) }
+{
+    let Some(Spot::Jump { next }) = spots.get(first) else {
+        return None;
+    };
+    if first <= now.spot {
+        return None;
+    }
+    let round = Reached {
+        spot: *next as usize,
+        bar: first + 1,
+        visits: now.visits.saturating_add(1),
+    };
+    take_rounds(spots, filter, text, round, trail)
 }
 
 /// Goes on both ways at a spot, by the first one that the filter doesn't rule out, behind all rounds of a loop.
@@ -127,6 +189,31 @@ fn split(
         spot: first_of_two(filter, text, trail.at, first, second),
         bar: now.spot + 1,
         visits: now.visits.saturating_add(trail.at - from).saturating_add(1),
+    }
+}
+
+/// Goes on both ways at a spot: into a repetition, or else as [`split`] does.
+#[inline(always)]
+fn fork(
+    spots: &[Spot],
+    filter: &Scan,
+    text: &[u8],
+    now: Reached,
+    first: usize,
+    second: usize,
+    trail: &mut Trail,
+) -> Reached
+    requires falls { ClosesFall spots.now }
+    requires filters { IsFilterOf spots.now filter.now }
+    requires at { trail.old.at ≤ length text.now }
+    requires split { spot_at spots.now now.spot ≡ spot.Split first second }
+    requires within { now.spot < length spots.now }
+    requires new_here { now.bar ≤ now.spot }
+    ensures { GoesFirst text.now spots.now now trail.old result trail.new }
+{
+    match enter(spots, filter, text, now, first, second, trail) {
+        Some(next) => next,
+        None => split(spots, filter, text, now, first, second, trail),
     }
 }
 
@@ -194,7 +281,7 @@ fn turn(
         Some(_) if now.spot < now.bar => Ok(None),
         Some(Spot::Split { first, second }) => {
             let (first, second) = (*first as usize, *second as usize);
-            Ok(Some(split(spots, filter, text, now, first, second, trail)))
+            Ok(Some(fork(spots, filter, text, now, first, second, trail)))
         }
         Some(here) => pass(spots, text, here, now, trail),
         None => Ok(None),

@@ -177,8 +177,8 @@ fn set(spans: &mut Vec<Option<Match>>, groups: &[Option<(usize, usize)>])
     requires in_order { EachIndex groups.now (λ i. IsInOrder (slice_index_or groups.now i None)) }
     ensures { spans.new.items ≡ map span_of groups.now }
 {
-    for (i, group) in groups.iter().enumerate() {
-        spans[i] = span_of(*group);
+    for i in 0..groups.len() {
+        spans[i] = span_of(groups[i]);
     }
 }
 

@@ -1,6 +1,6 @@
 //! The thread of a search that is followed, and what else is to be tried at its place.
 
-ghost use Rattle.std.specs.Prelude.{◌≡◌, ◌+◌, ◌^◌, ◌<◌, ℕ, ◌∷◌, [], IfOk, None, slice_index_or, slice_set};
+ghost use Rattle.std.specs.Prelude.{◌≡◌, ◌+◌, ◌^◌, ◌<◌, ℕ, ◌∷◌, [], IfOk, OnOk, None, replicate, slice_index_or, slice_set};
 ghost use Rattle.hir_program.specs.Program.{opened, closed, way};
 ghost use Rattle.hir_tree.specs.Runs as runs;
 ghost use Rattle.hir_core.specs.Trails.{way_of, placed_at, stops_of, stops_on, undone, ComesBack};
@@ -53,6 +53,17 @@ fn set_group(groups: &mut Vec<Option<(usize, usize)>>, index: usize, group: Opti
     }
 }
 
+/// Makes so many groups of these, all unset. Refuses for want of memory alone.
+fn unset_all(groups: &mut Vec<Option<(usize, usize)>>, count: usize) -> Result<(), NoMemory>
+    ensures { OnOk result (groups.new.items ≡ replicate count None) }
+{
+    groups.clear();
+    for _group in 0..count {
+        groups.push(None)?;
+    }
+    Ok(())
+}
+
 impl Trail {
     /// A trail with empty lists.
     pub fn new(alloc: Global) -> Trail
@@ -72,9 +83,7 @@ impl Trail {
     {
         self.at = at;
         self.starts.clear();
-        self.groups.clear();
-        self.groups.resize(groups as usize + 1, None)?;
-        Ok(())
+        unset_all(&mut self.groups, groups as usize + 1)
     }
 
     /// A thread begins at a place, where group 0 begins, with groups up to this index. Refuses for want of memory alone.

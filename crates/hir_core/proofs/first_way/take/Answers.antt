@@ -5,8 +5,8 @@ use Rattle.hir_core.specs.Trails.{way_of}
 use Rattle.hir_core.proofs.first_way.FirstWayLemmas.{counted-some, first-take, taker-counted}
 use Rattle.hir_core.proofs.first_way.take.Goals as goal
 
-pub returns : goal.returns
-returns c =
+pub returns-clause-gone : goal.returns-clause-gone
+returns-clause-gone c =
     let text = c.args.text.now in
     let spots = c.args.spots.now in
     let w = way_of c.args.trail.now in
