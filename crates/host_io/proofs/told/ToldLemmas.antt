@@ -70,6 +70,12 @@ told_before old new folder names entries path meta is = record {
   is_path = (rw (folder, names) at is.is_path);
 }
 
+-- the same entries in another order tell nothing more
+pub told_reordered : (old new : Told) → new.folder ≡ old.folder → new.names ≡ old.names → IsPermutation old.entries.items new.entries.items
+    → (path : List ℕ) (meta : Meta) → IsTold new path meta → IsTold old path meta
+told_reordered old new folder names permutation = told_before old new folder names
+    (λ entry is not_asked. Contains-permutation new.entries.items old.entries.items entry (IsPermutation-sym old.entries.items new.entries.items permutation) is)
+
 -- more names alone tell nothing
 pub told_still : (old new : Told) (more : List ℕ) → new.folder ≡ old.folder → new.names.items ≡ old.names.items ++ more → new.entries.items ≡ old.entries.items
     → (path : List ℕ) (meta : Meta) → IsTold new path meta → IsTold old path meta

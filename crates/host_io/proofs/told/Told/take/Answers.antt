@@ -1,8 +1,17 @@
 use Rattle.std.proofs.Common.{◌≡◌, ◌≤◌, ◌++◌, ℕ, List, length, string_bytes, refl, sym, subst, ap, ◌∙◌}
 use Rattle.std.proofs.lemmas.List.Sorted.{Contains-permutation, IsPermutation-sym}
 use Rattle.host_io.specs.Told.{name_of}
-use Rattle.host_io.proofs.told.ToldLemmas.{within_set, told_before, unasked_before, one_less, not_other, read_there, path_of_read}
+use Rattle.host_io.proofs.told.ToldLemmas.{within_set, told_before, told_reordered, unasked_before, one_less, not_other, read_there, path_of_read}
 use Rattle.host_io.proofs.told.Told.take.Goals as goal
+
+pub returns-in_err-place-clause-no_more : goal.returns-in_err-place-clause-no_more
+returns-in_err-place-clause-no_more c = told_reordered _ _ c.place_of.ensures.folder c.place_of.ensures.names c.place_of.ensures.entries
+
+pub returns-in_err-entry-clause-no_more : goal.returns-in_err-entry-clause-no_more
+returns-in_err-entry-clause-no_more c = told_reordered _ _ c.place_of.ensures.folder c.place_of.ensures.names c.place_of.ensures.entries
+
+pub returns-then-entry-clause-no_more : goal.returns-then-entry-clause-no_more
+returns-then-entry-clause-no_more c = told_reordered _ _ c.place_of.ensures.folder c.place_of.ensures.names c.place_of.ensures.entries
 
 pub invariant_of-self : goal.invariant_of-self
 invariant_of-self c =
