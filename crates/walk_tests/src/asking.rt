@@ -13,7 +13,7 @@ use std::test::Fail;
 use walkdir::{DirEntry, Error, Order, Unsorted, Walk, WalkDir};
 
 /// An option with its value.
-#[derive(Clone, Copy, Debug)]
+#[derive(Clone, Copy)]
 pub(crate) enum Setting {
     MinDepth(usize),
     MaxDepth(usize),
@@ -89,14 +89,14 @@ pub(crate) fn push_line(
     text: &mut String,
     item: &Result<DirEntry, Error>,
     end: &str,
-) -> Result<(), AllocError> {
+) -> Result<(), Fail> {
     let line = line(alloc, item)?;
-    text.push_str(line.as_str())?;
-    text.push_str(end)
+    write!(text, "{line}{end}")?;
+    Ok(())
 }
 
 /// What a walk gives up to its end, a line an item.
-pub(crate) fn text_of<W: Walk + Drop>(alloc: Global, walk: W) -> Result<String, AllocError>
+pub(crate) fn text_of<W: Walk + Drop>(alloc: Global, walk: W) -> Result<String, Fail>
     requires can { W.can_next walk }
     requires ends { IsFinite (W.remaining walk) }
 {
@@ -141,7 +141,7 @@ pub(crate) fn unsorted<D: Disk>(
     settings: &[Setting],
 ) -> Result<String, Fail> {
     let walk = asked(alloc, root, settings)?;
-    Ok(text_of(alloc, walk.into_iter(disk))?)
+    text_of(alloc, walk.into_iter(disk))
 }
 
 /// What a root gives under these options, sorted by file name.
@@ -152,7 +152,7 @@ pub(crate) fn sorted<D: Disk>(
     settings: &[Setting],
 ) -> Result<String, Fail> {
     let walk = asked(alloc, root, settings)?.sort_by_file_name();
-    Ok(text_of(alloc, walk.into_iter(disk))?)
+    text_of(alloc, walk.into_iter(disk))
 }
 
 /// The bounds on open lists that walks are tried with, and how many lists they allow.
@@ -173,7 +173,7 @@ fn sorted_within(
     bound: usize,
 ) -> Result<String, Fail> {
     let walk = asked(alloc, root, settings)?.max_open(bound);
-    Ok(text_of(alloc, walk.sort_by_file_name().into_iter(disk))?)
+    text_of(alloc, walk.sort_by_file_name().into_iter(disk))
 }
 
 /// The same in the disk's order.
@@ -185,7 +185,7 @@ fn unsorted_within(
     bound: usize,
 ) -> Result<String, Fail> {
     let walk = asked(alloc, root, settings)?.max_open(bound);
-    Ok(text_of(alloc, walk.into_iter(disk))?)
+    text_of(alloc, walk.into_iter(disk))
 }
 
 /// Whatever the bound on open lists, a root gives these lines under these options sorted by file name, and keeps the bound.

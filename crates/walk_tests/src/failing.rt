@@ -7,10 +7,16 @@ use std::alloc::Global;
 use std::process::Abort;
 use std::test::Fail;
 
-/// What an unsorted walk of `foo` that follows links gives where one counted call fails, and how many calls failed.
-fn given_failing(alloc: Global, call: u64, max_open: usize) -> Result<(String, u64), Fail> {
+/// The disk of `foo`, of which one counted call fails.
+pub(crate) fn foo_failing(alloc: Global, call: u64) -> Result<MemDisk, Fail> {
     let mut disk = foo(alloc)?;
     disk.fail_at(call)?;
+    Ok(disk)
+}
+
+/// What an unsorted walk of `foo` that follows links gives where one counted call fails, and how many calls failed.
+fn given_failing(alloc: Global, call: u64, max_open: usize) -> Result<(String, u64), Fail> {
+    let mut disk = foo_failing(alloc, call)?;
     let settings = [Setting::FollowLinks(true), Setting::MaxOpen(max_open)];
     let given = unsorted(alloc, &mut disk, "foo", &settings)?;
     Ok((given, disk.faults()))
@@ -93,8 +99,7 @@ fn each_failing_call_stands_in_its_place(rt: HostRuntime) -> Result<(), Fail> {
 
 #[test]
 fn a_failure_comes_first_in_a_sorted_list(rt: HostRuntime) -> Result<(), Fail> {
-    let mut disk = foo(rt.alloc())?;
-    disk.fail_at(4)?;
+    let mut disk = foo_failing(rt.alloc(), 4)?;
     let given = sorted(rt.alloc(), &mut disk, "foo", &[])?;
     let wanted = "0 d foo\n1 ! input or output failed\n1 f foo/def\n";
     check_text(&rt, given.as_str(), wanted);
@@ -103,8 +108,7 @@ fn a_failure_comes_first_in_a_sorted_list(rt: HostRuntime) -> Result<(), Fail> {
 
 #[test]
 fn a_failing_device_stands_in_place_of_the_root(rt: HostRuntime) -> Result<(), Fail> {
-    let mut disk = foo(rt.alloc())?;
-    disk.fail_at(1)?;
+    let mut disk = foo_failing(rt.alloc(), 1)?;
     let settings = [Setting::SameFileSystem(true)];
     let given = unsorted(rt.alloc(), &mut disk, "foo", &settings)?;
     let wanted = "0 ! IO error for operation on foo: input or output failed\n";
@@ -137,14 +141,19 @@ fn root_and_failures() -> [&'static str; 21] {
     lines
 }
 
+/// What a walk of `/t` gives, sorted by file name or in the disk's order.
+fn given_of_list(alloc: Global, disk: &mut MemDisk, sorts: bool) -> Result<String, Fail> {
+    if sorts {
+        sorted(alloc, disk, "/t", &[])
+    } else {
+        unsorted(alloc, disk, "/t", &[])
+    }
+}
+
 /// A walk tells each failure of a list, sorted or not.
 fn check_list(rt: &(impl Abort + AllocGlobal), sorts: bool) -> Result<(), Fail> {
     let mut disk = failing_list(rt.alloc())?;
-    let given = if sorts {
-        sorted(rt.alloc(), &mut disk, "/t", &[])?
-    } else {
-        unsorted(rt.alloc(), &mut disk, "/t", &[])?
-    };
+    let given = given_of_list(rt.alloc(), &mut disk, sorts)?;
     check_lines(rt, given.as_str(), &root_and_failures());
     Ok(())
 }

@@ -10,7 +10,7 @@ use mem_io::MemDisk;
 use sd_io::{Disk, DiskFault, Ident, ListId, Meta, RawEntry, Text};
 use std::alloc::Global;
 use std::test::Fail;
-use walkdir::ErrorKind;
+use walkdir::{DirEntry, Error, ErrorKind};
 
 /// How a disk differs from the one that it stands on.
 #[derive(Drop)]
@@ -167,30 +167,31 @@ fn endless(alloc: Global) -> Result<FakeDisk, Fail> {
     Ok(FakeDisk::new(top, Difference::Endless))
 }
 
+/// The kind of the error that collecting ended with, if it did.
+fn kind_of(collected: Result<Vec<DirEntry>, Error>) -> Option<ErrorKind> {
+    match collected {
+        Ok(_) => None,
+        Err(error) => Some(error.kind()),
+    }
+}
+
 /// The kind of the error that collecting an endless disk ends with.
 fn refused(
     alloc: Global,
     disk: &mut FakeDisk,
     settings: &[Setting],
     cap: u64,
-) -> Result<Option<ErrorKind>, Fail> {
-    if cap == 0 {
-        return Err("no cap".into());
-    }
+) -> Result<Option<ErrorKind>, Fail>
+    requires { 0 < cap }
+{
     let walk = asked(alloc, "/t", settings)?;
-    let collected = walk.into_iter(disk).collect_capped(cap);
-    Ok(match collected {
-        Ok(_) => None,
-        Err(error) => Some(error.kind()),
-    })
+    Ok(kind_of(walk.into_iter(disk).collect_capped(cap)))
 }
 
 /// The same of an endless disk of its own.
-fn refused_endless(
-    alloc: Global,
-    settings: &[Setting],
-    cap: u64,
-) -> Result<Option<ErrorKind>, Fail> {
+fn refused_endless(alloc: Global, settings: &[Setting], cap: u64) -> Result<Option<ErrorKind>, Fail>
+    requires { 0 < cap }
+{
     let mut disk = endless(alloc)?;
     refused(alloc, &mut disk, settings, cap)
 }
@@ -222,16 +223,25 @@ fn unknown(alloc: Global, path: &str) -> Result<FakeDisk, Fail> {
     Ok(FakeDisk::new(foo(alloc)?, Difference::Unknown(unknown)))
 }
 
+/// What a walk of `foo` that follows links gives sorted by file name, where the directory at this path vanishes.
+fn sorted_vanishing(alloc: Global, path: &str) -> Result<String, Fail> {
+    let mut disk = vanishing(alloc, path)?;
+    sorted(alloc, &mut disk, "foo", &[Setting::FollowLinks(true)])
+}
+
+/// What a walk of `foo` gives in the disk's order, where the directory at this path vanishes.
+fn unsorted_vanishing(alloc: Global, path: &str) -> Result<String, Fail> {
+    let mut disk = vanishing(alloc, path)?;
+    unsorted(alloc, &mut disk, "foo", &[])
+}
+
 #[test]
 fn a_directory_may_vanish_before_it_is_opened(rt: HostRuntime) -> Result<(), Fail> {
-    let alloc = rt.alloc();
-    let settings = [Setting::FollowLinks(true)];
-    let mut disk = vanishing(alloc, "foo/abc")?;
-    let given = sorted(alloc, &mut disk, "foo", &settings)?;
+    let given = sorted_vanishing(rt.alloc(), "foo/abc")?;
     let wanted =
         "0 d foo\n1 d foo/abc\n1 ! IO error for operation on foo/abc: input or output failed\n1 f foo/def\n";
     check_text(&rt, given.as_str(), wanted);
-    let given = unsorted(alloc, &mut disk, "foo", &[])?;
+    let given = unsorted_vanishing(rt.alloc(), "foo/abc")?;
     let wanted =
         "0 d foo\n1 f foo/def\n1 d foo/abc\n1 ! IO error for operation on foo/abc: input or output failed\n";
     check_text(&rt, given.as_str(), wanted);
@@ -240,20 +250,21 @@ fn a_directory_may_vanish_before_it_is_opened(rt: HostRuntime) -> Result<(), Fai
 
 #[test]
 fn a_root_may_vanish_before_it_is_opened(rt: HostRuntime) -> Result<(), Fail> {
-    let alloc = rt.alloc();
-    let mut disk = vanishing(alloc, "foo")?;
-    let given = unsorted(alloc, &mut disk, "foo", &[])?;
+    let given = unsorted_vanishing(rt.alloc(), "foo")?;
     let wanted = "0 d foo\n0 ! IO error for operation on foo: input or output failed\n";
     check_text(&rt, given.as_str(), wanted);
     Ok(())
 }
 
+/// What a walk of `foo` on one device gives sorted by file name, where it isn't told what stands at this path.
+fn sorted_unknown(alloc: Global, path: &str) -> Result<String, Fail> {
+    let mut disk = unknown(alloc, path)?;
+    sorted(alloc, &mut disk, "foo", &[Setting::SameFileSystem(true)])
+}
+
 #[test]
 fn a_directory_that_vanished_is_foreign(rt: HostRuntime) -> Result<(), Fail> {
-    let alloc = rt.alloc();
-    let mut disk = unknown(alloc, "foo/abc")?;
-    let settings = [Setting::SameFileSystem(true)];
-    let given = sorted(alloc, &mut disk, "foo", &settings)?;
+    let given = sorted_unknown(rt.alloc(), "foo/abc")?;
     let wanted = "0 d foo\n1 d foo/abc\n1 f foo/def\n";
     check_text(&rt, given.as_str(), wanted);
     Ok(())

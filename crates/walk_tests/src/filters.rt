@@ -1,11 +1,12 @@
 //! Directories that are left, and filtered walks.
 
-ghost use Rattle.std.specs.Iterator.{IsFinite};
+ghost use Rattle.std.specs.Prelude.{◌≤◌};
+ghost use Rattle.std.specs.Iterator.{IsFinite, size};
 
 use crate::asking::{Setting, asked, check_lines, check_text, push_line, text_of};
 use crate::rows::foo;
 use mem_io::MemDisk;
-use std::alloc::{AllocError, Global};
+use std::alloc::Global;
 use std::process::Abort;
 use std::test::Fail;
 use walkdir::{DirEntry, Error, Walk};
@@ -15,29 +16,40 @@ fn is_at(item: &Result<DirEntry, Error>, path: &str) -> bool {
     matches!(item, Ok(entry) if entry.path() == path)
 }
 
+/// What ends the line of an item, which marks an entry that was just entered.
+fn end_of_line(just_entered: bool) -> &'static str {
+    if just_entered { " entered\n" } else { "\n" }
+}
+
+/// Leaves the directory of an item that is an entry of this path.
+fn leave_at<W: Walk>(walk: &mut W, item: &Result<DirEntry, Error>, path: &str)
+    requires can { W.can_next walk.old }
+    requires ends { IsFinite (W.remaining walk.old) }
+    ensures can { W.can_next walk.new }
+    ensures ends { IsFinite (W.remaining walk.new) }
+    ensures not_more { size (W.remaining walk.new) ≤ size (W.remaining walk.old) }
+{
+    if is_at(item, path) {
+        walk.skip_current_dir();
+    }
+}
+
 /// What a walk gives, a line an item, where the directory of an entry of this path is left. Entries that were just entered are marked.
-fn text_leaving<W: Walk + Drop>(alloc: Global, walk: W, path: &str) -> Result<String, AllocError>
+fn text_leaving<W: Walk + Drop>(alloc: Global, walk: W, path: &str) -> Result<String, Fail>
     requires can { W.can_next walk }
     requires ends { IsFinite (W.remaining walk) }
 {
     let mut walk = walk;
     let mut text = String::new(alloc);
     while let Some(item) = walk.next() {
-        let end = if walk.just_entered() {
-            " entered\n"
-        } else {
-            "\n"
-        };
-        push_line(alloc, &mut text, &item, end)?;
-        if is_at(&item, path) {
-            walk.skip_current_dir();
-        }
+        push_line(alloc, &mut text, &item, end_of_line(walk.just_entered()))?;
+        leave_at(&mut walk, &item, path);
     }
     Ok(text)
 }
 
 /// What a walk gives after a directory was left before its first item.
-fn text_after_leaving<W: Walk + Drop>(alloc: Global, walk: W) -> Result<String, AllocError>
+fn text_after_leaving<W: Walk + Drop>(alloc: Global, walk: W) -> Result<String, Fail>
     requires can { W.can_next walk }
     requires ends { IsFinite (W.remaining walk) }
 {
@@ -48,9 +60,9 @@ fn text_after_leaving<W: Walk + Drop>(alloc: Global, walk: W) -> Result<String, 
 
 /// What `foo` gives sorted by file name under these options, where the directory of an entry of this path is left.
 fn foo_leaving(alloc: Global, settings: &[Setting], path: &str) -> Result<String, Fail> {
-    let mut disk = foo(alloc)?;
     let walk = asked(alloc, "foo", settings)?.sort_by_file_name();
-    Ok(text_leaving(alloc, walk.into_iter(&mut disk), path)?)
+    let mut disk = foo(alloc)?;
+    text_leaving(alloc, walk.into_iter(&mut disk), path)
 }
 
 /// `foo` gives this text sorted by file name under these options, where the directory of an entry of this path is left.
@@ -90,25 +102,39 @@ fn after_its_contents_a_directory_is_left_with_its_siblings(rt: HostRuntime) -> 
     check_leaving(&rt, &[Setting::ContentsFirst(true)], "foo/abc", wanted)
 }
 
+/// What `foo` gives down to depth 1 after a directory was left before the first item.
+fn foo_after_leaving(alloc: Global) -> Result<String, Fail> {
+    let walk = asked(alloc, "foo", &[Setting::MaxDepth(1)])?;
+    let mut disk = foo(alloc)?;
+    text_after_leaving(alloc, walk.into_iter(&mut disk))
+}
+
 #[test]
 fn nothing_is_left_before_the_first_item(rt: HostRuntime) -> Result<(), Fail> {
-    let alloc = rt.alloc();
-    let mut disk = foo(alloc)?;
-    let walk = asked(alloc, "foo", &[Setting::MaxDepth(1)])?;
-    let given = text_after_leaving(alloc, walk.into_iter(&mut disk))?;
+    let given = foo_after_leaving(rt.alloc())?;
     check_text(&rt, given.as_str(), "0 d foo\n1 f foo/def\n1 d foo/abc\n");
     Ok(())
+}
+
+/// What `foo` gives, sorted by file name or in the disk's order, where the directory of an entry of this path is left.
+fn given_leaving(
+    alloc: Global,
+    disk: &mut MemDisk,
+    sorts: bool,
+    path: &str,
+) -> Result<String, Fail> {
+    let walk = asked(alloc, "foo", &[])?;
+    if sorts {
+        text_leaving(alloc, walk.sort_by_file_name().into_iter(disk), path)
+    } else {
+        text_leaving(alloc, walk.into_iter(disk), path)
+    }
 }
 
 /// How many calls a walk of `foo` makes, where the directory of an entry of this path is left.
 fn calls_leaving(alloc: Global, sorts: bool, path: &str) -> Result<u64, Fail> {
     let mut disk = foo(alloc)?;
-    let walk = asked(alloc, "foo", &[])?;
-    let _given = if sorts {
-        text_leaving(alloc, walk.sort_by_file_name().into_iter(&mut disk), path)?
-    } else {
-        text_leaving(alloc, walk.into_iter(&mut disk), path)?
-    };
+    let _given = given_leaving(alloc, &mut disk, sorts, path)?;
     Ok(disk.calls())
 }
 
@@ -134,7 +160,7 @@ fn text_without(
         .sort_by_file_name()
         .into_iter(disk)
         .filter_entry(|entry: &DirEntry| entry.file_name() != name);
-    Ok(text_of(alloc, walk)?)
+    text_of(alloc, walk)
 }
 
 /// A filter on names gives these lines of `foo`, sorted by file name under these options.
@@ -190,7 +216,7 @@ fn text_of_nothing(
     let walk = asked(alloc, "foo", &[Setting::ContentsFirst(contents_first)])?
         .into_iter(disk)
         .filter_entry(|_: &DirEntry| false);
-    Ok(text_of(alloc, walk)?)
+    text_of(alloc, walk)
 }
 
 #[test]
@@ -209,7 +235,7 @@ fn text_without_root(alloc: Global, disk: &mut MemDisk) -> Result<String, Fail> 
         .into_iter(disk)
         .filter_entry(|entry: &DirEntry| entry.file_name() != "qrs")
         .filter_entry(|entry: &DirEntry| !entry.file_type().is_dir() || entry.depth() > 0);
-    Ok(text_of(alloc, walk)?)
+    text_of(alloc, walk)
 }
 
 /// What `foo` gives without `qrs`, where a second filter was put on and taken off again.
@@ -219,19 +245,23 @@ fn text_within_filter(alloc: Global, disk: &mut MemDisk) -> Result<String, Fail>
         .filter_entry(|entry: &DirEntry| entry.file_name() != "qrs")
         .filter_entry(|entry: &DirEntry| !entry.file_type().is_file() || entry.depth() > 1)
         .into_walk();
-    Ok(text_of(alloc, walk)?)
+    text_of(alloc, walk)
+}
+
+/// `foo` gives nothing where a second filter refuses the root, and all but `qrs` where that is taken off again.
+fn check_filters(rt: &(impl Abort + AllocGlobal), disk: &mut MemDisk) -> Result<(), Fail> {
+    let given = text_without_root(rt.alloc(), disk)?;
+    check_text(rt, given.as_str(), "");
+    let given = text_within_filter(rt.alloc(), disk)?;
+    let wanted = "0 d foo\n1 f foo/def\n1 d foo/abc\n2 f foo/abc/tuv\n";
+    check_text(rt, given.as_str(), wanted);
+    Ok(())
 }
 
 #[test]
 fn filters_stand_on_filters(rt: HostRuntime) -> Result<(), Fail> {
-    let alloc = rt.alloc();
-    let mut disk = foo(alloc)?;
-    let given = text_without_root(alloc, &mut disk)?;
-    check_text(&rt, given.as_str(), "");
-    let given = text_within_filter(alloc, &mut disk)?;
-    let wanted = "0 d foo\n1 f foo/def\n1 d foo/abc\n2 f foo/abc/tuv\n";
-    check_text(&rt, given.as_str(), wanted);
-    Ok(())
+    let mut disk = foo(rt.alloc())?;
+    check_filters(&rt, &mut disk)
 }
 
 /// What `foo` gives without `def`, where the directory of an entry of this path is left.
@@ -239,7 +269,7 @@ fn filtered_leaving(alloc: Global, disk: &mut MemDisk, path: &str) -> Result<Str
     let walk = asked(alloc, "foo", &[])?
         .into_iter(disk)
         .filter_entry(|entry: &DirEntry| entry.file_name() != "def");
-    Ok(text_leaving(alloc, walk, path)?)
+    text_leaving(alloc, walk, path)
 }
 
 #[test]

@@ -3,6 +3,7 @@
 use crate::asking::{Setting, check_sorted, check_unsorted};
 use mem_io::{BuildFault, MemDisk};
 use std::alloc::Global;
+use std::process::Abort;
 use std::test::Fail;
 
 const FOLLOWED: [Setting; 1] = [Setting::FollowLinks(true)];
@@ -23,6 +24,12 @@ fn add_links(disk: &mut MemDisk, links: &[(&str, &str)]) -> Result<(), BuildFaul
     Ok(())
 }
 
+/// Adds these directories, and then these links with their targets.
+fn add_all(disk: &mut MemDisk, folders: &[&str], links: &[(&str, &str)]) -> Result<(), BuildFault> {
+    add_folders(disk, folders)?;
+    add_links(disk, links)
+}
+
 /// A disk with these directories, and then these links with their targets.
 pub(crate) fn linked(
     alloc: Global,
@@ -30,25 +37,45 @@ pub(crate) fn linked(
     links: &[(&str, &str)],
 ) -> Result<MemDisk, Fail> {
     let mut disk = MemDisk::new(alloc);
-    add_folders(&mut disk, folders)?;
-    add_links(&mut disk, links)?;
+    add_all(&mut disk, folders, links)?;
     Ok(disk)
+}
+
+/// On a disk with these directories and links, `/r` gives these lines in the disk's order where links are followed.
+pub(crate) fn check_followed(
+    rt: &(impl Abort + AllocGlobal),
+    folders: &[&str],
+    links: &[(&str, &str)],
+    lines: &[&str],
+) -> Result<(), Fail> {
+    let mut disk = linked(rt.alloc(), folders, links)?;
+    check_unsorted(rt, &mut disk, "/r", &FOLLOWED, lines)
+}
+
+/// The same sorted by file name under these options.
+pub(crate) fn check_linked(
+    rt: &(impl Abort + AllocGlobal),
+    folders: &[&str],
+    links: &[(&str, &str)],
+    settings: &[Setting],
+    lines: &[&str],
+) -> Result<(), Fail> {
+    let mut disk = linked(rt.alloc(), folders, links)?;
+    check_sorted(rt, &mut disk, "/r", settings, lines)
 }
 
 #[test]
 fn a_link_to_its_own_directory_is_a_loop_of_one(rt: HostRuntime) -> Result<(), Fail> {
-    let mut disk = linked(rt.alloc(), &["/r"], &[("/r/l", ".")])?;
     let lines = [
         "0 d /r",
         "1 ! File system loop found: /r/l points to an ancestor /r",
     ];
-    check_unsorted(&rt, &mut disk, "/r", &FOLLOWED, &lines)
+    check_followed(&rt, &["/r"], &[("/r/l", ".")], &lines)
 }
 
 #[test]
 fn two_links_lead_to_each_other(rt: HostRuntime) -> Result<(), Fail> {
     let links = [("/r/a/to_b", "../b"), ("/r/b/to_a", "../a")];
-    let mut disk = linked(rt.alloc(), &["/r", "/r/a", "/r/b"], &links)?;
     let lines = [
         "0 d /r",
         "1 d /r/a",
@@ -58,13 +85,12 @@ fn two_links_lead_to_each_other(rt: HostRuntime) -> Result<(), Fail> {
         "2 l>d /r/b/to_a",
         "3 ! File system loop found: /r/b/to_a/to_b points to an ancestor /r/b",
     ];
-    check_unsorted(&rt, &mut disk, "/r", &FOLLOWED, &lines)
+    check_followed(&rt, &["/r", "/r/a", "/r/b"], &links, &lines)
 }
 
 #[test]
 fn three_links_lead_in_a_ring(rt: HostRuntime) -> Result<(), Fail> {
     let links = [("/r/a/b", "../b"), ("/r/b/c", "../c"), ("/r/c/a", "../a")];
-    let mut disk = linked(rt.alloc(), &["/r", "/r/a", "/r/b", "/r/c"], &links)?;
     let lines = [
         "0 d /r",
         "1 d /r/a",
@@ -80,13 +106,12 @@ fn three_links_lead_in_a_ring(rt: HostRuntime) -> Result<(), Fail> {
         "3 l>d /r/c/a/b",
         "4 ! File system loop found: /r/c/a/b/c points to an ancestor /r/c",
     ];
-    check_unsorted(&rt, &mut disk, "/r", &FOLLOWED, &lines)
+    check_followed(&rt, &["/r", "/r/a", "/r/b", "/r/c"], &links, &lines)
 }
 
 #[test]
 fn the_nearest_ancestor_is_named(rt: HostRuntime) -> Result<(), Fail> {
     let links = [("/r/above", "/"), ("/r/self", "/r")];
-    let mut disk = linked(rt.alloc(), &["/r"], &links)?;
     let lines = [
         "0 d /r",
         "1 l>d /r/above",
@@ -95,7 +120,7 @@ fn the_nearest_ancestor_is_named(rt: HostRuntime) -> Result<(), Fail> {
         "3 ! File system loop found: /r/above/r/self points to an ancestor /r/above/r",
         "1 ! File system loop found: /r/self points to an ancestor /r",
     ];
-    check_unsorted(&rt, &mut disk, "/r", &FOLLOWED, &lines)
+    check_followed(&rt, &["/r"], &links, &lines)
 }
 
 #[test]
@@ -109,7 +134,6 @@ fn links_that_lead_nowhere_are_absent(rt: HostRuntime) -> Result<(), Fail> {
         ("/r/b", "c"),
         ("/r/c", "a"),
     ];
-    let mut disk = linked(rt.alloc(), &["/r"], &links)?;
     let lines = [
         "0 d /r",
         "1 ! IO error for operation on /r/self: no such file or directory",
@@ -120,13 +144,12 @@ fn links_that_lead_nowhere_are_absent(rt: HostRuntime) -> Result<(), Fail> {
         "1 ! IO error for operation on /r/b: no such file or directory",
         "1 ! IO error for operation on /r/c: no such file or directory",
     ];
-    check_unsorted(&rt, &mut disk, "/r", &FOLLOWED, &lines)
+    check_followed(&rt, &["/r"], &links, &lines)
 }
 
 #[test]
 fn links_stay_links_where_they_are_not_followed(rt: HostRuntime) -> Result<(), Fail> {
     let links = [("/r/a/up", ".."), ("/r/none", "nothing"), ("/r/b", "a")];
-    let mut disk = linked(rt.alloc(), &["/r", "/r/a"], &links)?;
     let lines = [
         "0 d /r",
         "1 d /r/a",
@@ -134,27 +157,32 @@ fn links_stay_links_where_they_are_not_followed(rt: HostRuntime) -> Result<(), F
         "1 l /r/b",
         "1 l /r/none",
     ];
-    check_sorted(&rt, &mut disk, "/r", &[], &lines)
+    check_linked(&rt, &["/r", "/r/a"], &links, &[], &lines)
 }
 
 #[test]
 fn errors_are_told_at_each_depth(rt: HostRuntime) -> Result<(), Fail> {
     let links = [("/r/none", "nothing"), ("/r/a/up", "..")];
-    let mut disk = linked(rt.alloc(), &["/r", "/r/a"], &links)?;
     let settings = [Setting::FollowLinks(true), Setting::MinDepth(3)];
     let lines = [
         "2 ! File system loop found: /r/a/up points to an ancestor /r",
         "1 ! IO error for operation on /r/none: no such file or directory",
     ];
-    check_sorted(&rt, &mut disk, "/r", &settings, &lines)
+    check_linked(&rt, &["/r", "/r/a"], &links, &settings, &lines)
+}
+
+/// A disk with a link `/r/away` to a folder on another device, and a link `/r/near` to one on the same.
+fn mounted(alloc: Global) -> Result<MemDisk, Fail> {
+    let links = [("/r/away", "/mount"), ("/r/near", "a")];
+    let folders = ["/r", "/r/a", "/r/a/b", "/mount", "/mount/c"];
+    let mut disk = linked(alloc, &folders, &links)?;
+    disk.set_dev("/mount", 2)?;
+    Ok(disk)
 }
 
 #[test]
 fn a_followed_link_to_another_device_stays(rt: HostRuntime) -> Result<(), Fail> {
-    let links = [("/r/away", "/mount"), ("/r/near", "a")];
-    let folders = ["/r", "/r/a", "/r/a/b", "/mount", "/mount/c"];
-    let mut disk = linked(rt.alloc(), &folders, &links)?;
-    disk.set_dev("/mount", 2)?;
+    let mut disk = mounted(rt.alloc())?;
     let lines = [
         "0 d /r",
         "1 d /r/a",

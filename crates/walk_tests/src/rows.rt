@@ -1,7 +1,7 @@
 //! Worked walks of small trees.
 
 use crate::asking::{Setting, asked, check_sorted, check_unsorted};
-use crate::links::linked;
+use crate::links::{check_followed, check_linked};
 use mem_io::{BuildFault, MemDisk};
 use std::alloc::Global;
 use std::process::Abort;
@@ -24,9 +24,24 @@ pub(crate) fn foo(alloc: Global) -> Result<MemDisk, Fail> {
     Ok(disk)
 }
 
+/// `foo` gives these lines sorted by file name under these options.
+fn check_foo(
+    rt: &(impl Abort + AllocGlobal),
+    settings: &[Setting],
+    lines: &[&str],
+) -> Result<(), Fail> {
+    let mut disk = foo(rt.alloc())?;
+    check_sorted(rt, &mut disk, "foo", settings, lines)
+}
+
+/// `foo` gives these lines in the disk's order.
+fn check_unsorted_foo(rt: &(impl Abort + AllocGlobal), lines: &[&str]) -> Result<(), Fail> {
+    let mut disk = foo(rt.alloc())?;
+    check_unsorted(rt, &mut disk, "foo", &[], lines)
+}
+
 #[test]
 fn directories_come_before_or_after_their_contents(rt: HostRuntime) -> Result<(), Fail> {
-    let mut disk = foo(rt.alloc())?;
     let before = [
         "0 d foo",
         "1 d foo/abc",
@@ -34,7 +49,7 @@ fn directories_come_before_or_after_their_contents(rt: HostRuntime) -> Result<()
         "2 f foo/abc/tuv",
         "1 f foo/def",
     ];
-    check_sorted(&rt, &mut disk, "foo", &[], &before)?;
+    check_foo(&rt, &[], &before)?;
     let after = [
         "2 f foo/abc/qrs",
         "2 f foo/abc/tuv",
@@ -42,18 +57,11 @@ fn directories_come_before_or_after_their_contents(rt: HostRuntime) -> Result<()
         "1 f foo/def",
         "0 d foo",
     ];
-    check_sorted(
-        &rt,
-        &mut disk,
-        "foo",
-        &[Setting::ContentsFirst(true)],
-        &after,
-    )
+    check_foo(&rt, &[Setting::ContentsFirst(true)], &after)
 }
 
 #[test]
 fn unsorted_walks_keep_the_order_of_the_disk(rt: HostRuntime) -> Result<(), Fail> {
-    let mut disk = foo(rt.alloc())?;
     let lines = [
         "0 d foo",
         "1 f foo/def",
@@ -61,45 +69,43 @@ fn unsorted_walks_keep_the_order_of_the_disk(rt: HostRuntime) -> Result<(), Fail
         "2 f foo/abc/tuv",
         "2 f foo/abc/qrs",
     ];
-    check_unsorted(&rt, &mut disk, "foo", &[], &lines)
+    check_unsorted_foo(&rt, &lines)
 }
 
 #[test]
 fn a_link_to_an_ancestor_is_a_loop(rt: HostRuntime) -> Result<(), Fail> {
-    let mut disk = linked(rt.alloc(), &["/r", "/r/a"], &[("/r/a/l", "/r")])?;
+    let folders = ["/r", "/r/a"];
+    let links = [("/r/a/l", "/r")];
     let lines = [
         "0 d /r",
         "1 d /r/a",
         "2 ! File system loop found: /r/a/l points to an ancestor /r",
     ];
-    let settings = [Setting::FollowLinks(true)];
-    check_sorted(&rt, &mut disk, "/r", &settings, &lines)?;
-    check_unsorted(&rt, &mut disk, "/r", &settings, &lines)
+    check_linked(&rt, &folders, &links, &[Setting::FollowLinks(true)], &lines)?;
+    check_followed(&rt, &folders, &links, &lines)
 }
 
 #[test]
 fn depths_have_bounds(rt: HostRuntime) -> Result<(), Fail> {
-    let mut disk = foo(rt.alloc())?;
     let settings = [Setting::MinDepth(1), Setting::MaxDepth(1)];
     let lines = ["1 d foo/abc", "1 f foo/def"];
-    check_sorted(&rt, &mut disk, "foo", &settings, &lines)?;
+    check_foo(&rt, &settings, &lines)?;
     let deep = [Setting::MinDepth(2)];
     let lines = ["2 f foo/abc/qrs", "2 f foo/abc/tuv"];
-    check_sorted(&rt, &mut disk, "foo", &deep, &lines)?;
-    check_sorted(&rt, &mut disk, "foo", &[Setting::MaxDepth(0)], &["0 d foo"])
+    check_foo(&rt, &deep, &lines)?;
+    check_foo(&rt, &[Setting::MaxDepth(0)], &["0 d foo"])
 }
 
 #[test]
 fn of_two_bounds_on_depths_that_cross_the_earlier_holds(rt: HostRuntime) -> Result<(), Fail> {
-    let mut disk = foo(rt.alloc())?;
     let least_first = [Setting::MinDepth(2), Setting::MaxDepth(1)];
     let deepest = ["2 f foo/abc/qrs", "2 f foo/abc/tuv"];
-    check_sorted(&rt, &mut disk, "foo", &least_first, &deepest)?;
+    check_foo(&rt, &least_first, &deepest)?;
     let greatest_first = [Setting::MaxDepth(1), Setting::MinDepth(2)];
     let middle = ["1 d foo/abc", "1 f foo/def"];
-    check_sorted(&rt, &mut disk, "foo", &greatest_first, &middle)?;
+    check_foo(&rt, &greatest_first, &middle)?;
     let beyond = [Setting::MinDepth(3)];
-    check_sorted(&rt, &mut disk, "foo", &beyond, &[])
+    check_foo(&rt, &beyond, &[])
 }
 
 /// The number of the device of what stands at a path.
@@ -109,20 +115,25 @@ fn device_at(disk: &mut MemDisk, path: &str) -> Option<u64> {
 
 /// The folder `foo/abc` is on another device than `foo`.
 fn check_devices(rt: &(impl Abort + AllocGlobal), disk: &mut MemDisk) {
-    assert_eq!(rt; device_at(disk, "foo/abc"), Some(2));
-    assert_eq!(rt; device_at(disk, "foo"), Some(1));
-    assert_eq!(rt; device_at(disk, "none"), None);
+    assert!(rt; device_at(disk, "foo/abc") == Some(2));
+    assert!(rt; device_at(disk, "foo") == Some(1));
+    assert!(rt; device_at(disk, "none") == None);
+}
+
+/// Once `foo/abc` is on another device, a walk on one device gives it without its files.
+fn check_foreign(rt: &(impl Abort + AllocGlobal), disk: &mut MemDisk) -> Result<(), Fail> {
+    disk.set_dev("foo/abc", 2)?;
+    let lines = ["0 d foo", "1 d foo/abc", "1 f foo/def"];
+    let settings = [Setting::SameFileSystem(true)];
+    check_sorted(rt, disk, "foo", &settings, &lines)?;
+    check_devices(rt, disk);
+    Ok(())
 }
 
 #[test]
 fn directories_on_other_devices_are_not_entered(rt: HostRuntime) -> Result<(), Fail> {
     let mut disk = foo(rt.alloc())?;
-    disk.set_dev("foo/abc", 2)?;
-    let lines = ["0 d foo", "1 d foo/abc", "1 f foo/def"];
-    let settings = [Setting::SameFileSystem(true)];
-    check_sorted(&rt, &mut disk, "foo", &settings, &lines)?;
-    check_devices(&rt, &mut disk);
-    Ok(())
+    check_foreign(&rt, &mut disk)
 }
 
 /// How many entries a walk of `foo` has by a cap, or the kind of its error.

@@ -79,18 +79,29 @@ fn random_path(
     format!(in alloc; "{folder}/{first}{number}")
 }
 
-/// A tree below `/r`, with links, on two devices, and a link `/l` to `/r`.
-pub(crate) fn random_tree(alloc: Global, random: &mut Random) -> Result<MemDisk, Fail> {
-    let mut disk = MemDisk::new(alloc);
-    disk.add_dir("/r")?;
-    disk.add_link("/l", "r")?;
+/// Adds the nodes below `/r`.
+fn add_nodes(alloc: Global, random: &mut Random, disk: &mut MemDisk) -> Result<(), Fail> {
     let mut folders = Vec::new(alloc);
     for number in 0..NODES {
         let path = random_path(alloc, random, &folders, number)?;
-        if add(random, &mut disk, path.as_str(), &folders)? {
+        if add(random, disk, path.as_str(), &folders)? {
             folders.push(path)?;
         }
     }
+    Ok(())
+}
+
+/// Adds a tree below `/r`, and a link `/l` to `/r`.
+fn add_tree(alloc: Global, random: &mut Random, disk: &mut MemDisk) -> Result<(), Fail> {
+    disk.add_dir("/r")?;
+    disk.add_link("/l", "r")?;
+    add_nodes(alloc, random, disk)
+}
+
+/// A tree below `/r`, with links, on two devices, and a link `/l` to `/r`.
+pub(crate) fn random_tree(alloc: Global, random: &mut Random) -> Result<MemDisk, Fail> {
+    let mut disk = MemDisk::new(alloc);
+    add_tree(alloc, random, &mut disk)?;
     Ok(disk)
 }
 
