@@ -58,6 +58,7 @@ fn unset_all(groups: &mut Vec<Option<(usize, usize)>>, count: usize) -> Result<(
     ensures { OnOk result (groups.new.items ≡ replicate count None) }
 {
     groups.clear();
+    // one by one: there are few, and filling them in one go takes longer to begin
     for _group in 0..count {
         groups.push(None)?;
     }
