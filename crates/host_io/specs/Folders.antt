@@ -3,11 +3,11 @@ use Rattle.std.specs.Prelude.{◌≡◌, ℕ, List, None}
 use Rattle.std.specs.Fs.{metadata_mode}
 use Rattle.std.specs.declared.fs.Metadata.{Metadata}
 use Rattle.host_io.specs.HostDisk.{IsOfKind}
-use Rattle.host_io.specs.KnownFile.{status_at}
+use Rattle.host_known.specs.KnownFile.{status_at}
 use Rattle.host_io.specs.Told.{told_count}
 use Rattle.host_io.specs.declared.folders.Folders.{Folders}
-use Rattle.host_io.specs.declared.known_file.FileStatus.{FileStatus}
-use Rattle.host_io.specs.declared.known_file.KnownFile.{KnownFile}
+use Rattle.host_known.specs.declared.known_file.FileStatus.{FileStatus}
+use Rattle.host_known.specs.declared.known_file.KnownFile.{KnownFile}
 use Rattle.host_io.specs.declared.told.Told.{Told}
 
 -- the kind and the mode are those that the host tells

@@ -1,7 +1,7 @@
 -- What a disk of the host's answers without asking the host.
 use Rattle.std.specs.Prelude.{◌≡◌, ℕ, List, None}
 use Rattle.host_io.specs.Folders.{TellsNothing, AsksForAll}
-use Rattle.host_io.specs.KnownFile.{status_at}
+use Rattle.host_known.specs.KnownFile.{status_at}
 use Rattle.host_io.specs.declared.disk.HostDisk.{HostDisk}
 
 -- each question is asked of the host

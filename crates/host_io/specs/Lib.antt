@@ -2,7 +2,5 @@ pub mod HostStreams
 pub mod HostDisk
 pub mod HostDiskState
 pub mod Told
-pub mod KnownFolders
-pub mod KnownFile
 pub mod Folders
 pub mod HostKnown

@@ -10,9 +10,9 @@ ghost use Rattle.open_lists.specs.OpenLists.{told_list, KeepsTold};
 
 use crate::faults::FaultCounter;
 use crate::folders::{Folders, Place, ident_of, same_node, status_of};
-use crate::known_file::FileStatus;
 use crate::list::{HostList, ListFault, meta_of};
 use crate::new_file::{NewFile, create};
+use host_known::FileStatus;
 use open_lists::{OpenList, OpenLists};
 use sd_io::{Disk, DiskFault, Ident, ListId, Meta, RawEntry, Text};
 use std::alloc::Global;

@@ -4,8 +4,6 @@
 mod disk;
 mod faults;
 mod folders;
-mod known_file;
-mod known_folders;
 mod list;
 mod new_file;
 mod stream;

@@ -1,10 +1,10 @@
 -- What isn't known without asking the host isn't known afterwards, where the answers stay.
 use Rattle.std.proofs.Common.{◌≡◌, ℕ, List, None, ◌∙◌, ap}
 use Rattle.host_io.specs.Folders.{TellsNothing, AsksForAll, SameAnswers}
-use Rattle.host_io.specs.KnownFile.{status_at}
+use Rattle.host_known.specs.KnownFile.{status_at}
 use Rattle.host_io.specs.Told.{told_count}
 use Rattle.host_io.specs.declared.folders.Folders.{Folders}
-use Rattle.host_io.specs.declared.known_file.KnownFile.{KnownFile}
+use Rattle.host_known.specs.declared.known_file.KnownFile.{KnownFile}
 
 module _ {R File Dir : Type 0} (old new : Folders R File Dir) (same : SameAnswers old new) where
   pub still_untold : TellsNothing old.told → TellsNothing new.told

@@ -32,7 +32,7 @@ struct KnownPath {
 }
 
 impl KnownFile {
-    ghost use Rattle.host_io.specs.KnownFile.{status_at};
+    ghost use Rattle.host_known.specs.KnownFile.{status_at};
 
     /// Nothing is known.
     pub fn new() -> KnownFile

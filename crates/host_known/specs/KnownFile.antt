@@ -1,9 +1,9 @@
 -- What is known of the file that was resolved last.
 use Rattle.std.specs.Prelude.{ℕ, if◌then◌else◌, List, Option, Some, None, string_bytes}
 use Rattle.std.specs.Str.{bytes_eq}
-use Rattle.host_io.specs.declared.known_file.FileStatus.{FileStatus}
-use Rattle.host_io.specs.declared.known_file.KnownPath.{KnownPath}
-use Rattle.host_io.specs.declared.known_file.KnownFile.{KnownFile}
+use Rattle.host_known.specs.declared.known_file.FileStatus.{FileStatus}
+use Rattle.host_known.specs.declared.known_file.KnownPath.{KnownPath}
+use Rattle.host_known.specs.declared.known_file.KnownFile.{KnownFile}
 
 -- what is known of the path, if it is this one
 abbrev pub status_of : Option KnownPath → List ℕ → Option FileStatus

@@ -1,0 +1,2 @@
+pub mod KnownFolders
+pub mod KnownFile
