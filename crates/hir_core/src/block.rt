@@ -107,7 +107,8 @@ fn advance(
 }
 
 /// The index of the group that ends at a spot, if a match ends behind it.
-fn last_end(spots: &[Spot], here: &Spot) -> Option<usize>
+#[inline(always)]
+pub fn last_end(spots: &[Spot], here: &Spot) -> Option<usize>
     ensures { IfSome result (λ index. (next : ℕ) × (here.now ≡ spot.Close index next) × (spot_at spots.now next ≡ spot.Match)) }
 {
     let Spot::Close { index, next } = here else {

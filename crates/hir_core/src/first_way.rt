@@ -13,7 +13,7 @@ ghost use Rattle.hir_core.specs.FirstWays.{GoesFirst, GoesRound};
 ghost use Rattle.hir_core.specs.Pass.{counted, first_of, stop_gives};
 ghost use Rattle.hir_core.specs.Trails.{placed_at, stops_of, way_of};
 
-use crate::block::taken_size;
+use crate::block::{last_end, taken_size};
 use crate::closure::{is_counted, lead};
 use crate::trail::Trail;
 use hir_program::{Loops, Row, Scan, Spot};
@@ -288,13 +288,6 @@ fn turn(
     }
 }
 
-/// Whether a match ends at a spot.
-fn is_match(spots: &[Spot], place: usize) -> bool
-    ensures { result ≡ true → spot_at spots.now place ≡ spot.Match }
-{
-    matches!(spots.get(place), Some(Spot::Match))
-}
-
 /// Goes the first way from a spot, and says how many counted visits it made if it came to a match, whose way the trail then has. Refuses for
 /// want of memory alone.
 #[inline(always)]
@@ -317,7 +310,16 @@ fn walk(
         visits: 0,
     };
     for _turn in 0..TURNS {
-        if is_match(spots, now.spot) {
+        let Some(here) = spots.get(now.spot) else {
+            return Ok(None);
+        };
+        if let Spot::Match = here {
+            return Ok(Some(now.visits));
+        }
+        if let Some(index) = last_end(spots, here) {
+            // nothing is come back to, and with no alternative nothing is noted for that
+            trail.clear();
+            trail.close(index)?;
             return Ok(Some(now.visits));
         }
         let Some(next) = turn(spots, filter, text, now, trail)? else {

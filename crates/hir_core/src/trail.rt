@@ -1,6 +1,6 @@
 //! The thread of a search that is followed, and what else is to be tried at its place.
 
-ghost use Rattle.std.specs.Prelude.{◌≡◌, ◌+◌, ◌^◌, ◌<◌, ℕ, ◌∷◌, [], IfOk, OnOk, None, replicate, slice_index_or, slice_set};
+ghost use Rattle.std.specs.Prelude.{◌≡◌, ◌+◌, ◌^◌, ◌<◌, ℕ, ◌∷◌, [], IfOk, OnOk, None, length, replicate, slice_index_or, slice_set};
 ghost use Rattle.hir_program.specs.Program.{opened, closed, way};
 ghost use Rattle.hir_tree.specs.Runs as runs;
 ghost use Rattle.hir_core.specs.Trails.{way_of, placed_at, stops_of, stops_on, undone, ComesBack};
@@ -53,15 +53,26 @@ fn set_group(groups: &mut Vec<Option<(usize, usize)>>, index: usize, group: Opti
     }
 }
 
+/// Unsets groups.
+fn unset(groups: &mut Vec<Option<(usize, usize)>>)
+    ensures { groups.new.items ≡ replicate (length groups.old.items) None }
+{
+    for group in groups.iter_mut() {
+        *group = None;
+    }
+}
+
 /// Makes so many groups of these, all unset. Refuses for want of memory alone.
 fn unset_all(groups: &mut Vec<Option<(usize, usize)>>, count: usize) -> Result<(), NoMemory>
     ensures { OnOk result (groups.new.items ≡ replicate count None) }
 {
-    groups.clear();
-    // one by one: there are few, and filling them in one go takes longer to begin
-    for _group in 0..count {
-        groups.push(None)?;
+    // there are as many already for most threads, and to fill them in anew takes longer to begin
+    if groups.len() == count {
+        unset(groups);
+        return Ok(());
     }
+    groups.clear();
+    groups.resize(count, None)?;
     Ok(())
 }
 

@@ -247,6 +247,7 @@ impl Scan {
     }
 
     /// Whether a thread that is at a spot and a place may come to a match.
+    #[inline(always)]
     pub fn may_go_on(&self, spot: usize, text: &[u8], place: usize) -> bool
         requires { place ≤ length text.now }
         ensures { result ≡ false → (spots : List Spot) → IsFilterOf spots self.now → IsDead text.now spots place spot }
@@ -259,6 +260,7 @@ impl Scan {
 
     /// Whether a spot that takes a byte or a character takes this one; None where it is beyond ASCII, or the program has more spots
     /// than are searched block by block.
+    #[inline(always)]
     pub fn takes_ascii(&self, spot: usize, byte: u8) -> Option<bool>
         ensures { IfSome result (λ takes. (byte < 128) × ((spots : List Spot) → IsFilterOf spots self.now
             → is_taker (spot_at spots spot) ≡ true → takes ≡ takes_byte (spot_at spots spot) byte)) }
@@ -278,6 +280,7 @@ impl Scan {
     }
 
     /// The next start of a line, from a place on, where a run may begin.
+    #[inline(always)]
     fn next_line(&self, text: &[u8], at: usize) -> Option<Candidate>
         requires at { at ≤ length text.now }
         requires look { self.now.first_look ≡ Some look.StartLF }

@@ -40,6 +40,7 @@ impl Starts {
     }
 
     /// Passes over places that have no match, as a filter tells.
+    #[inline(always)]
     pub fn pass_over(&mut self, filter: &Scan, text: &[u8])
         requires { self.old.place ≤ length text.now + 1 }
         ensures none { (spots : List Spot) → IsFilterOf spots filter.now → NoRun text.now spots self.old.place self.new.place }

@@ -211,6 +211,13 @@ module _ (text : List ℕ) (spots : List Spot) (falls : ClosesFall spots) where
         cases spot.Fail k onto high end plain = absurd (nothing_else _ _ onto)
         cases spot.Match k onto high end plain = absurd (nothing_else _ _ onto)
 
+  -- at the end of a group behind which a match ends
+  pub first-end : (thread : Option Run) (bar q : ℕ) (w : Way) → HasFirst text spots thread bar (q, w) → (i f : ℕ) → spot_at spots q ≡ spot.Close i f
+      → spot_at spots f ≡ spot.Match → thread ≡ Some (forget (closed i w).run)
+  first-end thread bar q w h i f k end =
+      first-match thread bar f (closed i w)
+      (first-lead thread bar q w h (spot.Close i f) k f (closed i w) [] refl (inl refl) bar (λ close. refl) (λ plain. absurd (true≢false plain))) end
+
   -- a loop goes round by a byte
   first-round : (thread : Option Run) (bar q : ℕ) (ways : Ways) (w : Way) → AreWays spots q ways → bar ≤ q → w.run.at < length text
       → IsRunOver spots ways (slice_index text w.run.at) → HasFirst text spots thread bar (q, w) → HasFirst text spots thread bar (q, placed_at (w.run.at + 1) w)
