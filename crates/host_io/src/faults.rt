@@ -5,7 +5,7 @@ ghost use Rattle.sd_io.specs.Count.{HasRisen};
 ghost use Rattle.host_io.specs.HostDisk.{IsCounted, Tells};
 ghost use Rattle.sd_io.specs.Calls.{count_after};
 
-use crate::known_file::FileStatus;
+use host_known::FileStatus;
 use sd_io::{DiskFault, Kind};
 use std::io;
 use std::io::ErrorKind;
