@@ -12,8 +12,6 @@ mod laws;
 mod matched;
 mod number;
 mod options;
-#[cfg(test)]
-mod tests;
 
 pub use examples::{
     applied_plans_are_as_in_the_examples, ignore_rules_are_as_in_the_examples,

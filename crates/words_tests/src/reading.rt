@@ -1,7 +1,7 @@
 //! What is read from command lines, and what is shown where nothing is.
 
-use crate::{Options, OptionsFault};
 use sd_base::{Text, Words};
+use sd_words::{Options, OptionsFault};
 use std::alloc::Global;
 use std::process::Abort;
 use std::test::Fail;
