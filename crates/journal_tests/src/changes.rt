@@ -1,5 +1,7 @@
 //! A change of two files that is cut off at each call, crashes and is recovered.
 
+use crate::disks::{Left, Node, Nodes, are_left, filled};
+use crate::recoveries::answer_of;
 use crate::replacers::Text as Becomes;
 use journal::{JournalFault, change_files, recover};
 use mem_io::MemDisk;
@@ -8,17 +10,7 @@ use std::alloc::Global;
 use std::process::Abort;
 use std::test::Fail;
 
-/// A disk with `/t/a/x` and `/t/y`, both "one".
-pub(crate) fn two_files(alloc: Global) -> Result<MemDisk, Fail> {
-    let mut disk = MemDisk::new(alloc);
-    disk.add_dir("/t")?;
-    disk.add_dir("/t/a")?;
-    disk.add_file("/t/a/x", b"one", 0o640)?;
-    disk.add_file("/t/y", b"one", 0o640)?;
-    Ok(disk)
-}
-
-/// The paths of both.
+/// The paths of both files.
 fn both(alloc: Global) -> Result<Vec<Text>, Fail> {
     let mut paths = Vec::new(alloc);
     paths.push(Text::new(alloc, "/t/a/x")?)?;
@@ -26,88 +18,102 @@ fn both(alloc: Global) -> Result<Vec<Text>, Fail> {
     Ok(paths)
 }
 
-/// Makes the files "1".
+/// Makes the files "1". Callers are told nothing of it, so that they are quickly proved.
 fn change(alloc: Global, disk: &mut MemDisk, paths: &[Text]) -> Result<(), JournalFault> {
     let replacer = Becomes { alloc, text: b"1" };
     change_files(alloc, disk, "/t", paths, &replacer)
 }
 
-/// Whether the file at a path holds these bytes.
-pub(crate) fn holds(alloc: Global, disk: &MemDisk, path: &str, bytes: &[u8]) -> Result<bool, Fail> {
-    match disk.read_all(alloc, path)? {
-        None => Ok(false),
-        Some(held) => Ok(held.as_slice() == bytes),
+/// Makes the files "1", and gives the text of the fault; none where they were made so.
+fn changed(alloc: Global, disk: &mut MemDisk) -> Result<String, Fail> {
+    let paths = both(alloc)?;
+    match change(alloc, disk, &paths) {
+        Ok(()) => Ok(String::new(alloc)),
+        Err(fault) => Ok(format!(in alloc; "{fault}")?),
     }
 }
 
+const OLD: Left = &[("/t/a/x", Some(b"one")), ("/t/y", Some(b"one"))];
+
+const NEW: Left = &[("/t/a/x", Some(b"1")), ("/t/y", Some(b"1"))];
+
+/// Both new, and nothing else.
+const NEW_ALONE: Left = &[
+    ("/t/a/x", Some(b"1")),
+    ("/t/y", Some(b"1")),
+    ("/t/.sd-journal", None),
+    ("/t/.sd-0000.tmp", None),
+    ("/t/a/.sd-0000.tmp", None),
+];
+
 /// Whether both files are old, or both new, each with its mode.
 fn is_whole(alloc: Global, disk: &MemDisk) -> Result<bool, Fail> {
-    let modes = disk.mode_at("/t/a/x") == Some(0o640) && disk.mode_at("/t/y") == Some(0o640);
-    let old = holds(alloc, disk, "/t/a/x", b"one")? && holds(alloc, disk, "/t/y", b"one")?;
-    let new = holds(alloc, disk, "/t/a/x", b"1")? && holds(alloc, disk, "/t/y", b"1")?;
-    Ok(modes && (old || new))
+    Ok(are_left(alloc, disk, OLD)? || are_left(alloc, disk, NEW)?)
 }
 
-/// How many counted calls the change makes.
-fn calls_of(alloc: Global) -> Result<u64, Fail> {
-    let paths = both(alloc)?;
-    let mut disk = two_files(alloc)?;
-    let _ended = change(alloc, &mut disk, &paths);
-    Ok(disk.calls())
+/// The fault of the change, whether both files are new and nothing else is left, and how many counted calls it makes.
+fn made(alloc: Global) -> Result<(String, bool, u64), Fail> {
+    let mut disk = filled(alloc, &[])?;
+    let fault = changed(alloc, &mut disk)?;
+    let is_alone = are_left(alloc, &disk, NEW_ALONE)?;
+    Ok((fault, is_alone, disk.calls()))
 }
 
 #[test]
 fn a_change_leaves_new_files_and_nothing_else(rt: HostRuntime) -> Result<(), Fail> {
-    let alloc = rt.alloc();
-    let paths = both(alloc)?;
-    let mut disk = two_files(alloc)?;
-    assert!(rt; change(alloc, &mut disk, &paths).is_ok());
-    assert!(rt; holds(alloc, &disk, "/t/a/x", b"1")? && holds(alloc, &disk, "/t/y", b"1")?);
-    assert!(rt; disk.read_all(alloc, "/t/.sd-journal")?.is_none());
-    assert!(rt; disk.read_all(alloc, "/t/.sd-0000.tmp")?.is_none());
-    assert!(rt; disk.read_all(alloc, "/t/a/.sd-0000.tmp")?.is_none());
+    let (fault, is_alone, _) = made(rt.alloc())?;
+    assert_eq!(rt; fault.as_str(), "");
+    assert!(rt; is_alone);
     Ok(())
 }
 
 /// The disk on which the change was cut off at a call.
 fn cut_off(alloc: Global, call: u64) -> Result<MemDisk, Fail> {
-    let paths = both(alloc)?;
-    let mut disk = two_files(alloc)?;
+    let mut disk = filled(alloc, &[])?;
     disk.stop_at(call);
-    let _ended = change(alloc, &mut disk, &paths);
+    let _fault = changed(alloc, &mut disk)?;
     Ok(disk)
 }
 
 /// Whether a recovery comes to its end, and leaves a whole state.
 fn is_recovered(alloc: Global, image: &mut MemDisk) -> Result<bool, Fail> {
-    let recovered = recover(alloc, image, "/t");
-    Ok(recovered.is_ok() && is_whole(alloc, image)?)
+    let is_ended = recover(alloc, image, "/t").is_ok();
+    Ok(is_ended && is_whole(alloc, image)?)
+}
+
+/// Whether the image that a crash leaves by a choice is recovered.
+fn is_image_recovered(alloc: Global, disk: &MemDisk, choice: u64) -> Result<bool, Fail> {
+    let mut image = disk.crash(alloc, choice)?;
+    is_recovered(alloc, &mut image)
 }
 
 /// Whether each of so many images that a crash leaves is recovered.
 fn are_recovered(alloc: Global, disk: &MemDisk, choices: u64) -> Result<bool, Fail> {
     for choice in 0..choices {
-        let mut image = disk.crash(alloc, choice)?;
-        if !is_recovered(alloc, &mut image)? {
+        if !is_image_recovered(alloc, disk, choice)? {
             return Ok(false);
         }
     }
     Ok(true)
 }
 
+/// The image that a crash leaves by a choice, after a recovery that is cut off at a call.
+fn recovered_to(alloc: Global, disk: &MemDisk, choice: u64, stop: u64) -> Result<MemDisk, Fail> {
+    let mut image = disk.crash(alloc, choice)?;
+    image.stop_at(stop);
+    let _answer = answer_of(alloc, &mut image, "/t")?;
+    Ok(image)
+}
+
 /// How many counted calls a recovery of an image makes.
 fn recovery_calls(alloc: Global, disk: &MemDisk, choice: u64) -> Result<u64, Fail> {
-    let mut image = disk.crash(alloc, choice)?;
-    let _ended = recover(alloc, &mut image, "/t");
-    Ok(image.calls())
+    Ok(recovered_to(alloc, disk, choice, u64::MAX)?.calls())
 }
 
 /// Whether all are recovered where the recovery of an image is itself cut off at any call.
 fn is_recovered_again(alloc: Global, disk: &MemDisk, choice: u64) -> Result<bool, Fail> {
     for call in 1..=recovery_calls(alloc, disk, choice)? {
-        let mut image = disk.crash(alloc, choice)?;
-        image.stop_at(call);
-        let _ended = recover(alloc, &mut image, "/t");
+        let image = recovered_to(alloc, disk, choice, call)?;
         if !are_recovered(alloc, &image, 8)? {
             return Ok(false);
         }
@@ -115,45 +121,52 @@ fn is_recovered_again(alloc: Global, disk: &MemDisk, choice: u64) -> Result<bool
     Ok(true)
 }
 
-#[test]
-fn each_stop_and_crash_is_recovered(rt: HostRuntime) -> Result<(), Fail> {
-    let alloc = rt.alloc();
-    for call in 1..=calls_of(alloc)? {
-        let disk = cut_off(alloc, call)?;
-        assert!(rt; are_recovered(alloc, &disk, 256)?, "cut off at call {call}");
+/// Whether images of a disk on which the change was cut off at a call are recovered: so many of them at once, and those of two choices,
+/// with nothing on the medium and with another outcome at each place, where the recovery is cut off too.
+fn is_each_recovered(alloc: Global, call: u64, again: bool) -> Result<bool, Fail> {
+    let disk = cut_off(alloc, call)?;
+    if again {
+        Ok(is_recovered_again(alloc, &disk, 0)? && is_recovered_again(alloc, &disk, u64::MAX)?)
+    } else {
+        are_recovered(alloc, &disk, 256)
+    }
+}
+
+/// Whatever the call that the change is cut off at, it is recovered.
+fn check_recovered(rt: &(impl Abort + AllocGlobal), again: bool) -> Result<(), Fail> {
+    let (_, _, calls) = made(rt.alloc())?;
+    for call in 1..=calls {
+        let is_recovered = is_each_recovered(rt.alloc(), call, again)?;
+        assert!(rt; is_recovered, "cut off at call {call}");
     }
     Ok(())
+}
+
+#[test]
+fn each_stop_and_crash_is_recovered(rt: HostRuntime) -> Result<(), Fail> {
+    check_recovered(&rt, false)
 }
 
 #[test]
 fn a_recovery_that_is_cut_off_is_recovered(rt: HostRuntime) -> Result<(), Fail> {
-    let alloc = rt.alloc();
-    for call in 1..=calls_of(alloc)? {
-        let disk = cut_off(alloc, call)?;
-        assert!(rt;
-            is_recovered_again(alloc, &disk, 0)?,
-            "cut off at call {call}, nothing on the medium"
-        );
-        assert!(rt;
-            is_recovered_again(alloc, &disk, u64::MAX)?,
-            "cut off at call {call}"
-        );
-    }
-    Ok(())
+    check_recovered(&rt, true)
+}
+
+/// Something else in the journal's place.
+const TAKEN: Nodes = &[("/t/.sd-journal", Node::File(b"x"))];
+
+/// What a change and a recovery answer where the journal's place is taken.
+fn answers_pending(alloc: Global) -> Result<(String, String), Fail> {
+    let mut disk = filled(alloc, TAKEN)?;
+    let change = changed(alloc, &mut disk)?;
+    let recovery = answer_of(alloc, &mut disk, "/t")?;
+    Ok((change, recovery))
 }
 
 #[test]
 fn what_is_no_journal_is_refused(rt: HostRuntime) -> Result<(), Fail> {
-    let alloc = rt.alloc();
-    let paths = both(alloc)?;
-    let mut disk = two_files(alloc)?;
-    disk.add_file("/t/.sd-journal", b"x", 0o640)?;
-    assert!(rt; matches!(change(alloc, &mut disk, &paths), Err(JournalFault::Pending)));
-    assert!(rt;
-        matches!(
-            recover(alloc, &mut disk, "/t"),
-            Err(JournalFault::BadJournal)
-        )
-    );
+    let (change, recovery) = answers_pending(rt.alloc())?;
+    assert_eq!(rt; change.as_str(), "a journal is pending");
+    assert_eq!(rt; recovery.as_str(), "not a journal");
     Ok(())
 }

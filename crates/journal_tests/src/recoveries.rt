@@ -1,6 +1,6 @@
 //! What stands in a root, and what a recovery of it answers.
 
-use crate::changes::{holds, two_files};
+use crate::disks::{Left, Node, Nodes, are_left, filled};
 use journal::recover;
 use mem_io::MemDisk;
 use std::alloc::Global;
@@ -8,183 +8,289 @@ use std::process::Abort;
 use std::test::Fail;
 
 /// The journal of a change that makes both files "1", by the digest that `sha256sum` gives.
-const JOURNAL: &[u8] =
-    b"sd-journal 1\n6b86b273ff34fce19d6b804eff5a3f5747ada4eaa22f1d49c01e52ddb7875b4b 0000 /t/a/x\n6b86b273ff34fce19d6b804eff5a3f5747ada4eaa22f1d49c01e52ddb7875b4b 0000 /t/y\nend 2\n";
+const JOURNAL: Node = Node::File(
+    b"sd-journal 1\n6b86b273ff34fce19d6b804eff5a3f5747ada4eaa22f1d49c01e52ddb7875b4b 0000 /t/a/x\n6b86b273ff34fce19d6b804eff5a3f5747ada4eaa22f1d49c01e52ddb7875b4b 0000 /t/y\nend 2\n",
+);
 
-/// The disk of both files, with the stage of the first.
-fn first_stage(alloc: Global) -> Result<MemDisk, Fail> {
-    let mut disk = two_files(alloc)?;
-    disk.add_file("/t/a/.sd-0000.tmp", b"1", 0o640)?;
-    Ok(disk)
+const NO_END: &[u8] =
+    b"sd-journal 1\n6b86b273ff34fce19d6b804eff5a3f5747ada4eaa22f1d49c01e52ddb7875b4b 0000 /t/a/x\n6b86b273ff34fce19d6b804eff5a3f5747ada4eaa22f1d49c01e52ddb7875b4b 0000 /t/y\n";
+
+const NO_LAST_NEWLINE: &[u8] =
+    b"sd-journal 1\n6b86b273ff34fce19d6b804eff5a3f5747ada4eaa22f1d49c01e52ddb7875b4b 0000 /t/a/x\n6b86b273ff34fce19d6b804eff5a3f5747ada4eaa22f1d49c01e52ddb7875b4b 0000 /t/y\nend 2";
+
+const JOURNAL_AT: &str = "/t/.sd-journal";
+
+const FIRST_STAGE_AT: &str = "/t/a/.sd-0000.tmp";
+
+const SECOND_STAGE_AT: &str = "/t/.sd-0000.tmp";
+
+/// A stage of new bytes.
+const STAGE: Node = Node::File(b"1");
+
+/// Both files new, with no journal and no stage.
+const DONE: Left = &[
+    ("/t/a/x", Some(b"1")),
+    ("/t/y", Some(b"1")),
+    (JOURNAL_AT, None),
+    (FIRST_STAGE_AT, None),
+    (SECOND_STAGE_AT, None),
+];
+
+/// Both files and the stage of the first as they were.
+const KEPT: Left = &[
+    ("/t/a/x", Some(b"one")),
+    ("/t/y", Some(b"one")),
+    (FIRST_STAGE_AT, Some(b"1")),
+];
+
+/// A name, what stands beside both files, the root, what a recovery answers, and which files are left.
+type Case = (&'static str, Nodes, &'static str, &'static str, Left);
+
+const CASES: &[Case] = &[
+    (
+        "a change that stands is carried out",
+        &[
+            (FIRST_STAGE_AT, STAGE),
+            (SECOND_STAGE_AT, STAGE),
+            (JOURNAL_AT, JOURNAL),
+        ],
+        "/t",
+        "recovered 2",
+        DONE,
+    ),
+    (
+        "a link to a root is followed",
+        &[
+            (FIRST_STAGE_AT, STAGE),
+            (SECOND_STAGE_AT, STAGE),
+            (JOURNAL_AT, JOURNAL),
+            ("/root", Node::Link("/t")),
+        ],
+        "/root",
+        "recovered 2",
+        DONE,
+    ),
+    (
+        "a journal without lines is removed",
+        &[
+            (FIRST_STAGE_AT, STAGE),
+            (SECOND_STAGE_AT, STAGE),
+            (JOURNAL_AT, Node::File(b"sd-journal 1\nend 0\n")),
+        ],
+        "/t",
+        "recovered 0",
+        &[
+            ("/t/a/x", Some(b"one")),
+            ("/t/y", Some(b"one")),
+            (JOURNAL_AT, None),
+        ],
+    ),
+    (
+        "a root without a journal has nothing to recover",
+        &[(FIRST_STAGE_AT, STAGE), (SECOND_STAGE_AT, STAGE)],
+        "/t",
+        "recovered 0",
+        KEPT,
+    ),
+    (
+        "a file has nothing to recover",
+        &[(FIRST_STAGE_AT, STAGE), (SECOND_STAGE_AT, STAGE)],
+        "/t/y",
+        "recovered 0",
+        KEPT,
+    ),
+    (
+        "nothing stands at the root",
+        &[(FIRST_STAGE_AT, STAGE), (SECOND_STAGE_AT, STAGE)],
+        "/none",
+        "the root leads to nothing",
+        KEPT,
+    ),
+    (
+        "a root is a link to nothing",
+        &[
+            (FIRST_STAGE_AT, STAGE),
+            (SECOND_STAGE_AT, STAGE),
+            ("/lost", Node::Link("/nothing")),
+        ],
+        "/lost",
+        "the root leads to nothing",
+        KEPT,
+    ),
+    (
+        "no text is no journal",
+        &[
+            (FIRST_STAGE_AT, STAGE),
+            (SECOND_STAGE_AT, STAGE),
+            (JOURNAL_AT, Node::File(b"")),
+        ],
+        "/t",
+        "not a journal",
+        &[
+            ("/t/a/x", Some(b"one")),
+            ("/t/y", Some(b"one")),
+            (FIRST_STAGE_AT, Some(b"1")),
+            (JOURNAL_AT, Some(b"")),
+        ],
+    ),
+    (
+        "no journal: another version",
+        &[
+            (FIRST_STAGE_AT, STAGE),
+            (SECOND_STAGE_AT, STAGE),
+            (JOURNAL_AT, Node::File(b"sd-journal 2\nend 0\n")),
+        ],
+        "/t",
+        "not a journal",
+        &[
+            ("/t/a/x", Some(b"one")),
+            ("/t/y", Some(b"one")),
+            (FIRST_STAGE_AT, Some(b"1")),
+            (JOURNAL_AT, Some(b"sd-journal 2\nend 0\n")),
+        ],
+    ),
+    (
+        "no journal: another count",
+        &[
+            (FIRST_STAGE_AT, STAGE),
+            (SECOND_STAGE_AT, STAGE),
+            (JOURNAL_AT, Node::File(b"sd-journal 1\nend 1\n")),
+        ],
+        "/t",
+        "not a journal",
+        &[
+            ("/t/a/x", Some(b"one")),
+            ("/t/y", Some(b"one")),
+            (FIRST_STAGE_AT, Some(b"1")),
+            (JOURNAL_AT, Some(b"sd-journal 1\nend 1\n")),
+        ],
+    ),
+    (
+        "no journal: no end",
+        &[
+            (FIRST_STAGE_AT, STAGE),
+            (SECOND_STAGE_AT, STAGE),
+            (JOURNAL_AT, Node::File(NO_END)),
+        ],
+        "/t",
+        "not a journal",
+        &[
+            ("/t/a/x", Some(b"one")),
+            ("/t/y", Some(b"one")),
+            (FIRST_STAGE_AT, Some(b"1")),
+            (JOURNAL_AT, Some(NO_END)),
+        ],
+    ),
+    (
+        "no journal: no last newline",
+        &[
+            (FIRST_STAGE_AT, STAGE),
+            (SECOND_STAGE_AT, STAGE),
+            (JOURNAL_AT, Node::File(NO_LAST_NEWLINE)),
+        ],
+        "/t",
+        "not a journal",
+        &[
+            ("/t/a/x", Some(b"one")),
+            ("/t/y", Some(b"one")),
+            (FIRST_STAGE_AT, Some(b"1")),
+            (JOURNAL_AT, Some(NO_LAST_NEWLINE)),
+        ],
+    ),
+    (
+        "a folder is no journal",
+        &[
+            (FIRST_STAGE_AT, STAGE),
+            (SECOND_STAGE_AT, STAGE),
+            (JOURNAL_AT, Node::Folder),
+        ],
+        "/t",
+        "not a journal",
+        KEPT,
+    ),
+    (
+        "a link to a journal is no journal",
+        &[
+            (FIRST_STAGE_AT, STAGE),
+            (SECOND_STAGE_AT, STAGE),
+            ("/t/journal", JOURNAL),
+            (JOURNAL_AT, Node::Link("journal")),
+        ],
+        "/t",
+        "not a journal",
+        KEPT,
+    ),
+    (
+        "a pipe is no journal",
+        &[
+            (FIRST_STAGE_AT, STAGE),
+            (SECOND_STAGE_AT, STAGE),
+            (JOURNAL_AT, Node::Other),
+        ],
+        "/t",
+        "not a journal",
+        KEPT,
+    ),
+    (
+        "a stage that is missing is told",
+        &[(FIRST_STAGE_AT, STAGE), (JOURNAL_AT, JOURNAL)],
+        "/t",
+        "/t/y: no stage",
+        KEPT,
+    ),
+    (
+        "a link to the bytes of a stage is none",
+        &[
+            (FIRST_STAGE_AT, STAGE),
+            (JOURNAL_AT, JOURNAL),
+            (SECOND_STAGE_AT, Node::Link("a/.sd-0000.tmp")),
+        ],
+        "/t",
+        "/t/y: no stage",
+        KEPT,
+    ),
+    (
+        "the first of two stages that are missing is told",
+        &[(JOURNAL_AT, JOURNAL)],
+        "/t",
+        "/t/a/x: no stage",
+        &[],
+    ),
+    (
+        "a stage that differs is told",
+        &[
+            (FIRST_STAGE_AT, STAGE),
+            (JOURNAL_AT, JOURNAL),
+            (SECOND_STAGE_AT, Node::File(b"2")),
+        ],
+        "/t",
+        "/t/y: stage differs: planned 6b86b273ff34fce19d6b804eff5a3f5747ada4eaa22f1d49c01e52ddb7875b4b, found d4735e3a265e16eee03f59718b9b5d03019c07d8b6c51f90da3a666eec13ab35",
+        KEPT,
+    ),
+];
+
+/// What a recovery answers: `recovered N`, or the text of its fault.
+pub(crate) fn answer_of(alloc: Global, disk: &mut MemDisk, root: &str) -> Result<String, Fail> {
+    match recover(alloc, disk, root) {
+        Ok(count) => Ok(format!(in alloc; "recovered {count}")?),
+        Err(fault) => Ok(format!(in alloc; "{fault}")?),
+    }
 }
 
-/// The disk of both files, with both stages.
-fn stages(alloc: Global) -> Result<MemDisk, Fail> {
-    let mut disk = first_stage(alloc)?;
-    disk.add_file("/t/.sd-0000.tmp", b"1", 0o640)?;
-    Ok(disk)
-}
-
-/// The disk of both files and stages, with a journal of this text.
-fn with_journal(alloc: Global, text: &[u8]) -> Result<MemDisk, Fail> {
-    let mut disk = stages(alloc)?;
-    disk.add_file("/t/.sd-journal", text, 0o640)?;
-    Ok(disk)
-}
-
-/// Whether a recovery answers with this text: `recovered N`, or its fault's.
-fn answers(alloc: Global, disk: &mut MemDisk, root: &str, text: &str) -> Result<bool, Fail> {
-    let answer = match recover(alloc, disk, root) {
-        Ok(count) => format!(in alloc; "recovered {count}")?,
-        Err(fault) => format!(in alloc; "{fault}")?,
-    };
-    Ok(answer.as_str() == text)
-}
-
-/// Whether both files hold these bytes.
-fn both_hold(alloc: Global, disk: &MemDisk, bytes: &[u8]) -> Result<bool, Fail> {
-    Ok(holds(alloc, disk, "/t/a/x", bytes)? && holds(alloc, disk, "/t/y", bytes)?)
-}
-
-/// Whether a recovery answers with this text, and the files and the stage of the first are as they were.
-fn leaves_all(alloc: Global, disk: &mut MemDisk, text: &str) -> Result<bool, Fail> {
-    let answered = answers(alloc, disk, "/t", text)?;
-    Ok(
-        answered
-            && both_hold(alloc, disk, b"one")?
-            && holds(alloc, disk, "/t/a/.sd-0000.tmp", b"1")?,
-    )
-}
-
-/// Whether what stands in the journal's place is refused where it has this text.
-fn is_no_journal(alloc: Global, text: &[u8]) -> Result<bool, Fail> {
-    let mut disk = with_journal(alloc, text)?;
-    Ok(
-        leaves_all(alloc, &mut disk, "not a journal")?
-            && holds(alloc, &disk, "/t/.sd-journal", text)?,
-    )
+/// What a recovery answers on the disk of a row, and whether it leaves the files of the row.
+fn answer_to(alloc: Global, case: &Case) -> Result<(String, bool), Fail> {
+    let mut disk = filled(alloc, case.1)?;
+    let answer = answer_of(alloc, &mut disk, case.2)?;
+    let are_left = are_left(alloc, &disk, case.4)?;
+    Ok((answer, are_left))
 }
 
 #[test]
-fn a_change_that_stands_is_carried_out(rt: HostRuntime) -> Result<(), Fail> {
-    let alloc = rt.alloc();
-    let mut disk = with_journal(alloc, JOURNAL)?;
-    assert!(rt; answers(alloc, &mut disk, "/t", "recovered 2")?);
-    assert!(rt; both_hold(alloc, &disk, b"1")?);
-    assert!(rt; disk.read_all(alloc, "/t/.sd-journal")?.is_none());
-    assert!(rt; disk.read_all(alloc, "/t/.sd-0000.tmp")?.is_none());
-    assert!(rt; disk.read_all(alloc, "/t/a/.sd-0000.tmp")?.is_none());
-    Ok(())
-}
-
-#[test]
-fn a_link_to_a_root_is_followed(rt: HostRuntime) -> Result<(), Fail> {
-    let alloc = rt.alloc();
-    let mut disk = with_journal(alloc, JOURNAL)?;
-    disk.add_link("/root", "/t")?;
-    assert!(rt; answers(alloc, &mut disk, "/root", "recovered 2")?);
-    assert!(rt; both_hold(alloc, &disk, b"1")?);
-    assert!(rt; disk.read_all(alloc, "/t/.sd-journal")?.is_none());
-    Ok(())
-}
-
-#[test]
-fn a_journal_without_lines_is_removed(rt: HostRuntime) -> Result<(), Fail> {
-    let alloc = rt.alloc();
-    let mut disk = with_journal(alloc, b"sd-journal 1\nend 0\n")?;
-    assert!(rt; answers(alloc, &mut disk, "/t", "recovered 0")?);
-    assert!(rt; both_hold(alloc, &disk, b"one")?);
-    assert!(rt; disk.read_all(alloc, "/t/.sd-journal")?.is_none());
-    Ok(())
-}
-
-#[test]
-fn a_root_without_a_journal_has_nothing_to_recover(rt: HostRuntime) -> Result<(), Fail> {
-    let alloc = rt.alloc();
-    let mut disk = stages(alloc)?;
-    disk.add_link("/lost", "/nothing")?;
-    assert!(rt; leaves_all(alloc, &mut disk, "recovered 0")?);
-    assert!(rt; answers(alloc, &mut disk, "/t/y", "recovered 0")?);
-    assert!(rt; answers(alloc, &mut disk, "/none", "the root leads to nothing")?);
-    assert!(rt; answers(alloc, &mut disk, "/lost", "the root leads to nothing")?);
-    Ok(())
-}
-
-#[test]
-fn a_text_of_no_journal_is_refused(rt: HostRuntime) -> Result<(), Fail> {
-    let alloc = rt.alloc();
-    assert!(rt; is_no_journal(alloc, b"")?);
-    assert!(rt;
-        is_no_journal(alloc, b"sd-journal 2\nend 0\n")?,
-        "another version"
-    );
-    assert!(rt;
-        is_no_journal(alloc, b"sd-journal 1\nend 1\n")?,
-        "another count"
-    );
-    assert!(rt;
-        is_no_journal(alloc, &JOURNAL[..JOURNAL.len() - 6])?,
-        "no end"
-    );
-    assert!(rt;
-        is_no_journal(alloc, &JOURNAL[..JOURNAL.len() - 1])?,
-        "no last newline"
-    );
-    Ok(())
-}
-
-#[test]
-fn what_is_no_regular_file_is_no_journal(rt: HostRuntime) -> Result<(), Fail> {
-    let alloc = rt.alloc();
-    let mut folder = stages(alloc)?;
-    folder.add_dir("/t/.sd-journal")?;
-    assert!(rt;
-        leaves_all(alloc, &mut folder, "not a journal")?,
-        "a folder"
-    );
-    let mut link = stages(alloc)?;
-    link.add_file("/t/journal", JOURNAL, 0o640)?;
-    link.add_link("/t/.sd-journal", "journal")?;
-    assert!(rt;
-        leaves_all(alloc, &mut link, "not a journal")?,
-        "a link to a journal"
-    );
-    let mut other = stages(alloc)?;
-    other.add_other("/t/.sd-journal")?;
-    assert!(rt; leaves_all(alloc, &mut other, "not a journal")?, "a pipe");
-    Ok(())
-}
-
-#[test]
-fn a_stage_that_is_missing_is_told(rt: HostRuntime) -> Result<(), Fail> {
-    let alloc = rt.alloc();
-    let mut missing = first_stage(alloc)?;
-    missing.add_file("/t/.sd-journal", JOURNAL, 0o640)?;
-    assert!(rt; leaves_all(alloc, &mut missing, "/t/y: no stage")?);
-    let mut link = first_stage(alloc)?;
-    link.add_file("/t/.sd-journal", JOURNAL, 0o640)?;
-    link.add_link("/t/.sd-0000.tmp", "a/.sd-0000.tmp")?;
-    assert!(rt;
-        leaves_all(alloc, &mut link, "/t/y: no stage")?,
-        "a link to its bytes"
-    );
-    let mut none = two_files(alloc)?;
-    none.add_file("/t/.sd-journal", JOURNAL, 0o640)?;
-    assert!(rt;
-        answers(alloc, &mut none, "/t", "/t/a/x: no stage")?,
-        "the first of two"
-    );
-    Ok(())
-}
-
-#[test]
-fn a_stage_that_differs_is_told(rt: HostRuntime) -> Result<(), Fail> {
-    let alloc = rt.alloc();
-    let mut disk = first_stage(alloc)?;
-    disk.add_file("/t/.sd-journal", JOURNAL, 0o640)?;
-    disk.add_file("/t/.sd-0000.tmp", b"2", 0o640)?;
-    let text =
-        "/t/y: stage differs: planned 6b86b273ff34fce19d6b804eff5a3f5747ada4eaa22f1d49c01e52ddb7875b4b, found d4735e3a265e16eee03f59718b9b5d03019c07d8b6c51f90da3a666eec13ab35";
-    assert!(rt; leaves_all(alloc, &mut disk, text)?);
+fn a_recovery_answers_by_what_stands_in_its_root(rt: HostRuntime) -> Result<(), Fail> {
+    for case in CASES {
+        let (answer, are_left) = answer_to(rt.alloc(), case)?;
+        assert_eq!(rt; answer.as_str(), case.3, "{}", case.0);
+        assert!(rt; are_left, "{}", case.0);
+    }
     Ok(())
 }
