@@ -1,21 +1,15 @@
-//! What refuses globs.
+//! What refuses globs and rules.
 
 use chosen_files::ChoiceFault;
-use std::alloc::Global;
+use sd_ignore::IgnoreFault;
 use std::test::Fail;
 
-/// Whether an error has this text.
-fn has_text(alloc: Global, error: &ChoiceFault, text: &str) -> Result<bool, Fail> {
-    let given = format!(in alloc; "{error}")?;
-    Ok(given.as_str() == text)
-}
-
 #[test]
-fn errors_of_globs_have_texts(rt: HostRuntime) -> Result<(), Fail> {
+fn errors_of_globs_and_rules_have_texts(rt: HostRuntime) -> Result<(), Fail> {
     let alloc = rt.alloc();
-    let is_invalid = has_text(alloc, &ChoiceFault::BadGlob(3), "invalid glob at place 3")?;
-    assert!(rt; is_invalid);
-    let is_no_memory = has_text(alloc, &ChoiceFault::NoMemory, "out of memory")?;
-    assert!(rt; is_no_memory);
+    let of_glob = format!(in alloc; "{}, {}", ChoiceFault::BadGlob(3), ChoiceFault::NoMemory)?;
+    assert_eq!(rt; of_glob.as_str(), "invalid glob at place 3, out of memory");
+    let of_rule = format!(in alloc; "{}, {}", IgnoreFault::BadRule(2), IgnoreFault::NoMemory)?;
+    assert_eq!(rt; of_rule.as_str(), "invalid rule in line 2, out of memory");
     Ok(())
 }

@@ -1,5 +1,5 @@
 //! Tests of the choice of the files that a command on a tree works on, by public calls alone: on disks that fail,
-//! under rules of what is ignored, and what refuses globs.
+//! under rules of what is ignored, what these say, and what refuses globs and rules.
 #![tactic(auto)]
 
 #[cfg(test)]
@@ -12,3 +12,5 @@ mod failing;
 mod globs;
 #[cfg(test)]
 mod ignoring;
+#[cfg(test)]
+mod rules;
