@@ -13,8 +13,6 @@ mod names;
 mod options;
 mod order;
 mod read;
-#[cfg(test)]
-mod tests;
 
 pub use device::device_num;
 pub use entry::{DirEntry, DirEntryExt};

@@ -3,14 +3,15 @@
 //! A line is an item's depth, its kind (`d`, `f`, `l`, `o`; behind `l>` where it is a link that was followed) and its path, or `!` and
 //! the text of an error.
 
+ghost use Rattle.std.specs.Prelude.{◌<◌};
 ghost use Rattle.std.specs.Iterator.{IsFinite};
 
 use mem_io::MemDisk;
 use sd_io::{Disk, Kind};
-use std::alloc::{AllocError, Global};
+use std::alloc::Global;
 use std::process::Abort;
 use std::test::Fail;
-use walkdir::{DirEntry, Error, Order, Unsorted, Walk, WalkDir};
+use walkdir::{DirEntry, Error, ErrorKind, Unsorted, Walk, WalkDir};
 
 /// An option with its value.
 #[derive(Clone, Copy)]
@@ -19,10 +20,22 @@ pub(crate) enum Setting {
     MaxDepth(usize),
     FollowLinks(bool),
     FollowRootLinks(bool),
-    MaxOpen(usize),
     ContentsFirst(bool),
     SameFileSystem(bool),
 }
+
+/// What is walked, and how.
+#[derive(Clone, Copy)]
+pub(crate) struct Question<'a> {
+    pub(crate) root: &'a str,
+    /// Set one after the other.
+    pub(crate) settings: &'a [Setting],
+    /// Whether entries come by their file names, and not in the disk's order.
+    pub(crate) sorts: bool,
+}
+
+/// How many lists are open at most where nothing is said of it.
+pub(crate) const MANY_OPEN: usize = 10;
 
 /// Sets an option.
 fn set(walk: WalkDir<Unsorted>, setting: Setting) -> WalkDir<Unsorted> {
@@ -31,7 +44,6 @@ fn set(walk: WalkDir<Unsorted>, setting: Setting) -> WalkDir<Unsorted> {
         Setting::MaxDepth(depth) => walk.max_depth(depth),
         Setting::FollowLinks(yes) => walk.follow_links(yes),
         Setting::FollowRootLinks(yes) => walk.follow_root_links(yes),
-        Setting::MaxOpen(n) => walk.max_open(n),
         Setting::ContentsFirst(yes) => walk.contents_first(yes),
         Setting::SameFileSystem(yes) => walk.same_file_system(yes),
     }
@@ -51,7 +63,7 @@ pub(crate) fn asked(
 }
 
 /// The letter of a kind.
-fn letter(kind: Kind) -> &'static str {
+pub(crate) fn letter(kind: Kind) -> &'static str {
     match kind {
         Kind::Directory => "d",
         Kind::File => "f",
@@ -60,38 +72,34 @@ fn letter(kind: Kind) -> &'static str {
     }
 }
 
-/// An entry as a line.
-fn entry_line(alloc: Global, entry: &DirEntry) -> Result<String, AllocError> {
+/// Puts an entry behind a text.
+fn push_entry(text: &mut String, entry: &DirEntry) -> Result<(), Fail> {
     let depth = entry.depth();
     let followed = if entry.followed { "l>" } else { "" };
     let letter = letter(entry.file_type());
     let path = entry.path();
-    format!(in alloc; "{depth} {followed}{letter} {path}")
+    write!(text, "{depth} {followed}{letter} {path}")?;
+    Ok(())
 }
 
-/// An error as a line.
-fn error_line(alloc: Global, error: &Error) -> Result<String, AllocError> {
+/// Puts an error behind a text.
+fn push_error(text: &mut String, error: &Error) -> Result<(), Fail> {
     let depth = error.depth();
-    format!(in alloc; "{depth} ! {error}")
-}
-
-/// An item as a line.
-pub(crate) fn line(alloc: Global, item: &Result<DirEntry, Error>) -> Result<String, AllocError> {
-    match item {
-        Ok(entry) => entry_line(alloc, entry),
-        Err(error) => error_line(alloc, error),
-    }
+    write!(text, "{depth} ! {error}")?;
+    Ok(())
 }
 
 /// Puts an item behind a text, as a line with this end.
 pub(crate) fn push_line(
-    alloc: Global,
     text: &mut String,
     item: &Result<DirEntry, Error>,
     end: &str,
 ) -> Result<(), Fail> {
-    let line = line(alloc, item)?;
-    write!(text, "{line}{end}")?;
+    match item {
+        Ok(entry) => push_entry(text, entry)?,
+        Err(error) => push_error(text, error)?,
+    }
+    text.push_str(end)?;
     Ok(())
 }
 
@@ -102,13 +110,46 @@ pub(crate) fn text_of<W: Walk + Drop>(alloc: Global, walk: W) -> Result<String, 
 {
     let mut text = String::new(alloc);
     for item in walk {
-        push_line(alloc, &mut text, &item, "\n")?;
+        push_line(&mut text, &item, "\n")?;
     }
     Ok(text)
 }
 
+/// What a question gives, a line an item, with so many lists open at most.
+pub(crate) fn given<D: Disk>(
+    alloc: Global,
+    disk: &mut D,
+    question: &Question<'_>,
+    max_open: usize,
+) -> Result<String, Fail> {
+    let walk = asked(alloc, question.root, question.settings)?.max_open(max_open);
+    if question.sorts {
+        text_of(alloc, walk.sort_by_file_name().into_iter(disk))
+    } else {
+        text_of(alloc, walk.into_iter(disk))
+    }
+}
+
+/// How many entries a question in the disk's order gives by a cap, or the kind of its error.
+pub(crate) fn collected<D: Disk>(
+    alloc: Global,
+    disk: &mut D,
+    question: &Question<'_>,
+    max_open: usize,
+    cap: u64,
+) -> Result<Result<usize, ErrorKind>, Fail>
+    requires { 0 < cap }
+{
+    let walk = asked(alloc, question.root, question.settings)?.max_open(max_open);
+    let entries = walk.into_iter(disk).collect_capped(cap);
+    Ok(match entries {
+        Ok(entries) => Ok(entries.len()),
+        Err(error) => Err(error.kind()),
+    })
+}
+
 /// Whether a text is these lines, each with its end.
-fn is_joined(text: &str, lines: &[&str]) -> bool {
+pub(crate) fn is_joined(text: &str, lines: &[&str]) -> bool {
     let mut rest = text;
     for line in lines {
         match rest.strip_prefix(*line) {
@@ -123,99 +164,23 @@ fn is_joined(text: &str, lines: &[&str]) -> bool {
     rest.is_empty()
 }
 
-/// A text is this one.
-pub(crate) fn check_text(rt: &(impl Abort + AllocGlobal), given: &str, wanted: &str) {
-    assert_eq!(rt; given, wanted);
+/// How many failures of the disk the lines of a text tell.
+pub(crate) fn failures_in(text: &str) -> u64 {
+    (text.split("input or output failed\n").count() as u64).saturating_sub(1)
 }
 
 /// A text is these lines.
-pub(crate) fn check_lines(rt: &(impl Abort + AllocGlobal), given: &str, lines: &[&str]) {
-    assert!(rt; is_joined(given, lines), "given: {given}");
+pub(crate) fn check_lines(
+    rt: &(impl Abort + AllocGlobal),
+    name: &str,
+    given: &str,
+    lines: &[&str],
+) {
+    assert!(rt; is_joined(given, lines), "{name}: {given}");
 }
-
-/// What a root gives under these options, in the disk's order.
-pub(crate) fn unsorted<D: Disk>(
-    alloc: Global,
-    disk: &mut D,
-    root: &str,
-    settings: &[Setting],
-) -> Result<String, Fail> {
-    let walk = asked(alloc, root, settings)?;
-    text_of(alloc, walk.into_iter(disk))
-}
-
-/// What a root gives under these options, sorted by file name.
-pub(crate) fn sorted<D: Disk>(
-    alloc: Global,
-    disk: &mut D,
-    root: &str,
-    settings: &[Setting],
-) -> Result<String, Fail> {
-    let walk = asked(alloc, root, settings)?.sort_by_file_name();
-    text_of(alloc, walk.into_iter(disk))
-}
-
-/// The bounds on open lists that walks are tried with, and how many lists they allow.
-const BOUNDS: &[(usize, u64)] = &[(0, 1), (1, 1), (2, 2), (3, 3), (10, 10)];
 
 /// A disk never had more lists open than these.
 pub(crate) fn check_lists(rt: &(impl Abort + AllocGlobal), disk: &MemDisk, lists: u64) {
     let most = disk.lists_most();
     assert!(rt; most <= lists, "{most} lists were open, of {lists}");
-}
-
-/// What a root gives sorted by file name, with so many lists open at most.
-fn sorted_within(
-    alloc: Global,
-    disk: &mut MemDisk,
-    root: &str,
-    settings: &[Setting],
-    bound: usize,
-) -> Result<String, Fail> {
-    let walk = asked(alloc, root, settings)?.max_open(bound);
-    text_of(alloc, walk.sort_by_file_name().into_iter(disk))
-}
-
-/// The same in the disk's order.
-fn unsorted_within(
-    alloc: Global,
-    disk: &mut MemDisk,
-    root: &str,
-    settings: &[Setting],
-    bound: usize,
-) -> Result<String, Fail> {
-    let walk = asked(alloc, root, settings)?.max_open(bound);
-    text_of(alloc, walk.into_iter(disk))
-}
-
-/// Whatever the bound on open lists, a root gives these lines under these options sorted by file name, and keeps the bound.
-pub(crate) fn check_sorted(
-    rt: &(impl Abort + AllocGlobal),
-    disk: &mut MemDisk,
-    root: &str,
-    settings: &[Setting],
-    lines: &[&str],
-) -> Result<(), Fail> {
-    for (bound, lists) in BOUNDS {
-        let given = sorted_within(rt.alloc(), disk, root, settings, *bound)?;
-        check_lines(rt, given.as_str(), lines);
-        check_lists(rt, disk, *lists);
-    }
-    Ok(())
-}
-
-/// The same in the disk's order.
-pub(crate) fn check_unsorted(
-    rt: &(impl Abort + AllocGlobal),
-    disk: &mut MemDisk,
-    root: &str,
-    settings: &[Setting],
-    lines: &[&str],
-) -> Result<(), Fail> {
-    for (bound, lists) in BOUNDS {
-        let given = unsorted_within(rt.alloc(), disk, root, settings, *bound)?;
-        check_lines(rt, given.as_str(), lines);
-        check_lists(rt, disk, *lists);
-    }
-    Ok(())
 }

@@ -1,184 +1,277 @@
 //! Walks of disks that fail.
 
-use crate::asking::{Setting, asked, check_lines, check_text, sorted, text_of, unsorted};
-use crate::rows::foo;
-use mem_io::MemDisk;
+use crate::asking::{MANY_OPEN, Question, Setting, check_lines, failures_in, given};
+use crate::disks::{FOO, Node, Nodes, failing, filled};
 use std::alloc::Global;
 use std::process::Abort;
 use std::test::Fail;
 
-/// The disk of `foo`, of which one counted call fails.
-pub(crate) fn foo_failing(alloc: Global, call: u64) -> Result<MemDisk, Fail> {
-    let mut disk = foo(alloc)?;
-    disk.fail_at(call)?;
-    Ok(disk)
-}
+/// A name, what stands on the disk, the counted calls that fail, a question, and what it gives, a line an item.
+type Case = (
+    &'static str,
+    Nodes,
+    &'static [u64],
+    Question<'static>,
+    &'static [&'static str],
+);
 
-/// What an unsorted walk of `foo` that follows links gives where one counted call fails, and how many calls failed.
-fn given_failing(alloc: Global, call: u64, max_open: usize) -> Result<(String, u64), Fail> {
-    let mut disk = foo_failing(alloc, call)?;
-    let settings = [Setting::FollowLinks(true), Setting::MaxOpen(max_open)];
-    let given = unsorted(alloc, &mut disk, "foo", &settings)?;
+/// `foo` where links are followed, in the disk's order.
+const FOLLOWED: Question = Question {
+    root: "foo",
+    settings: &[Setting::FollowLinks(true)],
+    sorts: false,
+};
+
+/// A directory of twenty files.
+const TWENTY: Nodes = &[
+    ("/t", Node::Folder),
+    ("/t/0", Node::File(b"")),
+    ("/t/1", Node::File(b"")),
+    ("/t/2", Node::File(b"")),
+    ("/t/3", Node::File(b"")),
+    ("/t/4", Node::File(b"")),
+    ("/t/5", Node::File(b"")),
+    ("/t/6", Node::File(b"")),
+    ("/t/7", Node::File(b"")),
+    ("/t/8", Node::File(b"")),
+    ("/t/9", Node::File(b"")),
+    ("/t/10", Node::File(b"")),
+    ("/t/11", Node::File(b"")),
+    ("/t/12", Node::File(b"")),
+    ("/t/13", Node::File(b"")),
+    ("/t/14", Node::File(b"")),
+    ("/t/15", Node::File(b"")),
+    ("/t/16", Node::File(b"")),
+    ("/t/17", Node::File(b"")),
+    ("/t/18", Node::File(b"")),
+    ("/t/19", Node::File(b"")),
+];
+
+/// The calls for its entries.
+const ENTRIES: &[u64] = &[
+    3, 4, 5, 6, 7, 8, 9, 10, 11, 12, 13, 14, 15, 16, 17, 18, 19, 20, 21, 22,
+];
+
+const FAILED: &str = "1 ! input or output failed";
+
+/// The root, and as many failures as there are entries.
+const ALL_FAILED: &[&str] = &[
+    "0 d /t", FAILED, FAILED, FAILED, FAILED, FAILED, FAILED, FAILED, FAILED, FAILED, FAILED,
+    FAILED, FAILED, FAILED, FAILED, FAILED, FAILED, FAILED, FAILED, FAILED, FAILED,
+];
+
+/// The counted calls of an unsorted walk of `foo` ask for the kind of the root (1) and what it is (2), open its list (3), take two
+/// entries of it (4, 5), ask what `abc` is (6), open its list (7), take two entries and find its end (8 to 10), and find the end of
+/// the root's list (11).
+const CASES: &[Case] = &[
+    (
+        "the kind of the root",
+        FOO,
+        &[1],
+        FOLLOWED,
+        &["0 ! IO error for operation on foo: input or output failed"],
+    ),
+    (
+        "what the root is",
+        FOO,
+        &[2],
+        FOLLOWED,
+        &["0 ! input or output failed"],
+    ),
+    (
+        "the root's list",
+        FOO,
+        &[3],
+        FOLLOWED,
+        &[
+            "0 d foo",
+            "0 ! IO error for operation on foo: input or output failed",
+        ],
+    ),
+    (
+        "the first entry",
+        FOO,
+        &[4],
+        FOLLOWED,
+        &[
+            "0 d foo",
+            "1 ! input or output failed",
+            "1 d foo/abc",
+            "2 f foo/abc/tuv",
+            "2 f foo/abc/qrs",
+        ],
+    ),
+    (
+        "the second entry",
+        FOO,
+        &[5],
+        FOLLOWED,
+        &["0 d foo", "1 f foo/def", "1 ! input or output failed"],
+    ),
+    (
+        "what a directory is",
+        FOO,
+        &[6],
+        FOLLOWED,
+        &["0 d foo", "1 f foo/def", "1 ! input or output failed"],
+    ),
+    (
+        "its list",
+        FOO,
+        &[7],
+        FOLLOWED,
+        &[
+            "0 d foo",
+            "1 f foo/def",
+            "1 d foo/abc",
+            "1 ! IO error for operation on foo/abc: input or output failed",
+        ],
+    ),
+    (
+        "its first entry",
+        FOO,
+        &[8],
+        FOLLOWED,
+        &[
+            "0 d foo",
+            "1 f foo/def",
+            "1 d foo/abc",
+            "2 ! input or output failed",
+            "2 f foo/abc/qrs",
+        ],
+    ),
+    (
+        "its second entry",
+        FOO,
+        &[9],
+        FOLLOWED,
+        &[
+            "0 d foo",
+            "1 f foo/def",
+            "1 d foo/abc",
+            "2 f foo/abc/tuv",
+            "2 ! input or output failed",
+        ],
+    ),
+    (
+        "the end of its list",
+        FOO,
+        &[10],
+        FOLLOWED,
+        &[
+            "0 d foo",
+            "1 f foo/def",
+            "1 d foo/abc",
+            "2 f foo/abc/tuv",
+            "2 f foo/abc/qrs",
+            "2 ! input or output failed",
+        ],
+    ),
+    (
+        "the end of the root's list",
+        FOO,
+        &[11],
+        FOLLOWED,
+        &[
+            "0 d foo",
+            "1 f foo/def",
+            "1 d foo/abc",
+            "2 f foo/abc/tuv",
+            "2 f foo/abc/qrs",
+            "1 ! input or output failed",
+        ],
+    ),
+    (
+        "a failure comes first in a sorted list",
+        FOO,
+        &[4],
+        Question {
+            root: "foo",
+            settings: &[],
+            sorts: true,
+        },
+        &["0 d foo", "1 ! input or output failed", "1 f foo/def"],
+    ),
+    (
+        "a failing device stands in place of the root",
+        FOO,
+        &[1],
+        Question {
+            root: "foo",
+            settings: &[Setting::SameFileSystem(true)],
+            sorts: false,
+        },
+        &["0 ! IO error for operation on foo: input or output failed"],
+    ),
+    (
+        "a list may fail at each entry",
+        TWENTY,
+        ENTRIES,
+        Question {
+            root: "/t",
+            settings: &[],
+            sorts: false,
+        },
+        ALL_FAILED,
+    ),
+    (
+        "a sorted list may fail at each entry",
+        TWENTY,
+        ENTRIES,
+        Question {
+            root: "/t",
+            settings: &[],
+            sorts: true,
+        },
+        ALL_FAILED,
+    ),
+];
+
+/// What a row gives, and how many calls failed, with so many lists open at most.
+fn given_failing(alloc: Global, case: &Case, max_open: usize) -> Result<(String, u64), Fail> {
+    let mut disk = failing(alloc, case.1, case.2)?;
+    let given = given(alloc, &mut disk, &case.3, max_open)?;
     Ok((given, disk.faults()))
 }
 
-/// An unsorted walk of `foo` that follows links gives these lines, where one counted call fails.
-fn check_failing(rt: &(impl Abort + AllocGlobal), call: u64, lines: &[&str]) -> Result<(), Fail> {
-    for max_open in [2, 3, 10] {
-        let (given, faults) = given_failing(rt.alloc(), call, max_open)?;
-        check_lines(rt, given.as_str(), lines);
-        assert_eq!(rt; faults, 1, "call {call}");
+/// A row gives its lines, and each of its calls fails, whatever the bound on open lists.
+fn check(rt: &(impl Abort + AllocGlobal), case: &Case) -> Result<(), Fail> {
+    for max_open in [2, 3, MANY_OPEN] {
+        let (given, faults) = given_failing(rt.alloc(), case, max_open)?;
+        check_lines(rt, case.0, given.as_str(), case.4);
+        assert_eq!(rt; faults, case.2.len() as u64, "{}", case.0);
     }
     Ok(())
 }
-
-/// What comes of an unsorted walk of `foo` whose counted calls ask for the kind of the root (1) and what it is (2), open its list (3),
-/// take two entries of it (4, 5), ask what `abc` is (6), open its list (7), take two entries and find its end (8 to 10), and find the
-/// end of the root's list (11).
-const FAILURES: &[&[&str]] = &[
-    &["0 ! IO error for operation on foo: input or output failed"],
-    &["0 ! input or output failed"],
-    &[
-        "0 d foo",
-        "0 ! IO error for operation on foo: input or output failed",
-    ],
-    &[
-        "0 d foo",
-        "1 ! input or output failed",
-        "1 d foo/abc",
-        "2 f foo/abc/tuv",
-        "2 f foo/abc/qrs",
-    ],
-    &["0 d foo", "1 f foo/def", "1 ! input or output failed"],
-    &["0 d foo", "1 f foo/def", "1 ! input or output failed"],
-    &[
-        "0 d foo",
-        "1 f foo/def",
-        "1 d foo/abc",
-        "1 ! IO error for operation on foo/abc: input or output failed",
-    ],
-    &[
-        "0 d foo",
-        "1 f foo/def",
-        "1 d foo/abc",
-        "2 ! input or output failed",
-        "2 f foo/abc/qrs",
-    ],
-    &[
-        "0 d foo",
-        "1 f foo/def",
-        "1 d foo/abc",
-        "2 f foo/abc/tuv",
-        "2 ! input or output failed",
-    ],
-    &[
-        "0 d foo",
-        "1 f foo/def",
-        "1 d foo/abc",
-        "2 f foo/abc/tuv",
-        "2 f foo/abc/qrs",
-        "2 ! input or output failed",
-    ],
-    &[
-        "0 d foo",
-        "1 f foo/def",
-        "1 d foo/abc",
-        "2 f foo/abc/tuv",
-        "2 f foo/abc/qrs",
-        "1 ! input or output failed",
-    ],
-];
 
 #[test]
 fn each_failing_call_stands_in_its_place(rt: HostRuntime) -> Result<(), Fail> {
-    for (before, lines) in FAILURES.iter().enumerate() {
-        check_failing(&rt, before as u64 + 1, lines)?;
+    for case in CASES {
+        check(&rt, case)?;
     }
     Ok(())
 }
 
-#[test]
-fn a_failure_comes_first_in_a_sorted_list(rt: HostRuntime) -> Result<(), Fail> {
-    let mut disk = foo_failing(rt.alloc(), 4)?;
-    let given = sorted(rt.alloc(), &mut disk, "foo", &[])?;
-    let wanted = "0 d foo\n1 ! input or output failed\n1 f foo/def\n";
-    check_text(&rt, given.as_str(), wanted);
-    Ok(())
-}
+/// `foo` with the defaults.
+const PLAIN: Question = Question {
+    root: "foo",
+    settings: &[],
+    sorts: false,
+};
 
-#[test]
-fn a_failing_device_stands_in_place_of_the_root(rt: HostRuntime) -> Result<(), Fail> {
-    let mut disk = foo_failing(rt.alloc(), 1)?;
-    let settings = [Setting::SameFileSystem(true)];
-    let given = unsorted(rt.alloc(), &mut disk, "foo", &settings)?;
-    let wanted = "0 ! IO error for operation on foo: input or output failed\n";
-    check_text(&rt, given.as_str(), wanted);
-    Ok(())
-}
-
-/// Adds a file of this number to `/t`, and lets a call fail.
-fn add_failing(alloc: Global, disk: &mut MemDisk, number: u64) -> Result<(), Fail> {
-    disk.fail_at(number.saturating_add(3))?;
-    let path = format!(in alloc; "/t/{number}")?;
-    disk.add_file(path.as_str(), b"", 0o640)?;
-    Ok(())
-}
-
-/// A disk with a directory of twenty files, of whose list each call for an entry fails.
-fn failing_list(alloc: Global) -> Result<MemDisk, Fail> {
-    let mut disk = MemDisk::new(alloc);
-    disk.add_dir("/t")?;
-    for number in 0..20_u64 {
-        add_failing(alloc, &mut disk, number)?;
-    }
-    Ok(disk)
-}
-
-/// The root, and as many failures as there are entries.
-fn root_and_failures() -> [&'static str; 21] {
-    let mut lines = ["1 ! input or output failed"; 21];
-    lines[0] = "0 d /t";
-    lines
-}
-
-/// What a walk of `/t` gives, sorted by file name or in the disk's order.
-fn given_of_list(alloc: Global, disk: &mut MemDisk, sorts: bool) -> Result<String, Fail> {
-    if sorts {
-        sorted(alloc, disk, "/t", &[])
-    } else {
-        unsorted(alloc, disk, "/t", &[])
-    }
-}
-
-/// A walk tells each failure of a list, sorted or not.
-fn check_list(rt: &(impl Abort + AllocGlobal), sorts: bool) -> Result<(), Fail> {
-    let mut disk = failing_list(rt.alloc())?;
-    let given = given_of_list(rt.alloc(), &mut disk, sorts)?;
-    check_lines(rt, given.as_str(), &root_and_failures());
-    Ok(())
-}
-
-#[test]
-fn a_list_may_fail_at_each_entry(rt: HostRuntime) -> Result<(), Fail> {
-    check_list(&rt, false)?;
-    check_list(&rt, true)
-}
-
-/// How many failures a walk of `foo` tells.
-fn failures_told(alloc: Global, disk: &mut MemDisk) -> Result<u64, Fail> {
-    let walk = asked(alloc, "foo", &[Setting::MaxOpen(1)])?;
-    let given = text_of(alloc, walk.into_iter(disk))?;
-    let parts = given.as_str().split("failed\n").count() as u64;
-    Ok(parts.saturating_sub(1))
+/// How many failures a walk of `foo` tells with one list open, and how many calls failed, where all calls from one on fail.
+fn failures_told(alloc: Global, stop: u64) -> Result<(u64, u64), Fail> {
+    let mut disk = filled(alloc, FOO)?;
+    disk.stop_at(stop);
+    let given = given(alloc, &mut disk, &PLAIN, 1)?;
+    Ok((failures_in(given.as_str()), disk.faults()))
 }
 
 #[test]
 fn a_disk_may_fail_from_some_call_on(rt: HostRuntime) -> Result<(), Fail> {
     for stop in 1..=11 {
-        let mut disk = foo(rt.alloc())?;
-        disk.stop_at(stop);
-        let told = failures_told(rt.alloc(), &mut disk)?;
-        assert!(rt; told <= disk.faults(), "from call {stop} on");
+        let (told, faults) = failures_told(rt.alloc(), stop)?;
+        assert!(rt; told <= faults, "from call {stop} on");
     }
     Ok(())
 }

@@ -3,14 +3,13 @@
 ghost use Rattle.std.specs.Prelude.{◌≡◌, ◌<◌, ◌≤◌, ◌⊎◌};
 ghost use Rattle.sd_io.specs.Count.{HasRisen};
 
-use crate::asking::{Setting, asked, check_text, sorted, unsorted};
-use crate::links::linked;
-use crate::rows::foo;
+use crate::asking::{MANY_OPEN, Question, Setting, check_lines, collected, given};
+use crate::disks::{FOO, Node, Nodes, filled};
 use mem_io::MemDisk;
 use sd_io::{Disk, DiskFault, Ident, ListId, Meta, RawEntry, Text};
 use std::alloc::Global;
 use std::test::Fail;
-use walkdir::{DirEntry, Error, ErrorKind};
+use walkdir::ErrorKind;
 
 /// How a disk differs from the one that it stands on.
 #[derive(Drop)]
@@ -161,111 +160,129 @@ impl Disk for FakeDisk {
     }
 }
 
-/// A disk whose every directory holds one directory, for ever.
-fn endless(alloc: Global) -> Result<FakeDisk, Fail> {
-    let top = linked(alloc, &["/d"], &[])?;
-    Ok(FakeDisk::new(top, Difference::Endless))
-}
+/// A directory, which is all that a disk holds.
+const ONE: Nodes = &[("/d", Node::Folder)];
 
-/// The kind of the error that collecting ended with, if it did.
-fn kind_of(collected: Result<Vec<DirEntry>, Error>) -> Option<ErrorKind> {
-    match collected {
-        Ok(_) => None,
-        Err(error) => Some(error.kind()),
-    }
-}
-
-/// The kind of the error that collecting an endless disk ends with.
-fn refused(
+/// How many entries a disk has whose every directory holds one directory, for ever, or the kind of the error, by a cap of 1000.
+fn collected_endless(
     alloc: Global,
-    disk: &mut FakeDisk,
     settings: &[Setting],
-    cap: u64,
-) -> Result<Option<ErrorKind>, Fail>
-    requires { 0 < cap }
-{
-    let walk = asked(alloc, "/t", settings)?;
-    Ok(kind_of(walk.into_iter(disk).collect_capped(cap)))
-}
-
-/// The same of an endless disk of its own.
-fn refused_endless(alloc: Global, settings: &[Setting], cap: u64) -> Result<Option<ErrorKind>, Fail>
-    requires { 0 < cap }
-{
-    let mut disk = endless(alloc)?;
-    refused(alloc, &mut disk, settings, cap)
+    max_open: usize,
+) -> Result<Result<usize, ErrorKind>, Fail> {
+    let mut disk = FakeDisk::new(filled(alloc, ONE)?, Difference::Endless);
+    let question = Question {
+        root: "/t",
+        settings,
+        sorts: false,
+    };
+    collected(alloc, &mut disk, &question, max_open, 1000)
 }
 
 #[test]
 fn an_endless_disk_has_too_many_entries(rt: HostRuntime) -> Result<(), Fail> {
     let alloc = rt.alloc();
-    for max_open in [1, 2, 10] {
+    for max_open in [1, 2, MANY_OPEN] {
         for follow in [false, true] {
-            let settings = [Setting::MaxOpen(max_open), Setting::FollowLinks(follow)];
-            let refused = refused_endless(alloc, &settings, 1000)?;
-            assert_eq!(rt; refused, Some(ErrorKind::TooMany), "{max_open} open");
+            let collected = collected_endless(alloc, &[Setting::FollowLinks(follow)], max_open)?;
+            assert!(rt; collected == Err(ErrorKind::TooMany), "{max_open} open");
         }
     }
-    let shallow = refused_endless(alloc, &[Setting::MaxDepth(999)], 1000)?;
-    assert_eq!(rt; shallow, None);
+    let shallow = collected_endless(alloc, &[Setting::MaxDepth(999)], MANY_OPEN)?;
+    assert!(rt; shallow == Ok(1000));
     Ok(())
 }
 
-/// The disk of `foo`, where the directory at this path vanishes.
-fn vanishing(alloc: Global, path: &str) -> Result<FakeDisk, Fail> {
-    let gone = Text::new(alloc, path)?;
-    Ok(FakeDisk::new(foo(alloc)?, Difference::Vanishing(gone)))
+/// A name, whether the directory at a path vanishes or else isn't told, that path, how `foo` is walked, and what it gives, a line an item.
+type Case = (
+    &'static str,
+    bool,
+    &'static str,
+    Question<'static>,
+    &'static [&'static str],
+);
+
+const CASES: &[Case] = &[
+    (
+        "a directory may vanish before it is opened, in a sorted walk",
+        true,
+        "foo/abc",
+        Question {
+            root: "foo",
+            settings: &[Setting::FollowLinks(true)],
+            sorts: true,
+        },
+        &[
+            "0 d foo",
+            "1 d foo/abc",
+            "1 ! IO error for operation on foo/abc: input or output failed",
+            "1 f foo/def",
+        ],
+    ),
+    (
+        "a directory may vanish before it is opened",
+        true,
+        "foo/abc",
+        Question {
+            root: "foo",
+            settings: &[],
+            sorts: false,
+        },
+        &[
+            "0 d foo",
+            "1 f foo/def",
+            "1 d foo/abc",
+            "1 ! IO error for operation on foo/abc: input or output failed",
+        ],
+    ),
+    (
+        "a root may vanish before it is opened",
+        true,
+        "foo",
+        Question {
+            root: "foo",
+            settings: &[],
+            sorts: false,
+        },
+        &[
+            "0 d foo",
+            "0 ! IO error for operation on foo: input or output failed",
+        ],
+    ),
+    (
+        "a directory that vanished is foreign",
+        false,
+        "foo/abc",
+        Question {
+            root: "foo",
+            settings: &[Setting::SameFileSystem(true)],
+            sorts: true,
+        },
+        &["0 d foo", "1 d foo/abc", "1 f foo/def"],
+    ),
+];
+
+/// How the disk of a row differs.
+fn difference_of(alloc: Global, case: &Case) -> Result<Difference, Fail> {
+    let path = Text::new(alloc, case.2)?;
+    if case.1 {
+        Ok(Difference::Vanishing(path))
+    } else {
+        Ok(Difference::Unknown(path))
+    }
 }
 
-/// The disk of `foo`, where it isn't told what stands at this path.
-fn unknown(alloc: Global, path: &str) -> Result<FakeDisk, Fail> {
-    let unknown = Text::new(alloc, path)?;
-    Ok(FakeDisk::new(foo(alloc)?, Difference::Unknown(unknown)))
-}
-
-/// What a walk of `foo` that follows links gives sorted by file name, where the directory at this path vanishes.
-fn sorted_vanishing(alloc: Global, path: &str) -> Result<String, Fail> {
-    let mut disk = vanishing(alloc, path)?;
-    sorted(alloc, &mut disk, "foo", &[Setting::FollowLinks(true)])
-}
-
-/// What a walk of `foo` gives in the disk's order, where the directory at this path vanishes.
-fn unsorted_vanishing(alloc: Global, path: &str) -> Result<String, Fail> {
-    let mut disk = vanishing(alloc, path)?;
-    unsorted(alloc, &mut disk, "foo", &[])
+/// What a row gives.
+fn given_changing(alloc: Global, case: &Case) -> Result<String, Fail> {
+    let difference = difference_of(alloc, case)?;
+    let mut disk = FakeDisk::new(filled(alloc, FOO)?, difference);
+    given(alloc, &mut disk, &case.3, MANY_OPEN)
 }
 
 #[test]
-fn a_directory_may_vanish_before_it_is_opened(rt: HostRuntime) -> Result<(), Fail> {
-    let given = sorted_vanishing(rt.alloc(), "foo/abc")?;
-    let wanted =
-        "0 d foo\n1 d foo/abc\n1 ! IO error for operation on foo/abc: input or output failed\n1 f foo/def\n";
-    check_text(&rt, given.as_str(), wanted);
-    let given = unsorted_vanishing(rt.alloc(), "foo/abc")?;
-    let wanted =
-        "0 d foo\n1 f foo/def\n1 d foo/abc\n1 ! IO error for operation on foo/abc: input or output failed\n";
-    check_text(&rt, given.as_str(), wanted);
-    Ok(())
-}
-
-#[test]
-fn a_root_may_vanish_before_it_is_opened(rt: HostRuntime) -> Result<(), Fail> {
-    let given = unsorted_vanishing(rt.alloc(), "foo")?;
-    let wanted = "0 d foo\n0 ! IO error for operation on foo: input or output failed\n";
-    check_text(&rt, given.as_str(), wanted);
-    Ok(())
-}
-
-/// What a walk of `foo` on one device gives sorted by file name, where it isn't told what stands at this path.
-fn sorted_unknown(alloc: Global, path: &str) -> Result<String, Fail> {
-    let mut disk = unknown(alloc, path)?;
-    sorted(alloc, &mut disk, "foo", &[Setting::SameFileSystem(true)])
-}
-
-#[test]
-fn a_directory_that_vanished_is_foreign(rt: HostRuntime) -> Result<(), Fail> {
-    let given = sorted_unknown(rt.alloc(), "foo/abc")?;
-    let wanted = "0 d foo\n1 d foo/abc\n1 f foo/def\n";
-    check_text(&rt, given.as_str(), wanted);
+fn a_directory_may_vanish_under_a_walk(rt: HostRuntime) -> Result<(), Fail> {
+    for case in CASES {
+        let given = given_changing(rt.alloc(), case)?;
+        check_lines(&rt, case.0, given.as_str(), case.4);
+    }
     Ok(())
 }

@@ -3,8 +3,8 @@
 ghost use Rattle.std.specs.Prelude.{◌≤◌};
 ghost use Rattle.std.specs.Iterator.{IsFinite, size};
 
-use crate::asking::{Setting, asked, check_lines, check_text, push_line, text_of};
-use crate::rows::foo;
+use crate::asking::{MANY_OPEN, Setting, asked, check_lines, push_line};
+use crate::disks::{FOO, filled};
 use mem_io::MemDisk;
 use std::alloc::Global;
 use std::process::Abort;
@@ -42,241 +42,359 @@ fn text_leaving<W: Walk + Drop>(alloc: Global, walk: W, path: &str) -> Result<St
     let mut walk = walk;
     let mut text = String::new(alloc);
     while let Some(item) = walk.next() {
-        push_line(alloc, &mut text, &item, end_of_line(walk.just_entered()))?;
+        push_line(&mut text, &item, end_of_line(walk.just_entered()))?;
         leave_at(&mut walk, &item, path);
     }
     Ok(text)
 }
 
-/// What a walk gives after a directory was left before its first item.
-fn text_after_leaving<W: Walk + Drop>(alloc: Global, walk: W) -> Result<String, Fail>
+/// The same after a directory was left before the first item.
+fn text_after_leaving<W: Walk + Drop>(alloc: Global, walk: W, path: &str) -> Result<String, Fail>
     requires can { W.can_next walk }
     requires ends { IsFinite (W.remaining walk) }
 {
     let mut walk = walk;
     walk.skip_current_dir();
-    text_of(alloc, walk)
+    text_leaving(alloc, walk, path)
 }
 
-/// What `foo` gives sorted by file name under these options, where the directory of an entry of this path is left.
-fn foo_leaving(alloc: Global, settings: &[Setting], path: &str) -> Result<String, Fail> {
-    let walk = asked(alloc, "foo", settings)?.sort_by_file_name();
-    let mut disk = foo(alloc)?;
-    text_leaving(alloc, walk.into_iter(&mut disk), path)
+/// Which entries a filter refuses.
+#[derive(Clone, Copy)]
+enum Refused {
+    /// Those of a name.
+    Named(&'static str),
+    /// The root, where it is a directory.
+    Root,
+    /// Files that don't lie below a directory of the root.
+    FirstFiles,
+    All,
 }
 
-/// `foo` gives this text sorted by file name under these options, where the directory of an entry of this path is left.
-fn check_leaving(
-    rt: &(impl Abort + AllocGlobal),
-    settings: &[Setting],
-    path: &str,
-    wanted: &str,
-) -> Result<(), Fail> {
-    let given = foo_leaving(rt.alloc(), settings, path)?;
-    check_text(rt, given.as_str(), wanted);
-    Ok(())
-}
-
-#[test]
-fn directories_are_left(rt: HostRuntime) -> Result<(), Fail> {
-    let abc = "0 d foo entered\n1 d foo/abc entered\n1 f foo/def\n";
-    let file = "0 d foo entered\n1 d foo/abc entered\n2 f foo/abc/qrs\n1 f foo/def\n";
-    for max_open in [1, 2, 10] {
-        let settings = [Setting::MaxOpen(max_open)];
-        check_leaving(&rt, &settings, "foo/abc", abc)?;
-        check_leaving(&rt, &settings, "foo/abc/qrs", file)?;
-        check_leaving(&rt, &settings, "foo", "0 d foo entered\n")?;
+/// Whether a filter keeps an entry.
+fn keeps(refused: Refused, entry: &DirEntry) -> bool {
+    match refused {
+        Refused::Named(name) => entry.file_name() != name,
+        Refused::Root => !entry.file_type().is_dir() || entry.depth() > 0,
+        Refused::FirstFiles => !entry.file_type().is_file() || entry.depth() > 1,
+        Refused::All => false,
     }
-    Ok(())
 }
 
-#[test]
-fn a_directory_at_the_greatest_depth_counts_as_entered(rt: HostRuntime) -> Result<(), Fail> {
-    let wanted = "0 d foo entered\n1 d foo/abc entered\n1 f foo/def\n";
-    check_leaving(&rt, &[Setting::MaxDepth(1)], "foo/abc", wanted)
+/// How `foo` is walked.
+#[derive(Clone, Copy)]
+enum Way {
+    Sorted,
+    Unsorted,
+    /// In the disk's order, where a directory is left before the first item.
+    LeftFirst,
+    SortedWithout(Refused),
+    Without(Refused),
+    /// Without what a filter refuses, and what a second one does.
+    WithoutBoth(Refused, Refused),
+    /// Without what a filter refuses, where a second one was put on and taken off again.
+    WithinSecond(Refused, Refused),
 }
 
-#[test]
-fn after_its_contents_a_directory_is_left_with_its_siblings(rt: HostRuntime) -> Result<(), Fail> {
-    let wanted = "2 f foo/abc/qrs\n2 f foo/abc/tuv\n1 d foo/abc\n0 d foo\n";
-    check_leaving(&rt, &[Setting::ContentsFirst(true)], "foo/abc", wanted)
-}
-
-/// What `foo` gives down to depth 1 after a directory was left before the first item.
-fn foo_after_leaving(alloc: Global) -> Result<String, Fail> {
-    let walk = asked(alloc, "foo", &[Setting::MaxDepth(1)])?;
-    let mut disk = foo(alloc)?;
-    text_after_leaving(alloc, walk.into_iter(&mut disk))
-}
-
-#[test]
-fn nothing_is_left_before_the_first_item(rt: HostRuntime) -> Result<(), Fail> {
-    let given = foo_after_leaving(rt.alloc())?;
-    check_text(&rt, given.as_str(), "0 d foo\n1 f foo/def\n1 d foo/abc\n");
-    Ok(())
-}
-
-/// What `foo` gives, sorted by file name or in the disk's order, where the directory of an entry of this path is left.
-fn given_leaving(
+/// What `foo` gives sorted by file name, but for what a filter refuses.
+fn sorted(
     alloc: Global,
     disk: &mut MemDisk,
-    sorts: bool,
-    path: &str,
+    row: &Row,
+    max_open: usize,
+    refused: Option<Refused>,
 ) -> Result<String, Fail> {
-    let walk = asked(alloc, "foo", &[])?;
-    if sorts {
-        text_leaving(alloc, walk.sort_by_file_name().into_iter(disk), path)
-    } else {
-        text_leaving(alloc, walk.into_iter(disk), path)
+    let walk = asked(alloc, "foo", row.settings)?.max_open(max_open);
+    let walk = walk.sort_by_file_name().into_iter(disk);
+    match refused {
+        None => text_leaving(alloc, walk, row.left),
+        Some(refused) => text_leaving(
+            alloc,
+            walk.filter_entry(|entry: &DirEntry| keeps(refused, entry)),
+            row.left,
+        ),
     }
+}
+
+/// What `foo` gives in the disk's order, but for what a filter refuses.
+fn unsorted(
+    alloc: Global,
+    disk: &mut MemDisk,
+    row: &Row,
+    max_open: usize,
+    refused: Option<Refused>,
+) -> Result<String, Fail> {
+    let walk = asked(alloc, "foo", row.settings)?.max_open(max_open);
+    let walk = walk.into_iter(disk);
+    match refused {
+        None => text_leaving(alloc, walk, row.left),
+        Some(refused) => text_leaving(
+            alloc,
+            walk.filter_entry(|entry: &DirEntry| keeps(refused, entry)),
+            row.left,
+        ),
+    }
+}
+
+/// What `foo` gives in the disk's order, where a directory is left before the first item.
+fn left_first(
+    alloc: Global,
+    disk: &mut MemDisk,
+    row: &Row,
+    max_open: usize,
+) -> Result<String, Fail> {
+    let walk = asked(alloc, "foo", row.settings)?.max_open(max_open);
+    text_after_leaving(alloc, walk.into_iter(disk), row.left)
+}
+
+/// What `foo` gives in the disk's order, but for what two filters refuse, the second of which may be taken off again.
+fn twice(
+    alloc: Global,
+    disk: &mut MemDisk,
+    row: &Row,
+    max_open: usize,
+    (first, second, takes_off): (Refused, Refused, bool),
+) -> Result<String, Fail> {
+    let walk = asked(alloc, "foo", row.settings)?
+        .max_open(max_open)
+        .into_iter(disk)
+        .filter_entry(|entry: &DirEntry| keeps(first, entry))
+        .filter_entry(|entry: &DirEntry| keeps(second, entry));
+    if takes_off {
+        text_leaving(alloc, walk.into_walk(), row.left)
+    } else {
+        text_leaving(alloc, walk, row.left)
+    }
+}
+
+/// A walk of `foo`, and what it gives, a line an item.
+#[derive(Clone, Copy)]
+struct Row {
+    name: &'static str,
+    way: Way,
+    settings: &'static [Setting],
+    /// The directory of an entry of this path is left.
+    left: &'static str,
+    lines: &'static [&'static str],
+}
+
+/// What a row gives.
+fn given_on(alloc: Global, disk: &mut MemDisk, row: &Row, max_open: usize) -> Result<String, Fail> {
+    match row.way {
+        Way::Sorted => sorted(alloc, disk, row, max_open, None),
+        Way::Unsorted => unsorted(alloc, disk, row, max_open, None),
+        Way::LeftFirst => left_first(alloc, disk, row, max_open),
+        Way::SortedWithout(refused) => sorted(alloc, disk, row, max_open, Some(refused)),
+        Way::Without(refused) => unsorted(alloc, disk, row, max_open, Some(refused)),
+        Way::WithoutBoth(first, second) => twice(
+            alloc,
+            disk,
+            row,
+            max_open,
+            (first, second, false),
+        ),
+        Way::WithinSecond(first, second) => twice(
+            alloc,
+            disk,
+            row,
+            max_open,
+            (first, second, true),
+        ),
+    }
+}
+
+/// What a row gives on a disk of its own, and how many calls that makes.
+fn given(alloc: Global, row: &Row, max_open: usize) -> Result<(String, u64), Fail> {
+    let mut disk = filled(alloc, FOO)?;
+    let given = given_on(alloc, &mut disk, row, max_open)?;
+    Ok((given, disk.calls()))
+}
+
+/// A path of nothing.
+const NONE: &str = "none";
+
+const ROWS: &[Row] = &[
+    Row {
+        name: "a directory is left",
+        way: Way::Sorted,
+        settings: &[],
+        left: "foo/abc",
+        lines: &["0 d foo entered", "1 d foo/abc entered", "1 f foo/def"],
+    },
+    Row {
+        name: "after a file its directory is left",
+        way: Way::Sorted,
+        settings: &[],
+        left: "foo/abc/qrs",
+        lines: &[
+            "0 d foo entered",
+            "1 d foo/abc entered",
+            "2 f foo/abc/qrs",
+            "1 f foo/def",
+        ],
+    },
+    Row {
+        name: "the root is left",
+        way: Way::Sorted,
+        settings: &[],
+        left: "foo",
+        lines: &["0 d foo entered"],
+    },
+    Row {
+        name: "a directory at the greatest depth counts as entered",
+        way: Way::Sorted,
+        settings: &[Setting::MaxDepth(1)],
+        left: "foo/abc",
+        lines: &["0 d foo entered", "1 d foo/abc entered", "1 f foo/def"],
+    },
+    Row {
+        name: "after its contents a directory is left with its siblings",
+        way: Way::Sorted,
+        settings: &[Setting::ContentsFirst(true)],
+        left: "foo/abc",
+        lines: &[
+            "2 f foo/abc/qrs",
+            "2 f foo/abc/tuv",
+            "1 d foo/abc",
+            "0 d foo",
+        ],
+    },
+    Row {
+        name: "nothing is left before the first item",
+        way: Way::LeftFirst,
+        settings: &[Setting::MaxDepth(1)],
+        left: NONE,
+        lines: &["0 d foo entered", "1 f foo/def", "1 d foo/abc entered"],
+    },
+    Row {
+        name: "a filter refuses nothing",
+        way: Way::SortedWithout(Refused::Named("none")),
+        settings: &[],
+        left: NONE,
+        lines: &[
+            "0 d foo entered",
+            "1 d foo/abc entered",
+            "2 f foo/abc/qrs",
+            "2 f foo/abc/tuv",
+            "1 f foo/def",
+        ],
+    },
+    Row {
+        name: "a filter leaves what lies below a refused directory",
+        way: Way::SortedWithout(Refused::Named("abc")),
+        settings: &[],
+        left: NONE,
+        lines: &["0 d foo entered", "1 f foo/def"],
+    },
+    Row {
+        name: "a filter refuses a file",
+        way: Way::SortedWithout(Refused::Named("qrs")),
+        settings: &[],
+        left: NONE,
+        lines: &[
+            "0 d foo entered",
+            "1 d foo/abc entered",
+            "2 f foo/abc/tuv",
+            "1 f foo/def",
+        ],
+    },
+    Row {
+        name: "a filter refuses the root",
+        way: Way::SortedWithout(Refused::Named("foo")),
+        settings: &[],
+        left: NONE,
+        lines: &[],
+    },
+    Row {
+        name: "a filter under contents first refuses the directory alone",
+        way: Way::SortedWithout(Refused::Named("abc")),
+        settings: &[Setting::ContentsFirst(true)],
+        left: NONE,
+        lines: &[
+            "2 f foo/abc/qrs",
+            "2 f foo/abc/tuv",
+            "1 f foo/def",
+            "0 d foo",
+        ],
+    },
+    Row {
+        name: "a filter may refuse everything",
+        way: Way::Without(Refused::All),
+        settings: &[],
+        left: NONE,
+        lines: &[],
+    },
+    Row {
+        name: "a filter under contents first may refuse everything",
+        way: Way::Without(Refused::All),
+        settings: &[Setting::ContentsFirst(true)],
+        left: NONE,
+        lines: &[],
+    },
+    Row {
+        name: "a filter stands on a filter, and refuses the root",
+        way: Way::WithoutBoth(Refused::Named("qrs"), Refused::Root),
+        settings: &[],
+        left: NONE,
+        lines: &[],
+    },
+    Row {
+        name: "a filter is taken off again",
+        way: Way::WithinSecond(Refused::Named("qrs"), Refused::FirstFiles),
+        settings: &[],
+        left: NONE,
+        lines: &[
+            "0 d foo entered",
+            "1 f foo/def",
+            "1 d foo/abc entered",
+            "2 f foo/abc/tuv",
+        ],
+    },
+    Row {
+        name: "a directory of a filtered walk is left",
+        way: Way::Without(Refused::Named("def")),
+        settings: &[],
+        left: "foo/abc",
+        lines: &["0 d foo entered", "1 d foo/abc entered"],
+    },
+];
+
+/// A row gives its lines, whatever the bound on open lists.
+fn check(rt: &(impl Abort + AllocGlobal), row: &Row) -> Result<(), Fail> {
+    for max_open in [1, 2, MANY_OPEN] {
+        let (given, _) = given(rt.alloc(), row, max_open)?;
+        check_lines(rt, row.name, given.as_str(), row.lines);
+    }
+    Ok(())
+}
+
+#[test]
+fn directories_are_left_and_walks_are_filtered(rt: HostRuntime) -> Result<(), Fail> {
+    for row in ROWS {
+        check(&rt, row)?;
+    }
+    Ok(())
 }
 
 /// How many calls a walk of `foo` makes, where the directory of an entry of this path is left.
-fn calls_leaving(alloc: Global, sorts: bool, path: &str) -> Result<u64, Fail> {
-    let mut disk = foo(alloc)?;
-    let _given = given_leaving(alloc, &mut disk, sorts, path)?;
-    Ok(disk.calls())
+fn calls_leaving(alloc: Global, way: Way, left: &'static str) -> Result<u64, Fail> {
+    let row = Row {
+        name: "",
+        way,
+        settings: &[],
+        left,
+        lines: &[],
+    };
+    let (_, calls) = given(alloc, &row, MANY_OPEN)?;
+    Ok(calls)
 }
 
 #[test]
 fn a_directory_that_is_left_is_not_opened(rt: HostRuntime) -> Result<(), Fail> {
-    for sorts in [false, true] {
-        let read = calls_leaving(rt.alloc(), sorts, "none")?;
-        let left = calls_leaving(rt.alloc(), sorts, "foo/abc")?;
+    for way in [Way::Unsorted, Way::Sorted] {
+        let read = calls_leaving(rt.alloc(), way, NONE)?;
+        let left = calls_leaving(rt.alloc(), way, "foo/abc")?;
         // one call opens its list, two give its entries, and one tells its end
-        assert_eq!(rt; read, left.saturating_add(4), "sorted: {sorts}");
+        assert_eq!(rt; read, left.saturating_add(4));
     }
-    Ok(())
-}
-
-/// What `foo` gives without entries of a name, sorted by file name under these options.
-fn text_without(
-    alloc: Global,
-    disk: &mut MemDisk,
-    settings: &[Setting],
-    name: &str,
-) -> Result<String, Fail> {
-    let walk = asked(alloc, "foo", settings)?
-        .sort_by_file_name()
-        .into_iter(disk)
-        .filter_entry(|entry: &DirEntry| entry.file_name() != name);
-    text_of(alloc, walk)
-}
-
-/// A filter on names gives these lines of `foo`, sorted by file name under these options.
-fn check_without(
-    rt: &(impl Abort + AllocGlobal),
-    settings: &[Setting],
-    name: &str,
-    lines: &[&str],
-) -> Result<(), Fail> {
-    let mut disk = foo(rt.alloc())?;
-    let given = text_without(rt.alloc(), &mut disk, settings, name)?;
-    check_lines(rt, given.as_str(), lines);
-    Ok(())
-}
-
-#[test]
-fn filters_leave_what_lies_below_a_refused_directory(rt: HostRuntime) -> Result<(), Fail> {
-    let whole = [
-        "0 d foo",
-        "1 d foo/abc",
-        "2 f foo/abc/qrs",
-        "2 f foo/abc/tuv",
-        "1 f foo/def",
-    ];
-    check_without(&rt, &[], "none", &whole)?;
-    check_without(&rt, &[], "abc", &["0 d foo", "1 f foo/def"])?;
-    let rest = ["0 d foo", "1 d foo/abc", "2 f foo/abc/tuv", "1 f foo/def"];
-    check_without(&rt, &[], "qrs", &rest)?;
-    check_without(&rt, &[], "foo", &[])
-}
-
-#[test]
-fn filters_under_contents_first_refuse_the_directory_alone(rt: HostRuntime) -> Result<(), Fail> {
-    let lines = [
-        "2 f foo/abc/qrs",
-        "2 f foo/abc/tuv",
-        "1 f foo/def",
-        "0 d foo",
-    ];
-    for max_open in [1, 2, 10] {
-        let settings = [Setting::ContentsFirst(true), Setting::MaxOpen(max_open)];
-        check_without(&rt, &settings, "abc", &lines)?;
-    }
-    Ok(())
-}
-
-/// What `foo` gives where a filter refuses everything.
-fn text_of_nothing(
-    alloc: Global,
-    disk: &mut MemDisk,
-    contents_first: bool,
-) -> Result<String, Fail> {
-    let walk = asked(alloc, "foo", &[Setting::ContentsFirst(contents_first)])?
-        .into_iter(disk)
-        .filter_entry(|_: &DirEntry| false);
-    text_of(alloc, walk)
-}
-
-#[test]
-fn filters_may_refuse_everything(rt: HostRuntime) -> Result<(), Fail> {
-    for contents_first in [false, true] {
-        let mut disk = foo(rt.alloc())?;
-        let given = text_of_nothing(rt.alloc(), &mut disk, contents_first)?;
-        check_text(&rt, given.as_str(), "");
-    }
-    Ok(())
-}
-
-/// What `foo` gives without `qrs`, and where a second filter refuses the root.
-fn text_without_root(alloc: Global, disk: &mut MemDisk) -> Result<String, Fail> {
-    let walk = asked(alloc, "foo", &[])?
-        .into_iter(disk)
-        .filter_entry(|entry: &DirEntry| entry.file_name() != "qrs")
-        .filter_entry(|entry: &DirEntry| !entry.file_type().is_dir() || entry.depth() > 0);
-    text_of(alloc, walk)
-}
-
-/// What `foo` gives without `qrs`, where a second filter was put on and taken off again.
-fn text_within_filter(alloc: Global, disk: &mut MemDisk) -> Result<String, Fail> {
-    let walk = asked(alloc, "foo", &[])?
-        .into_iter(disk)
-        .filter_entry(|entry: &DirEntry| entry.file_name() != "qrs")
-        .filter_entry(|entry: &DirEntry| !entry.file_type().is_file() || entry.depth() > 1)
-        .into_walk();
-    text_of(alloc, walk)
-}
-
-/// `foo` gives nothing where a second filter refuses the root, and all but `qrs` where that is taken off again.
-fn check_filters(rt: &(impl Abort + AllocGlobal), disk: &mut MemDisk) -> Result<(), Fail> {
-    let given = text_without_root(rt.alloc(), disk)?;
-    check_text(rt, given.as_str(), "");
-    let given = text_within_filter(rt.alloc(), disk)?;
-    let wanted = "0 d foo\n1 f foo/def\n1 d foo/abc\n2 f foo/abc/tuv\n";
-    check_text(rt, given.as_str(), wanted);
-    Ok(())
-}
-
-#[test]
-fn filters_stand_on_filters(rt: HostRuntime) -> Result<(), Fail> {
-    let mut disk = foo(rt.alloc())?;
-    check_filters(&rt, &mut disk)
-}
-
-/// What `foo` gives without `def`, where the directory of an entry of this path is left.
-fn filtered_leaving(alloc: Global, disk: &mut MemDisk, path: &str) -> Result<String, Fail> {
-    let walk = asked(alloc, "foo", &[])?
-        .into_iter(disk)
-        .filter_entry(|entry: &DirEntry| entry.file_name() != "def");
-    text_leaving(alloc, walk, path)
-}
-
-#[test]
-fn directories_of_filtered_walks_are_left(rt: HostRuntime) -> Result<(), Fail> {
-    let mut disk = foo(rt.alloc())?;
-    let given = filtered_leaving(rt.alloc(), &mut disk, "foo/abc")?;
-    let wanted = "0 d foo entered\n1 d foo/abc entered\n";
-    check_text(&rt, given.as_str(), wanted);
     Ok(())
 }

@@ -7,6 +7,10 @@
 #[cfg(test)]
 mod asking;
 #[cfg(test)]
+mod calls;
+#[cfg(test)]
+mod disks;
+#[cfg(test)]
 mod entries;
 #[cfg(test)]
 mod failing;
@@ -17,6 +21,8 @@ mod filters;
 #[cfg(test)]
 mod links;
 #[cfg(test)]
+mod orders;
+#[cfg(test)]
 mod random;
 #[cfg(test)]
 mod roots;
@@ -24,3 +30,5 @@ mod roots;
 mod rows;
 #[cfg(test)]
 mod trees;
+#[cfg(test)]
+mod worked;

@@ -2,64 +2,15 @@
 
 ghost use Rattle.std.specs.Iterator.{IsFinite};
 
-use crate::asking::{asked, check_lists, line};
-use crate::trees::{Question, Random, random_question, random_tree};
+use crate::asking::{Question, asked, check_lists, failures_in, given};
+use crate::trees::{Random, RandomQuestion, random_question, random_tree};
 use mem_io::MemDisk;
 use sd_io::Disk;
-use std::alloc::{AllocError, Global};
+use std::alloc::Global;
 use std::ops::Range;
 use std::process::Abort;
 use std::test::Fail;
-use walkdir::{DirEntry, Error, Walk};
-
-/// What a walk gave: the lines of its items but those of failures, and how many failures it told.
-#[derive(Drop)]
-struct Answer {
-    lines: Vec<String>,
-    failures: u64,
-}
-
-impl Answer {
-    /// Adds an item.
-    fn add(&mut self, alloc: Global, item: &Result<DirEntry, Error>) -> Result<(), Fail> {
-        if matches!(item, Err(Error::Disk { .. })) {
-            self.failures = self.failures.saturating_add(1);
-            return Ok(());
-        }
-        self.lines.push(line(alloc, item)?)?;
-        Ok(())
-    }
-}
-
-/// What a walk gives.
-fn items_of<W: Walk + Drop>(alloc: Global, walk: W) -> Result<Answer, Fail>
-    requires can { W.can_next walk }
-    requires ends { IsFinite (W.remaining walk) }
-{
-    let mut answer = Answer {
-        lines: Vec::new(alloc),
-        failures: 0,
-    };
-    for item in walk {
-        answer.add(alloc, &item)?;
-    }
-    Ok(answer)
-}
-
-/// What is given, with so many lists open at most.
-fn answered(
-    alloc: Global,
-    disk: &mut MemDisk,
-    question: &Question,
-    max_open: usize,
-) -> Result<Answer, Fail> {
-    let walk = asked(alloc, question.root, &question.settings)?.max_open(max_open);
-    if question.sorts {
-        items_of(alloc, walk.sort_by_file_name().into_iter(disk))
-    } else {
-        items_of(alloc, walk.into_iter(disk))
-    }
-}
+use walkdir::Walk;
 
 /// Takes some items of a walk, and closes it: after an even number for good, else its lists alone.
 fn close_after<W: Walk + Drop>(walk: W, items: u64)
@@ -81,11 +32,11 @@ fn close_after<W: Walk + Drop>(walk: W, items: u64)
 fn closed(
     alloc: Global,
     disk: &mut MemDisk,
-    question: &Question,
+    question: &Question<'_>,
     max_open: usize,
     items: u64,
 ) -> Result<(), Fail> {
-    let walk = asked(alloc, question.root, &question.settings)?.max_open(max_open);
+    let walk = asked(alloc, question.root, question.settings)?.max_open(max_open);
     if question.sorts {
         close_after(walk.sort_by_file_name().into_iter(disk), items);
     } else {
@@ -94,17 +45,20 @@ fn closed(
     Ok(())
 }
 
-/// Whether some lines stand among others in their order.
-fn stand_among(lines: &[String], others: &[String]) -> bool {
-    let mut rest = lines;
-    for other in others {
-        if let Some((first, later)) = rest.split_first()
-            && first.as_str() == other.as_str()
-        {
-            rest = later;
+/// Whether a line tells a failure of the disk.
+fn is_failure(line: &str) -> bool {
+    line.ends_with("input or output failed")
+}
+
+/// Whether the lines of a text but those of failures stand among those of another in their order.
+fn stand_among(text: &str, other: &str) -> bool {
+    let mut rest = other.lines();
+    for line in text.lines() {
+        if !is_failure(line) && !rest.any(|later| later == line) {
+            return false;
         }
     }
-    rest.is_empty()
+    true
 }
 
 /// How many lists a disk has open: so many fewer than ever are opened before there are more than ever.
@@ -120,7 +74,7 @@ fn lists_open(disk: &mut MemDisk) -> Result<u64, Fail> {
 }
 
 /// The tree of a seed, and what is asked of it.
-fn world(alloc: Global, seed: u64) -> Result<(MemDisk, Question), Fail> {
+fn world(alloc: Global, seed: u64) -> Result<(MemDisk, RandomQuestion), Fail> {
     let mut random = Random::new(seed);
     let disk = random_tree(alloc, &mut random)?;
     Ok((disk, random_question(&mut random)))
@@ -130,13 +84,13 @@ fn world(alloc: Global, seed: u64) -> Result<(MemDisk, Question), Fail> {
 fn check_bound(
     rt: &(impl Abort + AllocGlobal),
     disk: &mut MemDisk,
-    question: &Question,
+    question: &Question<'_>,
     max_open: usize,
-    whole: &[String],
+    whole: &str,
 ) -> Result<(), Fail> {
-    let given = answered(rt.alloc(), disk, question, max_open)?;
-    assert!(rt; given.lines.as_slice() == whole, "{max_open} open");
-    assert_eq!(rt; given.failures, 0, "{max_open} open");
+    let given = given(rt.alloc(), disk, question, max_open)?;
+    assert!(rt; given.as_str() == whole, "{max_open} open");
+    assert_eq!(rt; failures_in(whole), 0, "{max_open} open");
     check_lists(rt, disk, max_open as u64);
     Ok(())
 }
@@ -145,11 +99,11 @@ fn check_bound(
 fn check_all_bounds(
     rt: &(impl Abort + AllocGlobal),
     disk: &mut MemDisk,
-    question: &Question,
+    question: &Question<'_>,
 ) -> Result<(), Fail> {
-    let whole = answered(rt.alloc(), disk, question, 1)?;
+    let whole = given(rt.alloc(), disk, question, 1)?;
     for max_open in [1, 2, 3, 10] {
-        check_bound(rt, disk, question, max_open, &whole.lines)?;
+        check_bound(rt, disk, question, max_open, whole.as_str())?;
     }
     Ok(())
 }
@@ -164,7 +118,7 @@ fn check_closed(rt: &(impl Abort + AllocGlobal), disk: &mut MemDisk) -> Result<(
 /// Where no call fails, the same is given whatever the bound on open lists, which is kept, and no list stays open.
 fn check_bounds(rt: &(impl Abort + AllocGlobal), seed: u64) -> Result<(), Fail> {
     let (mut disk, question) = world(rt.alloc(), seed)?;
-    check_all_bounds(rt, &mut disk, &question)?;
+    check_all_bounds(rt, &mut disk, &question.as_asked())?;
     check_closed(rt, &mut disk)
 }
 
@@ -179,17 +133,17 @@ fn make_calls(disk: &mut MemDisk, calls: u64) {
 fn check_failure(
     rt: &(impl Abort + AllocGlobal),
     disk: &mut MemDisk,
-    question: &Question,
+    question: &Question<'_>,
     max_open: usize,
-    whole: &[String],
+    whole: &str,
     call: u64,
 ) -> Result<(), Fail> {
     let faults = disk.faults();
     disk.fail_at(disk.calls().saturating_add(call))?;
-    let given = answered(rt.alloc(), disk, question, max_open)?;
+    let given = given(rt.alloc(), disk, question, max_open)?;
     let counted = disk.faults().saturating_sub(faults);
     assert!(rt;
-        given.failures == counted && stand_among(&given.lines, whole),
+        failures_in(given.as_str()) == counted && stand_among(given.as_str(), whole),
         "{max_open} open, call {call}"
     );
     Ok(())
@@ -199,7 +153,7 @@ fn check_failure(
 fn close_failing(
     alloc: Global,
     disk: &mut MemDisk,
-    question: &Question,
+    question: &Question<'_>,
     max_open: usize,
     call: u64,
 ) -> Result<(), Fail> {
@@ -213,12 +167,12 @@ fn close_failing(
 fn check_each_failure(
     rt: &(impl Abort + AllocGlobal),
     disk: &mut MemDisk,
-    question: &Question,
+    question: &Question<'_>,
     max_open: usize,
 ) -> Result<(), Fail> {
-    let whole = answered(rt.alloc(), disk, question, max_open)?;
+    let whole = given(rt.alloc(), disk, question, max_open)?;
     for call in 1..=disk.calls() {
-        check_failure(rt, disk, question, max_open, &whole.lines, call)?;
+        check_failure(rt, disk, question, max_open, whole.as_str(), call)?;
         close_failing(rt.alloc(), disk, question, max_open, call)?;
     }
     Ok(())
@@ -227,7 +181,7 @@ fn check_each_failure(
 /// With each call of a walk failing in turn, the bound on open lists is kept, and no list stays open.
 fn check_failures(rt: &(impl Abort + AllocGlobal), seed: u64, max_open: usize) -> Result<(), Fail> {
     let (mut disk, question) = world(rt.alloc(), seed)?;
-    check_each_failure(rt, &mut disk, &question, max_open)?;
+    check_each_failure(rt, &mut disk, &question.as_asked(), max_open)?;
     check_lists(rt, &disk, max_open as u64);
     check_closed(rt, &mut disk)
 }

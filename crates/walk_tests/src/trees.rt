@@ -2,7 +2,7 @@
 
 ghost use Rattle.std.specs.Prelude.{◌<◌};
 
-use crate::asking::Setting;
+use crate::asking::{Question, Setting};
 use mem_io::MemDisk;
 use std::alloc::{AllocError, Global};
 use std::test::Fail;
@@ -127,16 +127,27 @@ fn add(
     Ok(false)
 }
 
-/// What is walked, and how.
+/// A random question.
 #[derive(Drop)]
-pub(crate) struct Question {
-    pub(crate) root: &'static str,
-    pub(crate) settings: [Setting; 6],
-    pub(crate) sorts: bool,
+pub(crate) struct RandomQuestion {
+    root: &'static str,
+    settings: [Setting; 6],
+    sorts: bool,
+}
+
+impl RandomQuestion {
+    /// As it is asked.
+    pub(crate) fn as_asked(&self) -> Question<'_> {
+        Question {
+            root: self.root,
+            settings: &self.settings,
+            sorts: self.sorts,
+        }
+    }
 }
 
 /// A random root with random options.
-pub(crate) fn random_question(random: &mut Random) -> Question {
+pub(crate) fn random_question(random: &mut Random) -> RandomQuestion {
     let depths = [usize::MAX, usize::MAX, 3, 2, 1];
     let most = depths[random.below(5) as usize];
     let roots = ["/r", "/r", "/l", "/", "r/", "/none"];
@@ -149,7 +160,7 @@ pub(crate) fn random_question(random: &mut Random) -> Question {
         Setting::ContentsFirst(random.yes_or_no()),
         Setting::SameFileSystem(random.yes_or_no()),
     ];
-    Question {
+    RandomQuestion {
         root,
         settings,
         sorts: random.yes_or_no(),

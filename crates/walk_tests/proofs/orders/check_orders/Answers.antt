@@ -4,7 +4,7 @@ use Rattle.std.specs.Cmp.{nat_cmp_total}
 use Rattle.std.proofs.lemmas.Cmp.{on_total, back_total}
 use borrow.Author.Tests.{tests}
 use Rattle.walk_rest.specs.declared.entry.DirEntry.{DirEntry}
-use Rattle.walk_rest.proofs.tests.orders_compare.Goals as goal
+use Rattle.walk_tests.proofs.orders.check_orders.Goals as goal
 
 pub answers-by_ino-requires : goal.answers-by_ino-requires
 answers-by_ino-requires g c = (on (λ (entry : DirEntry). entry.ino) nat_cmp, ((λ (entry : DirEntry). entry.ino), (λ entry key returns. search (rules, tests)), refl))
