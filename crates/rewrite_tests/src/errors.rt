@@ -2,6 +2,7 @@
 
 use error_line::{print_shown, print_text};
 use mem_io::MemSink;
+use std::alloc::Global;
 use std::fmt;
 use std::test::Fail;
 
@@ -29,34 +30,69 @@ impl fmt::Display for Failing {
     }
 }
 
+/// Whether an error is printed so into a sink with room for so many bytes, with so many writes that fail.
+fn is_shown(
+    alloc: Global,
+    room: usize,
+    shown: &Repeated,
+    printed: &[u8],
+    faults: u64,
+) -> Result<bool, Fail> {
+    let mut err = MemSink::new(alloc, room)?;
+    let is_ok = print_shown(&mut err, shown).is_ok();
+    Ok(is_ok == (faults == 0) && err.bytes() == printed && err.faults() == faults)
+}
+
+/// The same of a text.
+fn is_printed(
+    alloc: Global,
+    room: usize,
+    text: &str,
+    printed: &[u8],
+    faults: u64,
+) -> Result<bool, Fail> {
+    let mut err = MemSink::new(alloc, room)?;
+    let is_ok = print_text(&mut err, text).is_ok();
+    Ok(is_ok == (faults == 0) && err.bytes() == printed && err.faults() == faults)
+}
+
 #[test]
 fn an_error_is_printed_whole_however_long(rt: HostRuntime) -> Result<(), Fail> {
-    let alloc = rt.alloc();
     for count in [0, 1, 32767, 32768, 32769, 65536, 70000] {
-        let mut err = MemSink::new(alloc, 200_000)?;
         let shown = Repeated(count);
-        assert!(rt; print_shown(&mut err, &shown).is_ok());
-        let line = format!(in alloc; "error: {shown}\n")?;
-        assert!(rt; err.bytes() == line.as_bytes());
-        assert!(rt; err.faults() == 0);
+        let line = format!(in rt.alloc(); "error: {shown}\n")?;
+        let is_shown = is_shown(rt.alloc(), 200_000, &shown, line.as_bytes(), 0)?;
+        assert!(rt; is_shown, "{count} times");
     }
     Ok(())
 }
 
+/// What is printed of a text, and behind it of an error that fails in the middle of its text.
+fn printed_after(alloc: Global) -> Result<Vec<u8>, Fail> {
+    let mut err = MemSink::new(alloc, 100)?;
+    if print_text(&mut err, "out of memory").is_err() || print_shown(&mut err, &Failing).is_err() {
+        return Err("a print failed".into());
+    }
+    Ok(err.bytes().to_vec(alloc)?)
+}
+
 #[test]
 fn a_text_is_printed_in_a_line(rt: HostRuntime) -> Result<(), Fail> {
-    let alloc = rt.alloc();
-    let mut err = MemSink::new(alloc, 100)?;
-    assert!(rt; print_text(&mut err, "out of memory").is_ok());
-    assert!(rt; err.bytes() == b"error: out of memory\n".as_slice());
-    assert!(rt; print_shown(&mut err, &Failing).is_ok());
-    assert!(rt; err.bytes() == b"error: out of memory\nerror: as far as it goes\n".as_slice());
+    let is_printed = is_printed(
+        rt.alloc(),
+        100,
+        "out of memory",
+        b"error: out of memory\n",
+        0,
+    )?;
+    assert!(rt; is_printed);
+    let both = printed_after(rt.alloc())?;
+    assert!(rt; both.as_slice() == b"error: out of memory\nerror: as far as it goes\n".as_slice());
     Ok(())
 }
 
 #[test]
 fn a_failing_sink_takes_a_prefix_of_the_line(rt: HostRuntime) -> Result<(), Fail> {
-    let alloc = rt.alloc();
     for (room, taken) in [
         (0, ""),
         (3, "err"),
@@ -64,14 +100,10 @@ fn a_failing_sink_takes_a_prefix_of_the_line(rt: HostRuntime) -> Result<(), Fail
         (9, "error: ab"),
         (11, "error: abab"),
     ] {
-        let mut text = MemSink::new(alloc, room)?;
-        assert!(rt; print_text(&mut text, "abab").is_err());
-        assert!(rt; text.bytes() == taken.as_bytes());
-        assert!(rt; text.faults() == 1);
-        let mut shown = MemSink::new(alloc, room)?;
-        assert!(rt; print_shown(&mut shown, &Repeated(2)).is_err());
-        assert!(rt; shown.bytes() == taken.as_bytes());
-        assert!(rt; shown.faults() == 1);
+        let is_printed = is_printed(rt.alloc(), room, "abab", taken.as_bytes(), 1)?;
+        assert!(rt; is_printed, "room for {room}");
+        let is_shown = is_shown(rt.alloc(), room, &Repeated(2), taken.as_bytes(), 1)?;
+        assert!(rt; is_shown, "room for {room}");
     }
     Ok(())
 }
