@@ -44,84 +44,123 @@ const NO_PLANS: [&str; 22] = [
     "sd-plan 1\r\nba7816bf8f01cfea414140de5dae2223b00361a396177a9cb410ff61f20015ad e3b0c44298fc1c149afbf4c8996fb92427ae41e4649b934ca495991b7852b855 + 1 /t/x\r\nchosen 1, changed 1, replaced 1\r\n",
 ];
 
+/// Plans that are read, and how many lines there are, what is told of the first, and how many spans are replaced.
+const PLANS: &[(&str, usize, &str, u128)] = &[
+    ("sd-plan 1\nchosen 0, changed 0, replaced 0\n", 0, "", 0),
+    (
+        ONE_LINE,
+        1,
+        "ba7816bf8f01cfea414140de5dae2223b00361a396177a9cb410ff61f20015ad e3b0c44298fc1c149afbf4c8996fb92427ae41e4649b934ca495991b7852b855 true 1 /t/x",
+        1,
+    ),
+    (
+        ODD_LINES,
+        2,
+        "e3b0c44298fc1c149afbf4c8996fb92427ae41e4649b934ca495991b7852b855 e3b0c44298fc1c149afbf4c8996fb92427ae41e4649b934ca495991b7852b855 false 0 /t/a b\\c\nd",
+        u128::MAX,
+    ),
+];
+
 #[test]
 fn digests_are_those_of_the_standard(rt: HostRuntime) -> Result<(), Fail> {
     let abc = digest(b"abc");
-    let shown = format!(in rt.alloc(); "{abc}")?;
-    assert_eq!(rt; shown.as_str(), ABC);
     let empty = digest(b"");
-    let shown = format!(in rt.alloc(); "{empty}")?;
-    assert_eq!(rt; shown.as_str(), EMPTY);
+    let shown = format!(in rt.alloc(); "{abc} {empty}")?;
+    let wanted = format!(in rt.alloc(); "{ABC} {EMPTY}")?;
+    assert_eq!(rt; shown.as_str(), wanted.as_str());
     assert_eq!(rt; Digest::from_slice(abc.as_bytes()), abc);
     Ok(())
 }
 
-#[test]
-fn a_plan_of_one_line_is_written_and_read(rt: HostRuntime) -> Result<(), Fail> {
-    let mut plan = Plan::new(rt.alloc());
+/// A plan to make `/t/x` empty.
+fn plan_of_one(alloc: Global) -> Result<Plan, Fail> {
+    let path = Text::new(alloc, "/t/x")?;
+    let mut plan = Plan::new(alloc);
     plan.push(PlanLine {
         before: digest(b"abc"),
         after: digest(b""),
         changed: true,
         replaced: 1,
-        path: Text::new(rt.alloc(), "/t/x")?,
+        path,
     })?;
-    let text = write_plan(rt.alloc(), &plan)?;
+    Ok(plan)
+}
+
+/// A plan as it is written.
+fn text_of(alloc: Global, plan: &Plan) -> Result<Vec<u8>, Fail> {
+    Ok(write_plan(alloc, plan)?)
+}
+
+/// The text of a plan to make `/t/x` empty.
+fn written(alloc: Global) -> Result<Vec<u8>, Fail> {
+    let plan = plan_of_one(alloc)?;
+    text_of(alloc, &plan)
+}
+
+#[test]
+fn a_plan_of_one_line_is_written(rt: HostRuntime) -> Result<(), Fail> {
+    let text = written(rt.alloc())?;
     assert_eq!(rt; text.as_slice(), ONE_LINE.as_bytes());
-    let read = read_plan(rt.alloc(), &text)?;
-    assert_eq!(rt; read.len(), 1);
-    let line = read.get(0);
-    assert_eq!(rt; line.before, digest(b"abc"));
-    assert_eq!(rt; line.after, digest(b""));
-    assert!(rt; line.changed);
-    assert_eq!(rt; line.replaced, 1);
-    assert_eq!(rt; line.path.as_str(), "/t/x");
     Ok(())
 }
 
-/// What is read of a text is written as that text.
-fn written_again(rt: &impl Abort, alloc: Global, text: &str) -> Result<(), Fail> {
-    let plan = read_plan(alloc, text.as_bytes())?;
-    let again = write_plan(alloc, &plan)?;
+/// What is told of the first line of a plan.
+fn first_told(alloc: Global, plan: &Plan) -> Result<String, Fail> {
+    let Some(line) = plan.lines().first() else {
+        return Ok(String::new(alloc));
+    };
+    let PlanLine {
+        before,
+        after,
+        changed,
+        replaced,
+        path,
+    } = line;
+    let path = path.as_str();
+    Ok(format!(in alloc; "{before} {after} {changed} {replaced} {path}")?)
+}
+
+/// Reads a plan. Callers are told nothing of it, so that they are quickly proved.
+fn read(alloc: Global, text: &[u8]) -> Result<Plan, PlanFault> {
+    read_plan(alloc, text)
+}
+
+/// A plan is written as this text, and tells this.
+fn check_plan(
+    rt: &(impl Abort + AllocGlobal),
+    plan: &Plan,
+    (text, lines, first, replaced): &(&str, usize, &str, u128),
+) -> Result<(), Fail> {
+    let again = text_of(rt.alloc(), plan)?;
     assert_eq!(rt; again.as_slice(), text.as_bytes());
+    let told = first_told(rt.alloc(), plan)?;
+    assert_eq!(rt; told.as_str(), *first);
+    assert_eq!(rt; plan.len(), *lines);
+    assert_eq!(rt; plan.replaced(), *replaced);
     Ok(())
 }
 
 #[test]
 fn what_is_read_is_written_again(rt: HostRuntime) -> Result<(), Fail> {
-    written_again(
-        &rt,
-        rt.alloc(),
-        "sd-plan 1\nchosen 0, changed 0, replaced 0\n",
-    )?;
-    written_again(&rt, rt.alloc(), ONE_LINE)?;
-    written_again(&rt, rt.alloc(), ODD_LINES)?;
-    let plan = read_plan(rt.alloc(), ODD_LINES.as_bytes())?;
-    assert_eq!(rt; plan.len(), 2);
-    assert_eq!(rt; plan.get(0).path.as_str(), "/t/a b\\c\nd");
-    assert!(rt; !plan.get(0).changed);
-    assert_eq!(rt; plan.replaced(), u128::MAX);
+    for wanted in PLANS {
+        let plan = read(rt.alloc(), wanted.0.as_bytes())?;
+        check_plan(&rt, &plan, wanted)?;
+    }
     Ok(())
 }
 
-/// No plan is read.
-fn is_no_plan(rt: &impl Abort, alloc: Global, text: &[u8]) {
-    match read_plan(alloc, text) {
-        Ok(_) => panic!(rt; "a plan"),
-        Err(fault) => assert_eq!(rt; fault, PlanFault::NotAPlan),
-    }
+/// Whether a text is refused as that of no plan.
+fn is_refused(alloc: Global, text: &[u8]) -> bool {
+    matches!(read(alloc, text), Err(PlanFault::NotAPlan))
 }
 
 #[test]
 fn texts_of_no_plan_are_refused(rt: HostRuntime) {
     for text in NO_PLANS {
-        is_no_plan(&rt, rt.alloc(), text.as_bytes());
+        assert!(rt; is_refused(rt.alloc(), text.as_bytes()), "{text}");
     }
-    is_no_plan(
-        &rt,
-        rt.alloc(),
-        b"sd-plan 1\n\xff\nchosen 0, changed 0, replaced 0\n",
-    );
+    let no_text = b"sd-plan 1\n\xff\nchosen 0, changed 0, replaced 0\n";
+    assert!(rt; is_refused(rt.alloc(), no_text));
 }
 
 #[test]
