@@ -26,13 +26,33 @@ const TWO_FILES: Nodes = &[
 /// The mode of each file.
 const MODE: u32 = 0o640;
 
+/// Adds a folder to a disk.
+fn add_folder(disk: &mut MemDisk, path: &str) -> Result<(), BuildFault> {
+    disk.add_dir(path)
+}
+
+/// Adds a file to a disk.
+fn add_file(disk: &mut MemDisk, path: &str, bytes: &[u8]) -> Result<(), BuildFault> {
+    disk.add_file(path, bytes, MODE)
+}
+
+/// Adds a link to a disk.
+fn add_link(disk: &mut MemDisk, path: &str, target: &str) -> Result<(), BuildFault> {
+    disk.add_link(path, target)
+}
+
+/// Adds something else to a disk.
+fn add_other(disk: &mut MemDisk, path: &str) -> Result<(), BuildFault> {
+    disk.add_other(path)
+}
+
 /// Adds a node to a disk.
 fn add(disk: &mut MemDisk, path: &str, node: &Node) -> Result<(), BuildFault> {
     match node {
-        Node::Folder => disk.add_dir(path),
-        Node::File(bytes) => disk.add_file(path, bytes, MODE),
-        Node::Link(target) => disk.add_link(path, target),
-        Node::Other => disk.add_other(path),
+        Node::Folder => add_folder(disk, path),
+        Node::File(bytes) => add_file(disk, path, bytes),
+        Node::Link(target) => add_link(disk, path, target),
+        Node::Other => add_other(disk, path),
     }
 }
 
