@@ -26,14 +26,39 @@ pub(crate) const FOO: Nodes = &[
     ("foo/abc/qrs", Node::File(b"")),
 ];
 
+/// Adds a folder to a disk.
+fn add_folder(disk: &mut MemDisk, path: &str) -> Result<(), BuildFault> {
+    disk.add_dir(path)
+}
+
+/// Adds a file to a disk.
+fn add_file(disk: &mut MemDisk, path: &str, bytes: &[u8]) -> Result<(), BuildFault> {
+    disk.add_file(path, bytes, 0o640)
+}
+
+/// Adds a link to a disk.
+fn add_link(disk: &mut MemDisk, path: &str, target: &str) -> Result<(), BuildFault> {
+    disk.add_link(path, target)
+}
+
+/// Adds something else to a disk.
+fn add_other(disk: &mut MemDisk, path: &str) -> Result<(), BuildFault> {
+    disk.add_other(path)
+}
+
+/// Gives what stands at a path another device.
+fn set_device(disk: &mut MemDisk, path: &str, device: u64) -> Result<(), BuildFault> {
+    disk.set_dev(path, device)
+}
+
 /// Adds a node to a disk.
 fn add(disk: &mut MemDisk, path: &str, node: &Node) -> Result<(), BuildFault> {
     match node {
-        Node::Folder => disk.add_dir(path),
-        Node::File(bytes) => disk.add_file(path, bytes, 0o640),
-        Node::Link(target) => disk.add_link(path, target),
-        Node::Other => disk.add_other(path),
-        Node::Device(device) => disk.set_dev(path, *device),
+        Node::Folder => add_folder(disk, path),
+        Node::File(bytes) => add_file(disk, path, bytes),
+        Node::Link(target) => add_link(disk, path, target),
+        Node::Other => add_other(disk, path),
+        Node::Device(device) => set_device(disk, path, *device),
     }
 }
 
