@@ -1,4 +1,5 @@
-//! The search for a pattern.
+//! The search for a pattern: bounded backtracking over blocks of places, and Pike's virtual machine place by place for a pattern without a
+//! filter or of more than 256 spots.
 //!
 //! A [`Searcher`] finds a pattern's matches in texts, and [`Slots`] hold the groups of a match. What a pattern is, and what it
 //! matches, says the crate `hir_tree`, which is passed on here.

@@ -1,4 +1,4 @@
-//! The program of a pattern, and its filter.
+//! The program of a pattern, as Pike's virtual machine runs one, and its filter: shift-and behind a rare-byte prefilter.
 //!
 //! A pattern's tree is laid as a program of [`Spot`]s, which the search follows. A [`Scan`] tells the next place where a match may
 //! begin, and what may go on at a place. What a pattern is, and what it matches, says the crate `hir_tree`.
