@@ -160,20 +160,10 @@ fn swept_by(
     replacer: &Replacer,
 ) -> Result<String, Error> {
     let globs = all_files(alloc)?;
-    let answer = answer_by(alloc, disk, root, &globs, cap, replacer);
-    text_of(alloc, &answer)
-}
-
-/// What a command on a tree answers.
-fn answer_by(
-    alloc: Global,
-    disk: &mut MemDisk,
-    root: &str,
-    globs: &Globs,
-    cap: u64,
-    replacer: &Replacer,
-) -> Result<Report, sd_core::Error> {
-    sweep_capped(alloc, disk, root, globs, replacer, cap.max(1))
+    text_of(
+        alloc,
+        sweep_capped(alloc, disk, root, &globs, replacer, cap.max(1)),
+    )
 }
 
 /// The glob that all files fit.
@@ -184,7 +174,7 @@ fn all_files(alloc: Global) -> Result<Globs, Error> {
 }
 
 /// What is told of a command: its counts, or the text of its fault.
-fn text_of(alloc: Global, answer: &Result<Report, sd_core::Error>) -> Result<String, Error> {
+fn text_of(alloc: Global, answer: Result<Report, sd_core::Error>) -> Result<String, Error> {
     match answer {
         Ok(report) => {
             let (chosen, changed, replaced) = (report.chosen, report.changed, report.replaced);
