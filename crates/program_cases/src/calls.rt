@@ -10,17 +10,22 @@
 //!   list stays open. `open PATH` opens one;
 //! - `create PATH LIKE`, `write PATH BYTES`, `sync PATH`, `rename PATH PATH`, `remove PATH`, `sync_names PATH` and `set_dev PATH NUMBER`
 //!   answer `done`, as do `dir`, `file`, `link` and `other` with the fields that a section has, and `fail CALL` and `stop CALL`;
-//! - `calls`, `faults` and `lists` answer how many there were, `mode PATH` a file's mode or `%none`, `held PATH` its bytes or `%none`.
+//! - `calls`, `faults` and `lists` answer how many there were, `mode PATH` a file's mode or `%none`, `held PATH` its bytes or `%none`;
+//! - `run WORDS` runs a command, and answers its status. `image CHOICE` answers `done`, and the disk is then what a crash leaves by that choice.
+//!   `in_images PATH BYTES` answers in which of the first sixteen images a file holds these bytes, or is absent at `%none`: `none`, `some` or `all`.
 //!
 //! Every call may answer a fault in place of that: `Absent`, `Taken`, `Failed`, `NoMemory`, or the text of the fault where nothing can be
 //! built.
 
+use crate::images::{become_image, count_in_images};
+use crate::plain;
+use crate::running::run_field;
 use crate::shown::told;
 use crate::tree::{add, disk_of};
 use anyhow::Error;
 use case_reader::{Case, CaseFault, Line};
 use mem_io::{BuildFault, MemDisk};
-use sd_io::{Disk, DiskFault, Ident, Kind, Meta, RawEntry};
+use sd_io::{DiskFault, Ident, Kind, Meta};
 use std::alloc::Global;
 
 /// An answer: bytes, or nothing.
@@ -38,7 +43,7 @@ fn first_otherwise(alloc: Global, case: &Case<'_>, disk: &mut MemDisk) -> Answer
         let Some(line) = case.part(number) else {
             break;
         };
-        if let Some(found) = otherwise(alloc, disk, line)? {
+        if let Some(found) = otherwise(alloc, case, disk, line)? {
             return Ok(Some(found));
         }
     }
@@ -46,8 +51,8 @@ fn first_otherwise(alloc: Global, case: &Case<'_>, disk: &mut MemDisk) -> Answer
 }
 
 /// A call's line and its answer, where that isn't the one that the line ends with.
-fn otherwise(alloc: Global, disk: &mut MemDisk, line: Line<'_>) -> Answer {
-    let found = answer(alloc, disk, line)?;
+fn otherwise(alloc: Global, case: &Case<'_>, disk: &mut MemDisk, line: Line<'_>) -> Answer {
+    let found = answer(alloc, case, disk, line)?;
     if found == line.value(alloc, line.len().saturating_sub(1))? {
         return Ok(None);
     }
@@ -60,23 +65,13 @@ fn otherwise(alloc: Global, disk: &mut MemDisk, line: Line<'_>) -> Answer {
 /// What is called.
 #[derive(Clone, Copy)]
 enum Call {
-    Kind,
-    LinkKind,
-    Len,
-    Dev,
-    Node,
+    Ask(Ask),
+    Act(Act),
     Same,
-    Place,
-    Read,
-    List,
-    First,
-    Open,
+    InImages,
     Create,
     Write,
-    Sync,
     Rename,
-    Remove,
-    SyncNames,
     SetDev,
     Build,
     Fail,
@@ -84,29 +79,54 @@ enum Call {
     Calls,
     Faults,
     Lists,
+    Run,
+    Image,
+}
+
+/// What is told at a path.
+#[derive(Clone, Copy)]
+enum Ask {
+    Kind,
+    LinkKind,
+    Len,
+    Dev,
+    Node,
+    Place,
+    Read,
+    List,
+    First,
     Mode,
     Held,
 }
 
+/// What is done at a path and answers nothing.
+#[derive(Clone, Copy)]
+enum Act {
+    Open,
+    Sync,
+    Remove,
+    SyncNames,
+}
+
 /// The calls and their names.
 const CALLS: &[(&str, Call)] = &[
-    ("kind", Call::Kind),
-    ("link_kind", Call::LinkKind),
-    ("len", Call::Len),
-    ("dev", Call::Dev),
-    ("node", Call::Node),
+    ("kind", Call::Ask(Ask::Kind)),
+    ("link_kind", Call::Ask(Ask::LinkKind)),
+    ("len", Call::Ask(Ask::Len)),
+    ("dev", Call::Ask(Ask::Dev)),
+    ("node", Call::Ask(Ask::Node)),
     ("same", Call::Same),
-    ("place", Call::Place),
-    ("read", Call::Read),
-    ("list", Call::List),
-    ("first", Call::First),
-    ("open", Call::Open),
+    ("place", Call::Ask(Ask::Place)),
+    ("read", Call::Ask(Ask::Read)),
+    ("list", Call::Ask(Ask::List)),
+    ("first", Call::Ask(Ask::First)),
+    ("open", Call::Act(Act::Open)),
     ("create", Call::Create),
     ("write", Call::Write),
-    ("sync", Call::Sync),
+    ("sync", Call::Act(Act::Sync)),
     ("rename", Call::Rename),
-    ("remove", Call::Remove),
-    ("sync_names", Call::SyncNames),
+    ("remove", Call::Act(Act::Remove)),
+    ("sync_names", Call::Act(Act::SyncNames)),
     ("set_dev", Call::SetDev),
     ("dir", Call::Build),
     ("file", Call::Build),
@@ -117,8 +137,11 @@ const CALLS: &[(&str, Call)] = &[
     ("calls", Call::Calls),
     ("faults", Call::Faults),
     ("lists", Call::Lists),
-    ("mode", Call::Mode),
-    ("held", Call::Held),
+    ("mode", Call::Ask(Ask::Mode)),
+    ("held", Call::Ask(Ask::Held)),
+    ("run", Call::Run),
+    ("image", Call::Image),
+    ("in_images", Call::InImages),
 ];
 
 /// The call of a name.
@@ -132,35 +155,101 @@ fn call_of(name: &str) -> Result<Call, CaseFault> {
 }
 
 /// The answer to the call of a line.
-fn answer(alloc: Global, disk: &mut MemDisk, line: Line<'_>) -> Answer {
-    let path = line.text(alloc, 1)?;
+fn answer(alloc: Global, case: &Case<'_>, disk: &mut MemDisk, line: Line<'_>) -> Answer {
     match call_of(line.written(0)?)? {
-        Call::Kind => kind(alloc, disk.stat(&path, true)),
-        Call::LinkKind => kind(alloc, disk.stat(&path, false)),
-        Call::Len => len(alloc, disk.stat(&path, false)),
-        Call::Dev => dev(alloc, disk.ident(&path)),
-        Call::Node => node(alloc, disk.ident(&path)),
-        Call::Same => same(alloc, disk, &path, &line.text(alloc, 2)?),
-        Call::Place => place(alloc, disk, &path),
-        Call::Read => read(alloc, disk, &path),
-        Call::List => list(alloc, disk, &path),
-        Call::First => first(alloc, disk, &path),
-        Call::Open => done(alloc, disk.open_dir(&path).map(|_| ())),
-        Call::Create => done(alloc, disk.create_like(&path, &line.text(alloc, 2)?)),
-        Call::Write => done(alloc, disk.write_file(&path, &line.bytes(alloc, 2)?)),
-        Call::Sync => done(alloc, disk.sync(&path)),
-        Call::Rename => done(alloc, disk.rename(&path, &line.text(alloc, 2)?)),
-        Call::Remove => done(alloc, disk.remove(&path)),
-        Call::SyncNames => done(alloc, disk.sync_dir(&path)),
-        Call::SetDev => built(alloc, set_dev(disk, &path, line)?),
-        Call::Build => build(alloc, disk, line, &path),
+        Call::Ask(what) => told_at(alloc, disk, &line.text(alloc, 1)?, what),
+        Call::Act(what) => done(alloc, do_at(disk, &line.text(alloc, 1)?, what)),
+        Call::Same => same(alloc, disk, line),
+        Call::InImages => in_images(alloc, disk, line),
+        Call::Create => create(alloc, disk, line),
+        Call::Write => write(alloc, disk, line),
+        Call::Rename => rename(alloc, disk, line),
+        Call::SetDev => set_dev(alloc, disk, line),
+        Call::Build => build(alloc, disk, line),
         Call::Fail => fail(alloc, disk, line),
         Call::Stop => stop(alloc, disk, line),
         Call::Calls => number(alloc, disk.calls()),
         Call::Faults => number(alloc, disk.faults()),
         Call::Lists => number(alloc, disk.lists_most()),
-        Call::Mode => mode(alloc, disk.mode_at(&path)),
-        Call::Held => Ok(disk.read_all(alloc, &path)?),
+        Call::Run => ran(alloc, case, disk, line),
+        Call::Image => image(alloc, disk, line),
+    }
+}
+
+/// What is told at a path.
+fn told_at(alloc: Global, disk: &mut MemDisk, path: &str, what: Ask) -> Answer {
+    match what {
+        Ask::Kind => kind(alloc, plain::stat(disk, path, true)),
+        Ask::LinkKind => kind(alloc, plain::stat(disk, path, false)),
+        Ask::Len => len(alloc, plain::stat(disk, path, false)),
+        Ask::Dev => dev(alloc, plain::ident(disk, path)),
+        Ask::Node => node(alloc, plain::ident(disk, path)),
+        Ask::Place => place(alloc, disk, path),
+        Ask::Read => read(alloc, disk, path),
+        Ask::List => list(alloc, disk, path),
+        Ask::First => first(alloc, disk, path),
+        Ask::Mode => mode(alloc, disk.mode_at(path)),
+        Ask::Held => held(alloc, disk, path),
+    }
+}
+
+/// A call of a path that answers nothing.
+fn do_at(disk: &mut MemDisk, path: &str, what: Act) -> Result<(), DiskFault> {
+    match what {
+        Act::Open => plain::open(disk, path),
+        Act::Sync => plain::sync(disk, path),
+        Act::Remove => plain::remove(disk, path),
+        Act::SyncNames => plain::sync_dir(disk, path),
+    }
+}
+
+/// The two paths of a line.
+fn two_texts(alloc: Global, line: Line<'_>) -> Result<(String, String), CaseFault> {
+    let first = line.text(alloc, 1)?;
+    let second = line.text(alloc, 2)?;
+    Ok((first, second))
+}
+
+/// Makes a file with the mode of the one that a line names.
+fn create(alloc: Global, disk: &mut MemDisk, line: Line<'_>) -> Answer {
+    let (path, like) = two_texts(alloc, line)?;
+    done(alloc, plain::create_like(disk, &path, &like))
+}
+
+/// Gives a file the bytes of a line.
+fn write(alloc: Global, disk: &mut MemDisk, line: Line<'_>) -> Answer {
+    let path = line.text(alloc, 1)?;
+    let bytes = line.bytes(alloc, 2)?;
+    done(alloc, plain::write_file(disk, &path, &bytes))
+}
+
+/// Renames a file to the path of a line.
+fn rename(alloc: Global, disk: &mut MemDisk, line: Line<'_>) -> Answer {
+    let (from, to) = two_texts(alloc, line)?;
+    done(alloc, plain::rename(disk, &from, &to))
+}
+
+/// Runs the words of a line, and gives their status.
+fn ran(alloc: Global, case: &Case<'_>, disk: &mut MemDisk, line: Line<'_>) -> Answer {
+    let ran = run_field(alloc, case, line, 1, disk)?;
+    number(alloc, u64::from(ran.ending.status))
+}
+
+/// Lets a disk become its image by a choice.
+fn image(alloc: Global, disk: &mut MemDisk, line: Line<'_>) -> Answer {
+    become_image(alloc, disk, u64::from(line.number(1)?))?;
+    text(alloc, "done")
+}
+
+/// In which of the first images a file is as a line has it.
+fn in_images(alloc: Global, disk: &MemDisk, line: Line<'_>) -> Answer {
+    let path = line.text(alloc, 1)?;
+    let bytes = line.value(alloc, 2)?;
+    let (count, all) = count_in_images(alloc, disk, &path, &bytes)?;
+    match count {
+        0 => text(alloc, "none"),
+        _ if count == all => text(alloc, "all"),
+        _ => text(alloc, "some"),
     }
 }
 
@@ -211,20 +300,10 @@ fn built(alloc: Global, answer: Result<(), BuildFault>) -> Answer {
     }
 }
 
-/// The name of a kind.
-fn kind_name(kind: Kind) -> &'static str {
-    match kind {
-        Kind::Directory => "Directory",
-        Kind::Link => "Link",
-        Kind::File => "File",
-        Kind::Other => "Other",
-    }
-}
-
 /// The kind of what stands at a path.
 fn kind(alloc: Global, answer: Result<Meta, DiskFault>) -> Answer {
     match answer {
-        Ok(meta) => text(alloc, kind_name(meta.kind)),
+        Ok(meta) => text(alloc, plain::kind_name(meta.kind)),
         Err(fault) => refused(alloc, fault),
     }
 }
@@ -254,23 +333,18 @@ fn node(alloc: Global, answer: Result<Ident, DiskFault>) -> Answer {
 }
 
 /// Whether two paths lead to one node.
-fn same(alloc: Global, disk: &mut MemDisk, left: &str, right: &str) -> Answer {
-    match are_same(disk, left, right) {
+fn same(alloc: Global, disk: &mut MemDisk, line: Line<'_>) -> Answer {
+    let (left, right) = two_texts(alloc, line)?;
+    match plain::are_same(disk, &left, &right) {
         Ok(true) => text(alloc, "yes"),
         Ok(false) => text(alloc, "no"),
         Err(fault) => refused(alloc, fault),
     }
 }
 
-/// The same as a value.
-fn are_same(disk: &mut MemDisk, left: &str, right: &str) -> Result<bool, DiskFault> {
-    let node = disk.ident(left)?;
-    Ok(disk.ident(right)? == node)
-}
-
 /// The path that a path leads to.
 fn place(alloc: Global, disk: &mut MemDisk, path: &str) -> Answer {
-    match disk.resolve(alloc, path) {
+    match plain::resolve(alloc, disk, path) {
         Ok(place) => text(alloc, place.as_str()),
         Err(fault) => refused(alloc, fault),
     }
@@ -278,100 +352,45 @@ fn place(alloc: Global, disk: &mut MemDisk, path: &str) -> Answer {
 
 /// The bytes of the file that a path leads to.
 fn read(alloc: Global, disk: &mut MemDisk, path: &str) -> Answer {
-    match disk.read_file(alloc, path) {
+    match plain::read_file(alloc, disk, path) {
         Ok(bytes) => Ok(Some(bytes)),
         Err(fault) => refused(alloc, fault),
     }
 }
 
+/// The bytes of the file at a path.
+fn held(alloc: Global, disk: &MemDisk, path: &str) -> Answer {
+    Ok(disk.read_all(alloc, path)?)
+}
+
 /// The entries of a folder, of which the first three are told, and whether there are more.
 fn list(alloc: Global, disk: &mut MemDisk, path: &str) -> Answer {
-    match entries(alloc, disk, path) {
-        Ok(entries) => text(alloc, names_of(alloc, &entries)?.trim_start()),
+    match plain::names(alloc, disk, path) {
+        Ok(names) => text(alloc, names.trim_start()),
         Err(fault) => refused(alloc, fault),
     }
 }
 
-/// What a list gives in turn.
-#[derive(Drop)]
-struct Listed {
-    first: Option<RawEntry>,
-    second: Option<RawEntry>,
-    third: Option<RawEntry>,
-    fourth: Option<RawEntry>,
-}
-
-/// What a list of a folder gives in turn; it is closed then.
-fn entries(alloc: Global, disk: &mut MemDisk, path: &str) -> Result<Listed, DiskFault> {
-    let list = disk.open_dir(path)?;
-    let first = disk.next_entry(alloc, list)?;
-    let second = disk.next_entry(alloc, list)?;
-    let third = disk.next_entry(alloc, list)?;
-    let fourth = disk.next_entry(alloc, list)?;
-    disk.close_dir(list);
-    Ok(Listed {
-        first,
-        second,
-        third,
-        fourth,
-    })
-}
-
-/// The names and kinds of entries, each behind a space.
-fn names_of(alloc: Global, entries: &Listed) -> Result<String, Error> {
-    let mut names = String::new(alloc);
-    push_entry(&mut names, &entries.first)?;
-    push_entry(&mut names, &entries.second)?;
-    push_entry(&mut names, &entries.third)?;
-    if entries.fourth.is_some() {
-        names.push_str(" and more")?;
-    }
-    Ok(names)
-}
-
-/// Adds an entry to others: its name and its kind.
-fn push_entry(names: &mut String, entry: &Option<RawEntry>) -> Result<(), Error> {
-    if let Some(entry) = entry {
-        names.push(' ')?;
-        names.push_str(entry.name.as_str())?;
-        names.push(' ')?;
-        names.push_str(kind_name(entry.kind))?;
-    }
-    Ok(())
-}
-
-/// The first entry of a folder.
+/// The first entry of a folder, whose list stays open.
 fn first(alloc: Global, disk: &mut MemDisk, path: &str) -> Answer {
-    match first_entry(alloc, disk, path) {
+    match plain::first_entry(alloc, disk, path) {
         Ok(None) => Ok(None),
         Ok(Some(entry)) => text(alloc, entry.name.as_str()),
         Err(fault) => refused(alloc, fault),
     }
 }
 
-/// Opens a list of a folder, and gives what it answers first.
-fn first_entry(
-    alloc: Global,
-    disk: &mut MemDisk,
-    path: &str,
-) -> Result<Option<RawEntry>, DiskFault> {
-    let list = disk.open_dir(path)?;
-    disk.next_entry(alloc, list)
-}
-
 /// Sets the device of what stands at a path and below.
-fn set_dev(
-    disk: &mut MemDisk,
-    path: &str,
-    line: Line<'_>,
-) -> Result<Result<(), BuildFault>, CaseFault> {
+fn set_dev(alloc: Global, disk: &mut MemDisk, line: Line<'_>) -> Answer {
+    let path = line.text(alloc, 1)?;
     let dev = u64::from(line.number(2)?);
-    Ok(disk.set_dev(path, dev))
+    built(alloc, plain::set_dev(disk, &path, dev))
 }
 
 /// Adds the node of a line.
-fn build(alloc: Global, disk: &mut MemDisk, line: Line<'_>, path: &str) -> Answer {
-    match add(alloc, disk, line, path, 0) {
+fn build(alloc: Global, disk: &mut MemDisk, line: Line<'_>) -> Answer {
+    let path = line.text(alloc, 1)?;
+    match add(alloc, disk, line, &path, 0) {
         Ok(()) => text(alloc, "done"),
         Err(fault) => text(alloc, &format!(in alloc; "{fault}")?),
     }
@@ -379,7 +398,7 @@ fn build(alloc: Global, disk: &mut MemDisk, line: Line<'_>, path: &str) -> Answe
 
 /// Lets a call fail.
 fn fail(alloc: Global, disk: &mut MemDisk, line: Line<'_>) -> Answer {
-    disk.fail_at(u64::from(line.number(1)?))?;
+    plain::fail_at(disk, u64::from(line.number(1)?))?;
     text(alloc, "done")
 }
 

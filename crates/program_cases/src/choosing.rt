@@ -160,10 +160,20 @@ fn swept_by(
     replacer: &Replacer,
 ) -> Result<String, Error> {
     let globs = all_files(alloc)?;
-    text_of(
-        alloc,
-        sweep_capped(alloc, disk, root, &globs, replacer, cap.max(1)),
-    )
+    let answer = answer_by(alloc, disk, root, &globs, cap, replacer);
+    text_of(alloc, &answer)
+}
+
+/// What a command on a tree answers.
+fn answer_by(
+    alloc: Global,
+    disk: &mut MemDisk,
+    root: &str,
+    globs: &Globs,
+    cap: u64,
+    replacer: &Replacer,
+) -> Result<Report, sd_core::Error> {
+    sweep_capped(alloc, disk, root, globs, replacer, cap.max(1))
 }
 
 /// The glob that all files fit.
@@ -174,7 +184,7 @@ fn all_files(alloc: Global) -> Result<Globs, Error> {
 }
 
 /// What is told of a command: its counts, or the text of its fault.
-fn text_of(alloc: Global, answer: Result<Report, sd_core::Error>) -> Result<String, Error> {
+fn text_of(alloc: Global, answer: &Result<Report, sd_core::Error>) -> Result<String, Error> {
     match answer {
         Ok(report) => {
             let (chosen, changed, replaced) = (report.chosen, report.changed, report.replaced);

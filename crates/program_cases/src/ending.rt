@@ -4,7 +4,7 @@ use anyhow::Error;
 use case_reader::{Case, CaseFault};
 use sd_core::{Ended, Error as Fault, JobFault, Why};
 use sd_io::DiskFault;
-use std::alloc::Global;
+use std::alloc::{AllocError, Global};
 
 /// How a run ended: its status, the name of its cause, how many jobs failed where that ended it, and what its error carries.
 #[derive(Drop)]
@@ -107,8 +107,14 @@ fn name_of(fault: &Fault) -> &'static str {
 
 /// The text of the error with the name that a case has.
 pub fn text(alloc: Global, case: &Case<'_>) -> Result<Option<Vec<u8>>, Error> {
-    let text = text_of(alloc, fault_named(case.line().written(0)?)?)?;
-    Ok(Some(text.as_bytes().to_vec(alloc)?))
+    let text = text_named(alloc, case.line().written(0)?)?;
+    Ok(Some(text.into_bytes()))
+}
+
+/// The text of the error of a name.
+fn text_named(alloc: Global, name: &str) -> Result<String, Error> {
+    let fault = fault_named(name)?;
+    text_of(alloc, &fault)
 }
 
 /// The error that needs much input or no memory, and has this name.
@@ -122,11 +128,16 @@ fn fault_named(name: &str) -> Result<Fault, CaseFault> {
 }
 
 /// The text of an error. Refuses one that is shown otherwise where it is debugged.
-fn text_of(alloc: Global, fault: Fault) -> Result<String, Error> {
+fn text_of(alloc: Global, fault: &Fault) -> Result<String, Error> {
     let shown = format!(in alloc; "{fault}")?;
-    let debugged = format!(in alloc; "{fault:?}")?;
-    if shown != debugged {
+    if !is_debugged_so(alloc, fault, &shown)? {
         return Err(Error::msg("it is debugged otherwise"));
     }
     Ok(shown)
+}
+
+/// Whether an error is debugged as this text.
+fn is_debugged_so(alloc: Global, fault: &Fault, shown: &str) -> Result<bool, AllocError> {
+    let debugged = format!(in alloc; "{fault:?}")?;
+    Ok(debugged.as_str() == shown)
 }

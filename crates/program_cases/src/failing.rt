@@ -30,19 +30,41 @@ fn otherwise_at(alloc: Global, case: &Case<'_>, call: u64) -> Result<Option<&'st
     otherwise_on(alloc, case, &mut disk)
 }
 
+/// What a run tells: something else than a case has it, or as that has it, and how many jobs failed.
+#[derive(Clone, Copy)]
+enum Told {
+    Otherwise(&'static str),
+    AsWanted { jobs: usize },
+}
+
 /// The same on a disk.
 fn otherwise_on(
     alloc: Global,
     case: &Case<'_>,
     disk: &mut MemDisk,
 ) -> Result<Option<&'static str>, Error> {
-    let ran = run_words(alloc, case, disk)?;
+    let told = told_on(alloc, case, disk)?;
     if disk.faults() != 1 {
         return Ok(Some("faults"));
     }
-    match told_otherwise(alloc, case, &ran)? {
-        None => left_otherwise(alloc, case, disk),
-        what => Ok(what),
+    match told {
+        Told::Otherwise(what) => Ok(Some(what)),
+        Told::AsWanted { jobs } => left_otherwise(alloc, case, disk, jobs),
+    }
+}
+
+/// Runs the words of a case on a disk, and gives what that tells.
+fn told_on(alloc: Global, case: &Case<'_>, disk: &mut MemDisk) -> Result<Told, Error> {
+    let ran = run_words(alloc, case, disk)?;
+    told_by(alloc, case, &ran)
+}
+
+/// What a run tells.
+fn told_by(alloc: Global, case: &Case<'_>, ran: &Ran) -> Result<Told, Error> {
+    let jobs = ran.ending.jobs;
+    match told_otherwise(alloc, case, ran)? {
+        None => Ok(Told::AsWanted { jobs }),
+        Some(what) => Ok(Told::Otherwise(what)),
     }
 }
 
@@ -52,14 +74,19 @@ fn told_otherwise(
     case: &Case<'_>,
     ran: &Ran,
 ) -> Result<Option<&'static str>, Error> {
-    let shown = wanted_of(alloc, case, "out")?;
-    if !shown.starts_with(&ran.out) {
+    if !is_beginning(alloc, case, &ran.out)? {
         return Ok(Some("out"));
     }
     match bytes_of(alloc, case, "err")? {
         Some(wanted) if wanted != ran.err => Ok(Some("err")),
         _ => Ok(ended_otherwise(case, ran)?),
     }
+}
+
+/// Whether what is printed is a beginning of what a case has.
+fn is_beginning(alloc: Global, case: &Case<'_>, out: &[u8]) -> Result<bool, CaseFault> {
+    let shown = wanted_of(alloc, case, "out")?;
+    Ok(shown.starts_with(out))
 }
 
 /// How a run ended otherwise than a case has it.
@@ -84,19 +111,34 @@ fn is_cause(causes: Option<&str>, cause: &str) -> bool {
     }
 }
 
-/// What is left otherwise than a case has it.
+/// What is left otherwise than a case has it, where so many jobs failed.
 fn left_otherwise(
     alloc: Global,
     case: &Case<'_>,
     disk: &MemDisk,
+    jobs: usize,
 ) -> Result<Option<&'static str>, Error> {
     if others_otherwise(alloc, case, disk)?.is_some() {
         return Ok(Some("another file"));
     }
     match rewritten(alloc, case, disk)? {
         None => Ok(Some("a file")),
-        Some(count) if count < number_of(case, "rewritten")?.unwrap_or(0) => Ok(Some("rewritten")),
-        Some(_) => Ok(None),
+        Some(count) => Ok(count_otherwise(case, count, jobs)?),
+    }
+}
+
+/// Whether too few files are new, or one is though no job failed.
+fn count_otherwise(
+    case: &Case<'_>,
+    count: u64,
+    jobs: usize,
+) -> Result<Option<&'static str>, CaseFault> {
+    let least = number_of(case, "rewritten")?.unwrap_or(0);
+    match (jobs, count) {
+        (0, 0) => Ok(None),
+        (0, _) => Ok(Some("rewritten too early")),
+        _ if count < least => Ok(Some("rewritten")),
+        _ => Ok(None),
     }
 }
 

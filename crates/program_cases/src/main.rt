@@ -25,8 +25,8 @@
 //!
 //! A case of `fails` is run with each of its calls failing in turn. Each time the status is 1, one call fails, and no more than one job.
 //! `least COUNT` is how many calls there are at least, `causes NAME ..` are the causes that there may be, `err BYTES` is what is shown
-//! where that is given, and what is printed is a beginning of `out BYTES`. A file `new PATH BYTES` is old or has those bytes, and
-//! `rewritten COUNT` of them have theirs at least; `gone PATH` is as above, and all other files are as they were.
+//! where that is given, and what is printed is a beginning of `out BYTES`. A file `new PATH BYTES` is old or has those bytes: where a job
+//! failed `rewritten COUNT` of them have theirs at least, and else all are old; `gone PATH` is as above, and all other files are as they were.
 //!
 //! A case of `help` is words that show a help with each part `has TEXT`. The other kinds are calls that the program is made of: `calls.rt`
 //! tells of `calls`, and `choosing.rt` of `chosen`, `globs` and `capped`. A case of `text` is the name of an error, and its text.
@@ -38,7 +38,9 @@ mod choosing;
 mod ending;
 mod failing;
 mod help;
+mod images;
 mod left;
+mod plain;
 mod running;
 mod shown;
 mod tree;

@@ -6,8 +6,24 @@
 #[cfg(test)]
 mod calls;
 #[cfg(test)]
+mod commands;
+#[cfg(test)]
+mod crashes;
+#[cfg(test)]
 mod crowded;
+#[cfg(test)]
+mod disks;
 #[cfg(test)]
 mod long_search;
 #[cfg(test)]
+mod lying;
+#[cfg(test)]
+mod patterns;
+#[cfg(test)]
 mod running;
+#[cfg(test)]
+mod streams;
+#[cfg(test)]
+mod swapping;
+#[cfg(test)]
+mod trees;

@@ -1,7 +1,7 @@
 //! Patterns that make a search by trial and error take for ever, on long texts.
 
-use crate::running::{listed, run_to_end};
-use mem_io::{MemDisk, MemSink, MemSource};
+use crate::running::run_given;
+use mem_io::MemDisk;
 use sd_base::NoMemory;
 use std::alloc::Global;
 use std::process::Abort;
@@ -31,24 +31,23 @@ fn letters(alloc: Global) -> Result<Vec<u8>, NoMemory> {
 }
 
 /// A text comes out of the program as it went in where the pattern is searched in it.
-fn check_same(rt: &(impl Abort + AllocGlobal), pattern: &str, text: &[u8]) -> Result<(), Fail> {
-    let words = listed(rt.alloc(), &["--", pattern, "1"])?;
-    let mut disk = MemDisk::new(rt.alloc());
-    let mut input = MemSource::new(rt.alloc(), text, LENGTH)?;
-    let mut out = MemSink::new(rt.alloc(), LENGTH)?;
-    let mut err = MemSink::new(rt.alloc(), 100)?;
-    let status = run_to_end(
-        rt.alloc(),
-        &words,
-        &mut disk,
-        &mut input,
-        &mut out,
-        &mut err,
-    );
-    assert!(rt; err.bytes().is_empty());
-    assert_eq!(rt; status, 0);
-    assert!(rt; out.bytes() == text, "{pattern}");
+fn check_same_on(
+    rt: &(impl Abort + AllocGlobal),
+    disk: &mut MemDisk,
+    pattern: &str,
+    text: &[u8],
+) -> Result<(), Fail> {
+    let ran = run_given(rt.alloc(), disk, &["--", pattern, "1"], text, LENGTH)?;
+    assert!(rt; ran.err.is_empty());
+    assert!(rt; ran.outcome.status == 0);
+    assert!(rt; ran.out.as_slice() == text, "{pattern}");
     Ok(())
+}
+
+/// The same, with the disk made.
+fn check_same(rt: &(impl Abort + AllocGlobal), pattern: &str, text: &[u8]) -> Result<(), Fail> {
+    let mut disk = MemDisk::new(rt.alloc());
+    check_same_on(rt, &mut disk, pattern, text)
 }
 
 #[test]

@@ -1,19 +1,34 @@
-//! Runs of the program on a disk in memory, and what they show.
+//! Runs of the program on any disk, and what they show.
 
-use mem_io::{MemDisk, MemSink, MemSource};
-use sd_base::Words;
-use sd_core::run;
+use mem_io::{MemSink, MemSource};
+use sd_base::{NoMemory, Words};
+use sd_core::{Ended, Error, Why, run};
+use sd_io::Disk;
+use sd_replace::{Replacer, ReplacerFault};
 use std::alloc::Global;
-use std::process::Abort;
 use std::test::Fail;
 
-/// A disk with `/t/a.txt` and `/t/b.md`.
-pub(crate) fn two_files(alloc: Global) -> Result<MemDisk, Fail> {
-    let mut disk = MemDisk::new(alloc);
-    disk.add_dir("/t")?;
-    disk.add_file("/t/a.txt", b"one two one", 0o640)?;
-    disk.add_file("/t/b.md", b"one", 0o640)?;
-    Ok(disk)
+/// How a run ended: its status, and how many jobs failed, where that ended it.
+#[derive(Clone, Copy)]
+pub(crate) struct Outcome {
+    pub(crate) status: u8,
+    pub(crate) failed_jobs: usize,
+}
+
+/// How a run ended, and what it printed.
+#[derive(Drop)]
+pub(crate) struct Ran {
+    pub(crate) outcome: Outcome,
+    pub(crate) out: Vec<u8>,
+    pub(crate) err: Vec<u8>,
+}
+
+/// The streams of a run.
+#[derive(Drop)]
+pub(crate) struct Streams {
+    pub(crate) input: MemSource,
+    pub(crate) out: MemSink,
+    pub(crate) err: MemSink,
 }
 
 /// The words of a command.
@@ -25,70 +40,108 @@ pub(crate) fn listed(alloc: Global, words: &[&str]) -> Result<Words, Fail> {
     Ok(list)
 }
 
-/// Runs the program, and gives its status. What it ends with is let go here, so that tests are quickly proved.
-pub(crate) fn run_to_end(
+/// An input of these bytes. Where there are none, the first read fails, so that a read shows.
+fn source_of(alloc: Global, bytes: &[u8]) -> Result<MemSource, NoMemory> {
+    let mut input = MemSource::new(alloc, bytes, bytes.len().max(1))?;
+    if bytes.is_empty() {
+        input.fail_at(1);
+    }
+    Ok(input)
+}
+
+/// Streams with this input, and so many bytes of room for what is printed.
+pub(crate) fn streams_of(alloc: Global, input: &[u8], room: usize) -> Result<Streams, NoMemory> {
+    let input = source_of(alloc, input)?;
+    let out = MemSink::new(alloc, room)?;
+    let err = MemSink::new(alloc, 1000)?;
+    Ok(Streams { input, out, err })
+}
+
+/// How many jobs failed, where that ended the run.
+fn failed_jobs(why: &Why) -> usize {
+    match why {
+        Why::Fault(Error::FailedProcessing(jobs)) => jobs.len(),
+        _ => 0,
+    }
+}
+
+fn outcome_of(ended: &Ended) -> Outcome {
+    Outcome {
+        status: ended.status,
+        failed_jobs: failed_jobs(&ended.why),
+    }
+}
+
+/// Whether these bytes, and no others, are written to a sink.
+pub(crate) fn has_written(sink: &MemSink, bytes: &[u8]) -> bool {
+    sink.bytes() == bytes
+}
+
+/// Runs words, and tells how that ended. What it ends with is let go here, so that tests are quickly proved.
+fn run_to_end<D: Disk>(
     alloc: Global,
     words: &Words,
-    disk: &mut MemDisk,
+    disk: &mut D,
     input: &mut MemSource,
     out: &mut MemSink,
     err: &mut MemSink,
-) -> u8 {
+) -> Outcome {
     let ended = run(alloc, words, disk, input, out, err);
-    ended.status
+    let outcome = outcome_of(&ended);
+    drop(ended);
+    outcome
 }
 
-/// Runs words that print nothing, and gives their status. The input's first read fails, so that a read of it shows.
-fn status_of(
+/// The same on streams.
+fn run_on<D: Disk>(alloc: Global, words: &Words, disk: &mut D, streams: &mut Streams) -> Outcome {
+    run_to_end(
+        alloc,
+        words,
+        disk,
+        &mut streams.input,
+        &mut streams.out,
+        &mut streams.err,
+    )
+}
+
+/// A run that ended so, with what it printed.
+fn ran_of(alloc: Global, outcome: Outcome, streams: &Streams) -> Result<Ran, Fail> {
+    let out = streams.out.bytes().to_vec(alloc)?;
+    let err = streams.err.bytes().to_vec(alloc)?;
+    Ok(Ran { outcome, out, err })
+}
+
+/// Runs words with the streams made.
+fn run_listed<D: Disk>(
     alloc: Global,
-    disk: &mut MemDisk,
+    disk: &mut D,
     words: &Words,
-    out: &mut MemSink,
-    err: &mut MemSink,
-) -> Result<u8, Fail> {
-    let mut input = MemSource::new(alloc, b"", 1)?;
-    input.fail_at(1);
-    let status = run_to_end(alloc, words, disk, &mut input, out, err);
-    Ok(status)
+    input: &[u8],
+    room: usize,
+) -> Result<Ran, Fail> {
+    let mut streams = streams_of(alloc, input, room)?;
+    let outcome = run_on(alloc, words, disk, &mut streams);
+    ran_of(alloc, outcome, &streams)
 }
 
-/// The words show this error on a disk, and print nothing.
-fn check_shown(
-    rt: &(impl Abort + AllocGlobal),
-    disk: &mut MemDisk,
-    words: &Words,
-    err: &mut MemSink,
-    told: &[u8],
-) -> Result<(), Fail> {
-    let mut out = MemSink::new(rt.alloc(), 0)?;
-    let status = status_of(rt.alloc(), disk, words, &mut out, err)?;
-    assert_eq!(rt; err.bytes(), told);
-    assert_eq!(rt; status, 1);
-    Ok(())
-}
-
-/// The words fail on a disk with this error, and print nothing.
-pub(crate) fn check_error(
-    rt: &(impl Abort + AllocGlobal),
-    disk: &mut MemDisk,
+/// Runs words on an input, which is none where it has no bytes. What is printed has so many bytes of room.
+pub(crate) fn run_given<D: Disk>(
+    alloc: Global,
+    disk: &mut D,
     words: &[&str],
-    told: &[u8],
-) -> Result<(), Fail> {
-    let list = listed(rt.alloc(), words)?;
-    let mut err = MemSink::new(rt.alloc(), 1000)?;
-    check_shown(rt, disk, &list, &mut err, told)
+    input: &[u8],
+    room: usize,
+) -> Result<Ran, Fail> {
+    let list = listed(alloc, words)?;
+    run_listed(alloc, disk, &list, input, room)
 }
 
-/// Files hold these bytes, with the mode 0640.
-pub(crate) fn check_files(
-    rt: &(impl Abort + AllocGlobal),
-    disk: &MemDisk,
-    files: &[(&str, &[u8])],
-) -> Result<(), Fail> {
-    for (path, bytes) in files {
-        let held = disk.read_all(rt.alloc(), path)?.ok_or("no file")?;
-        assert_eq!(rt; held.as_slice(), *bytes, "{path}");
-        assert_eq!(rt; disk.mode_at(path), Some(0o640), "{path}");
-    }
-    Ok(())
+/// Runs words without input, with room for all that is printed.
+pub(crate) fn run_words<D: Disk>(alloc: Global, disk: &mut D, words: &[&str]) -> Result<Ran, Fail> {
+    run_given(alloc, disk, words, b"", 1000)
+}
+
+/// A replacer that puts `1` in place of each `one`.
+pub(crate) fn one_by_1(alloc: Global) -> Result<Replacer, ReplacerFault> {
+    Replacer::new(alloc, "one", "1", false, None, 0)
 }

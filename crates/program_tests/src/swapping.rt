@@ -1,7 +1,7 @@
 //! A replacer of one text by another.
 
 ghost use Rattle.std.specs.Prelude.{◌≡◌, ◌<◌, length, IfOk};
-ghost use Rattle.tree_tests.specs.Swapped.{Swaps, one_swap, swapped, spans};
+ghost use Rattle.program_tests.specs.Swapped.{Swaps, one_swap, swapped, spans};
 
 use sd_base::NoMemory;
 use sd_change::{Changed, Replaces};

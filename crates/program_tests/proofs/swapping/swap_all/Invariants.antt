@@ -1,6 +1,6 @@
 use Rattle.std.proofs.Common.{◌≡◌, ◌≤◌, ◌+◌, ◌++◌, length}
-use Rattle.tree_tests.specs.Swapped.{swapped, spans}
-use Rattle.tree_tests.proofs.swapping.swap_all.Given as goal
+use Rattle.program_tests.specs.Swapped.{swapped, spans}
+use Rattle.program_tests.proofs.swapping.swap_all.Given as goal
 
 abbrev pub invariant-loop-first : goal.invariant-loop-first
 invariant-loop-first l = record {

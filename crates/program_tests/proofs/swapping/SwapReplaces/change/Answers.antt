@@ -1,7 +1,7 @@
 use Rattle.std.proofs.Common.{◌≡◌, sym, ◌∙◌, arith}
-use Rattle.tree_tests.specs.Swapped.{spans}
-use Rattle.tree_tests.proofs.swapping.SwappedLemmas.{swapped-none, spans-few}
-use Rattle.tree_tests.proofs.swapping.SwapReplaces.change.Goals as goal
+use Rattle.program_tests.specs.Swapped.{spans}
+use Rattle.program_tests.proofs.swapping.SwappedLemmas.{swapped-none, spans-few}
+use Rattle.program_tests.proofs.swapping.SwapReplaces.change.Goals as goal
 
 pub returns-then-changed-eq0-clause-changed : goal.returns-then-changed-eq0-clause-changed
 returns-then-changed-eq0-clause-changed c =

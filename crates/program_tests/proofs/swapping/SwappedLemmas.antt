@@ -2,7 +2,7 @@
 use Rattle.std.proofs.Common.{◌≡◌, ◌==◌, ◌+◌, ◌-◌, ◌≤◌, ◌<◌, ℕ, zero, suc, Bool, List, [], ◌∷◌, ◌++◌, length, true, false, refl, sym, ap, ◌∙◌, drop, cond, arith, append_assoc}
 use Rattle.std.proofs.lemmas.Bool.{cond-true, cond-false}
 use Rattle.std.specs.List.{starts_with}
-use Rattle.tree_tests.specs.Swapped.{swapped, spans}
+use Rattle.program_tests.specs.Swapped.{swapped, spans}
 
 -- what is left of a text that was found is passed over
 swapped-left : (find other : List ℕ) (left : ℕ) (bytes : List ℕ) → swapped find other left bytes ≡ swapped find other 0 (drop left bytes)

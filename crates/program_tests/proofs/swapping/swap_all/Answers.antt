@@ -1,6 +1,6 @@
 use Rattle.std.proofs.Common.{rules, ◌<◌, length, arith, sym}
-use Rattle.tree_tests.proofs.swapping.SwappedLemmas.{swapped-found, spans-found, one_more}
-use Rattle.tree_tests.proofs.swapping.swap_all.Goals as goal
+use Rattle.program_tests.proofs.swapping.SwappedLemmas.{swapped-found, spans-found, one_more}
+use Rattle.program_tests.proofs.swapping.swap_all.Goals as goal
 
 pub loop-first-preserved-then-starts_with : goal.loop-first-preserved-then-starts_with
 loop-first-preserved-then-starts_with c =

@@ -2,10 +2,12 @@
 
 ghost use Rattle.std.specs.Prelude.{◌≡◌, IfOk, IfErr, IsErr, Ok};
 
-use crate::running::{holds, one_by_1, run_words};
+use crate::disks::{NEW, OLD, ONE, TWO_FILES, filled, holds};
+use crate::running::{one_by_1, run_words};
 use mem_io::MemDisk;
 use sd_core::{Error, sweep_capped};
 use sd_io::{Disk, DiskFault, Globs, Ident, Kind, ListId, Meta, RawEntry, Text};
+use sd_replace::Replacer;
 use std::alloc::Global;
 use std::test::Fail;
 
@@ -149,56 +151,115 @@ fn endless(alloc: Global) -> Result<LyingDisk, Fail> {
     Ok(LyingDisk::new(disk, Lie::Endless))
 }
 
-/// Whether a command on all files of a disk is refused since a thousand entries are listed. What it ends with is let go here, so that
-/// tests are quickly proved.
-fn lists_a_thousand(alloc: Global, disk: &mut LyingDisk) -> Result<bool, Fail> {
+/// The glob that all files fit.
+fn all_files(alloc: Global) -> Result<Globs, Fail> {
     let mut globs = Globs::new(alloc);
     globs.push("**")?;
-    let replacer = one_by_1(alloc)?;
-    let answer = sweep_capped(alloc, disk, "/t", &globs, &replacer, 1000);
+    Ok(globs)
+}
+
+/// Whether a command on a disk is refused since a thousand entries are listed. What it ends with is let go here, so that tests are
+/// quickly proved.
+fn lists_a_thousand(
+    alloc: Global,
+    disk: &mut LyingDisk,
+    globs: &Globs,
+    replacer: &Replacer,
+) -> bool {
+    let answer = sweep_capped(alloc, disk, "/t", globs, replacer, 1000);
     let is_too_many = matches!(&answer, Err(Error::TooMany));
     drop(answer);
+    is_too_many
+}
+
+/// The same, with the replacer made.
+fn lists_a_thousand_by(alloc: Global, disk: &mut LyingDisk, globs: &Globs) -> Result<bool, Fail> {
+    let replacer = one_by_1(alloc)?;
+    let is_too_many = lists_a_thousand(alloc, disk, globs, &replacer);
     drop(replacer);
     Ok(is_too_many)
+}
+
+/// Whether a command on all files of a disk is refused so, and nothing is written.
+fn lists_a_thousand_alone(alloc: Global, disk: &mut LyingDisk) -> Result<bool, Fail> {
+    let globs = all_files(alloc)?;
+    let is_too_many = lists_a_thousand_by(alloc, disk, &globs)?;
+    Ok(is_too_many && disk.writes == 0)
 }
 
 #[test]
 fn an_endless_disk_has_too_many_entries_and_is_not_written(rt: HostRuntime) -> Result<(), Fail> {
     let mut disk = endless(rt.alloc())?;
-    assert!(rt; lists_a_thousand(rt.alloc(), &mut disk)?);
-    assert_eq!(rt; disk.writes, 0);
+    let is_refused = lists_a_thousand_alone(rt.alloc(), &mut disk)?;
+    assert!(rt; is_refused);
     Ok(())
 }
 
 /// How long each file is said to be, what a command reports, and what the file that it chooses by its name holds then.
-const LENGTHS: [(u64, &[u8], &[u8]); 2] = [
-    (0, b"chosen 0, changed 0, replaced 0\n", b"one two one"),
-    (1 << 60, b"chosen 1, changed 1, replaced 2\n", b"1 two 1"),
+#[derive(Clone, Copy)]
+struct Length {
+    len: u64,
+    report: &'static [u8],
+    bytes: &'static [u8],
+}
+
+const LENGTHS: &[Length] = &[
+    Length {
+        len: 0,
+        report: b"chosen 0, changed 0, replaced 0\n",
+        bytes: OLD,
+    },
+    Length {
+        len: 1 << 60,
+        report: b"chosen 1, changed 1, replaced 2\n",
+        bytes: NEW,
+    },
 ];
 
-/// A disk with `/t/a.txt` and `/t/b.md`, which are said to be so long.
+/// The two files, which are said to be so long.
 fn of_length(alloc: Global, len: u64) -> Result<LyingDisk, Fail> {
-    let mut disk = MemDisk::new(alloc);
-    disk.add_dir("/t")?;
-    disk.add_file("/t/a.txt", b"one two one", 0o640)?;
-    disk.add_file("/t/b.md", b"one", 0o640)?;
+    let disk = filled(alloc, TWO_FILES)?;
     Ok(LyingDisk::new(disk, Lie::Length(len)))
+}
+
+/// Whether a command that chooses one of the two files ends well, and reports this.
+fn reports(alloc: Global, disk: &mut LyingDisk, report: &[u8]) -> Result<bool, Fail> {
+    let ran = run_words(alloc, disk, &["--root", "/t", "--", "one", "1", "*.txt"])?;
+    Ok(ran.outcome.status == 0 && ran.out.as_slice() == report)
+}
+
+/// Whether the chosen file holds these bytes then, and the other one is old.
+fn is_left(alloc: Global, disk: &MemDisk, bytes: &[u8]) -> Result<bool, Fail> {
+    Ok(holds(alloc, disk, "/t/a.txt", bytes)? && holds(alloc, disk, "/t/b.md", ONE)?)
+}
+
+/// Whether the command reports what it is to, whether it leaves what it is to, and whether it wrote.
+fn seen_on(
+    alloc: Global,
+    lying: &mut LyingDisk,
+    length: &Length,
+) -> Result<(bool, bool, bool), Fail> {
+    let is_reported = reports(alloc, lying, length.report)?;
+    let is_left = is_left(alloc, &lying.disk, length.bytes)?;
+    Ok((is_reported, is_left, lying.writes > 0))
+}
+
+/// The same, with the disk made.
+fn seen(alloc: Global, length: &Length) -> Result<(bool, bool, bool), Fail> {
+    let mut lying = of_length(alloc, length.len)?;
+    seen_on(alloc, &mut lying, length)
 }
 
 #[test]
 fn a_file_holds_what_is_read_of_it_however_long_it_is_said_to_be(
     rt: HostRuntime,
 ) -> Result<(), Fail> {
-    let alloc = rt.alloc();
-    for (len, report, bytes) in LENGTHS {
-        let mut lying = of_length(alloc, len)?;
-        let words = ["--root", "/t", "--", "one", "1", "*.txt"];
-        let (ended, out) = run_words(alloc, &mut lying, &words)?;
-        assert_eq!(rt; ended.status, 0, "{len}");
-        assert_eq!(rt; out.bytes(), report, "{len}");
-        assert!(rt; holds(alloc, &lying.disk, "/t/a.txt", bytes)?, "{len}");
-        assert!(rt; holds(alloc, &lying.disk, "/t/b.md", b"one")?, "{len}");
-        assert_eq!(rt; lying.writes > 0, len > 0, "{len}");
+    for length in LENGTHS {
+        let len = length.len;
+        let (is_reported, is_left, has_written) = seen(rt.alloc(), length)?;
+        assert!(rt; is_reported, "{len}");
+        assert!(rt; is_left, "{len}");
+        assert_eq!(rt; has_written, len > 0, "{len}");
     }
     Ok(())
 }

@@ -59,16 +59,3 @@ pub(crate) fn swept(
     let answer = answer_of(alloc, disk, root, &globs, swap);
     text_of(alloc, &answer)
 }
-
-/// Whether this is told where the files below a root that these globs choose are rewritten.
-pub(crate) fn tells(
-    alloc: Global,
-    disk: &mut MemDisk,
-    root: &str,
-    globs: &[&str],
-    swap: &Swap<'_>,
-    wanted: &str,
-) -> Result<bool, Fail> {
-    let told = swept(alloc, disk, root, globs, swap)?;
-    Ok(told.as_str() == wanted)
-}
