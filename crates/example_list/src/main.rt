@@ -12,7 +12,7 @@ use chosen_files::{Choice, choose_kept};
 use glob_match::Glob;
 use host_io::HostDisk;
 use sd_ignore::Ignore;
-use sd_io::Disk;
+use sd_io::{Disk, Text};
 use std::alloc::Global;
 use std::{env, fs};
 
@@ -21,12 +21,27 @@ const CAP: u64 = 1_000_000;
 
 fn main(rt: HostRuntime) -> Result<()> {
     let words: Vec<String> = env::args(&rt)?.skip(1).collect(rt.alloc())?;
-    let [rules, folder] = words.as_slice() else {
-        return Err(Error::msg("the words are RULES FOLDER"));
-    };
-    let rules = Ignore::read(rt.alloc(), &fs::read_to_string(&rt, rules)?)?;
-    let choice = kept_files(rt.alloc(), &mut HostDisk::new(&rt), folder, &rules)?;
-    for path in &choice.paths {
+    list_named(&rt, &words)
+}
+
+/// Lists the files that the words of a command ask for.
+fn list_named(rt: &HostRuntime, words: &[String]) -> Result<()> {
+    match words {
+        [rules, folder] => list_kept(rt, &fs::read_to_string(rt, rules)?, folder),
+        _ => Err(Error::msg("the words are RULES FOLDER")),
+    }
+}
+
+/// Lists the files below a folder that the rules of a text don't ignore.
+fn list_kept(rt: &HostRuntime, rules: &str, folder: &str) -> Result<()> {
+    let rules = Ignore::read(rt.alloc(), rules)?;
+    let choice = kept_files(rt.alloc(), &mut HostDisk::new(rt), folder, &rules)?;
+    list_all(rt, &choice.paths)
+}
+
+/// Prints paths, each on a line.
+fn list_all(rt: &HostRuntime, paths: &[Text]) -> Result<()> {
+    for path in paths {
         println!(rt; "{}", path.as_str())?;
     }
     Ok(())

@@ -16,23 +16,32 @@ use std::{env, io};
 
 fn main(rt: HostRuntime) -> Result<()> {
     let words: Vec<String> = env::args(&rt)?.skip(1).collect(rt.alloc())?;
-    let [find, replace_with] = words.as_slice() else {
-        return Err(Error::msg("the words are FIND REPLACE_WITH"));
-    };
+    rename_named(&rt, &words)
+}
+
+/// Renames the files that standard input names, as the words of a command ask for.
+fn rename_named(rt: &HostRuntime, words: &[String]) -> Result<()> {
     let names = io::read_to_string(rt.alloc(), rt.stdin())?;
+    match words {
+        [find, replace_with] => rename_by(rt, find, replace_with, &names),
+        _ => Err(Error::msg("the words are FIND REPLACE_WITH")),
+    }
+}
+
+/// Renames files by a pattern and a text with references to its groups.
+fn rename_by(rt: &HostRuntime, find: &str, replace_with: &str, names: &str) -> Result<()> {
     let replacer = Replacer::new(rt.alloc(), find, replace_with, false, None, 1)?;
-    let mut disk = MemDisk::new(rt.alloc());
-    let renamed = rename_all(&rt, &mut disk, &replacer, &names);
-    drop(disk);
+    let renamed = rename_all(rt, &replacer, names);
     drop(replacer);
     renamed
 }
 
 /// Makes an empty file of each name, and renames it.
-fn rename_all(rt: &HostRuntime, disk: &mut MemDisk, by: &Replacer, names: &str) -> Result<()> {
+fn rename_all(rt: &HostRuntime, by: &Replacer, names: &str) -> Result<()> {
+    let mut disk = MemDisk::new(rt.alloc());
     for name in names.lines() {
         disk.add_file(name, b"", 0o644)?;
-        show(rt, disk, by, name)?;
+        show(rt, &mut disk, by, name)?;
     }
     Ok(())
 }
