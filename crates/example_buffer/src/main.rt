@@ -10,24 +10,21 @@ use grep_regex::RegexMatcherBuilder;
 use sd_base::NoMemory;
 use sd_change::Replaces;
 use sd_replace::Replacer;
-use std::alloc::Global;
 use std::{env, io};
 
 fn main(rt: HostRuntime) -> Result<()> {
     let words: Vec<String> = env::args(&rt)?.skip(1).collect(rt.alloc())?;
-    replace_named(&rt, &words)
-}
-
-/// Replaces in the text that standard input gives, as the words of a command ask for.
-fn replace_named(rt: &HostRuntime, words: &[String]) -> Result<()> {
-    let text = io::read_to_string(rt.alloc(), rt.stdin())?;
-    match words {
-        [find, replace_with] => {
-            show_matches(rt, find, &text)?;
-            show_replaced(rt, find, replace_with, text.into_bytes())
-        }
+    match words.as_slice() {
+        [find, replace_with] => edit(&rt, find, replace_with),
         _ => Err(Error::msg("the words are FIND REPLACE_WITH")),
     }
+}
+
+/// Shows what a pattern finds in the text that standard input gives, and that text with another in place of each match.
+fn edit(rt: &HostRuntime, find: &str, replace_with: &str) -> Result<()> {
+    let text = io::read_to_string(rt.alloc(), rt.stdin())?;
+    show_matches(rt, find, &text)?;
+    show_replaced(rt, find, replace_with, text.into_bytes())
 }
 
 /// Prints the matches of a pattern.
@@ -43,18 +40,12 @@ fn show_matches(rt: &HostRuntime, find: &str, text: &str) -> Result<()> {
 /// Prints a buffer with a text in place of each match of a pattern, and how often that is.
 fn show_replaced(rt: &HostRuntime, find: &str, replace_with: &str, old: Vec<u8>) -> Result<()> {
     let mut buffer = old;
-    let count = replace_by(rt.alloc(), &mut buffer, find, replace_with)?;
-    println!(rt; "{count} replaced:")?;
+    let replacer = Replacer::new(rt.alloc(), find, replace_with, false, None, 0)?;
+    let count = replace(&mut buffer, &replacer);
+    drop(replacer);
+    println!(rt; "{} replaced:", count?)?;
     print!(rt; "{}", String::from_utf8_lossy(rt.alloc(), &buffer)?)?;
     Ok(())
-}
-
-/// Replaces in a buffer what a pattern finds, and answers how often.
-fn replace_by(alloc: Global, buffer: &mut Vec<u8>, find: &str, replace_with: &str) -> Result<u128> {
-    let replacer = Replacer::new(alloc, find, replace_with, false, None, 0)?;
-    let count = replace(buffer, &replacer);
-    drop(replacer);
-    Ok(count?)
 }
 
 /// Prints where each match lies, and its text.

@@ -20,13 +20,8 @@ const CAP: u64 = 1_000_000;
 
 fn main(rt: HostRuntime) -> Result<()> {
     let words: Vec<String> = env::args(&rt)?.skip(1).collect(rt.alloc())?;
-    show_named(&rt, &words)
-}
-
-/// Prints the lines that the words of a command ask for.
-fn show_named(rt: &HostRuntime, words: &[String]) -> Result<()> {
-    match words {
-        [pattern, glob, folder] => show_lines(rt, pattern, glob, folder),
+    match words.as_slice() {
+        [pattern, glob, folder] => show_lines(&rt, pattern, glob, folder),
         _ => Err(Error::msg("the words are PATTERN GLOB FOLDER")),
     }
 }
@@ -34,8 +29,10 @@ fn show_named(rt: &HostRuntime, words: &[String]) -> Result<()> {
 /// Prints the lines that a pattern matches, of the files below a folder whose path fits a glob.
 fn show_lines(rt: &HostRuntime, pattern: &str, glob: &str, folder: &str) -> Result<()> {
     let glob = Glob::read(rt.alloc(), glob)?.context("the glob isn't valid")?;
-    let paths = paths_below(rt.alloc(), &mut HostDisk::new(rt), folder, &glob)?;
-    show_matched(rt, pattern, &paths)
+    let mut disk = HostDisk::new(rt);
+    let paths = paths_below(rt.alloc(), &mut disk, folder, &glob)?;
+    let matcher = RegexMatcher::new_line_matcher(rt.alloc(), pattern)?;
+    show_all(rt, &mut disk, &matcher, &paths)
 }
 
 /// The files below a root whose path fits a glob, by their names. Nothing is changed on the disk.
@@ -52,15 +49,6 @@ fn paths_below<D: Disk>(alloc: Global, disk: &mut D, root: &str, glob: &Glob) ->
     Ok(paths)
 }
 
-/// Prints the lines of these files that a pattern matches.
-fn show_matched(rt: &HostRuntime, pattern: &str, paths: &[Text]) -> Result<()> {
-    let matcher = RegexMatcher::new_line_matcher(rt.alloc(), pattern)?;
-    let mut disk = HostDisk::new(rt);
-    let shown = show_all(rt, &mut disk, &matcher, paths);
-    drop(matcher);
-    shown
-}
-
 /// Prints the lines that match, file by file.
 fn show_all<D: Disk>(
     rt: &HostRuntime,
@@ -69,15 +57,15 @@ fn show_all<D: Disk>(
     paths: &[Text],
 ) -> Result<()> {
     for path in paths {
-        let bytes = disk.read_file(rt.alloc(), path.as_str())?;
-        show(rt, matcher, path.as_str(), &bytes)?;
+        show(rt, disk, matcher, path.as_str())?;
     }
     Ok(())
 }
 
 /// Prints the lines of a file that match, if it is text.
-fn show(rt: &HostRuntime, matcher: &RegexMatcher, path: &str, bytes: &[u8]) -> Result<()> {
-    for (index, line) in str::from_utf8(bytes).unwrap_or("").lines().enumerate() {
+fn show<D: Disk>(rt: &HostRuntime, disk: &mut D, matcher: &RegexMatcher, path: &str) -> Result<()> {
+    let bytes = disk.read_file(rt.alloc(), path)?;
+    for (index, line) in str::from_utf8(&bytes).unwrap_or("").lines().enumerate() {
         if matcher.is_match(line.as_bytes())? {
             println!(rt; "{path}:{}:{line}", index.saturating_add(1))?;
         }
