@@ -2,6 +2,7 @@ pub mod Blocks
 pub mod Compiled
 pub mod FirstWays
 pub mod Found
+pub mod LineStarts
 pub mod Pass
 pub mod Rows
 pub mod RunsOver

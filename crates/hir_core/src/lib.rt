@@ -9,6 +9,7 @@ mod block;
 mod blocks;
 mod closure;
 mod first_way;
+mod line_start;
 mod pass;
 mod plain;
 mod run_over;

@@ -11,7 +11,7 @@ ghost use Rattle.sd_base.specs.Steps.{TicksAtMost};
 
 use crate::blocks::PLACES;
 use crate::plain::TextFinder;
-use crate::{Hir, Slots, group_count, stack_search};
+use crate::{Hir, Slots, group_count, line_start, stack_search};
 use grep_matcher::Match;
 use hir_program::{SPOTS, Scan, Spot, program};
 use sd_base::{Ledger, NoMemory, Silent, Steps};
@@ -33,6 +33,8 @@ pub struct Searcher {
     filter: Option<Scan>,
     /// The search for the text that the pattern is, if it is one.
     text: Option<TextFinder>,
+    /// Whether the pattern is the start of a line.
+    is_line_start: bool,
 }
 
 impl Model for Searcher {
@@ -47,7 +49,7 @@ impl Model for Searcher {
 
     ghost view = { λ s. s.hir };
 
-    ghost invariant = { λ s. IsCompiled s.hir s.groups s.spots.items s.filter s.text };
+    ghost invariant = { λ s. IsCompiled s.hir s.groups s.spots.items s.filter s.text s.is_line_start };
 }
 
 impl Searcher {
@@ -59,6 +61,7 @@ impl Searcher {
         let spots = program(alloc, &copy)?;
         let filter = Scan::new(alloc, &spots)?;
         let text = TextFinder::of_pattern(alloc, &copy)?;
+        let is_line_start = line_start::is_line_start(&copy);
         let groups = group_count(&copy);
         Ok(Searcher {
             alloc,
@@ -67,6 +70,7 @@ impl Searcher {
             spots,
             filter,
             text,
+            is_line_start,
         })
     }
 
@@ -102,8 +106,8 @@ impl Searcher {
 
     /// [`search_at`](Searcher::search_at) with counted steps: one for each visit of a spot that takes a byte or a character,
     /// looks, goes on both ways, or ends a group other than the whole match. At a place of the text each spot is visited once at most.
-    /// Where the pattern is one text, or the filter passes over a place, nothing is visited. The first way that is gone in vain before
-    /// all others isn't noted: it is gone once more.
+    /// Where the pattern is one text or the start of a line, or the filter passes over a place, nothing is visited. The first way that is
+    /// gone in vain before all others isn't noted: it is gone once more.
     pub fn search_at_steps<L: Ledger>(
         &self,
         text: &[u8],
@@ -119,11 +123,14 @@ impl Searcher {
         if let Some(finder) = &self.text {
             return Ok(finder.search(text, at, slots));
         }
+        if self.is_line_start {
+            return Ok(line_start::search(text, at, slots));
+        }
         self.search_places(text, at, slots, PLACES, steps)
     }
 
     /// For tests: [`search_at`](Searcher::search_at) over blocks of so many places, at least one and at most 256, where the pattern is
-    /// searched block by block. A pattern that is one text is searched so too.
+    /// searched block by block. A pattern that is one text or the start of a line is searched so too.
     pub fn search_by_blocks(
         &self,
         text: &[u8],

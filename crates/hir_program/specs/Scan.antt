@@ -4,7 +4,7 @@ use Rattle.hir_tree.specs.Looks.{holds}
 use Rattle.hir_tree.specs.declared.look.Look.{Look}
 use Rattle.hir_program.specs.Entry.{IsEntry}
 use Rattle.hir_program.specs.Loops.{AreLoops}
-use Rattle.hir_program.specs.Masks.{Covers, CoverTheirSpots, HaveOwnBits, AreTakers, SaysNoMore, SaysWhatTakes, SaysWhatFollows, SaysWhichAreWide, AreMoved, AreDead, IsDead, IsPart, IsShut, HasBit, match_bit, next_of, sure_bit}
+use Rattle.hir_program.specs.Masks.{Covers, CoverTheirSpots, HaveOwnBits, AreTakers, SaysNoMore, SaysWhatTakes, SaysWhatFollows, SaysWhichAreWide, AreMoved, AreDead, IsDead, IsPart, IsShut, IsShutBefore, HasBit, match_bit, next_of, sure_bit}
 use Rattle.hir_program.specs.Program.{spot_at}
 use Rattle.hir_program.specs.declared.spot.Spot.{Spot}
 use Rattle.hir_program.specs.declared.scan.Scan.{Scan}
@@ -28,21 +28,23 @@ pub record IsOpenAt (text : List ℕ) (at : ℕ) (s : Scan) (mask : ℕ) : Type 
 abbrev pub NoEnd : List ℕ → ℕ → Option Look → ℕ → Type 0
 NoEnd text at look mask = (HasBit mask sure_bit → ⊥) × (HasBit mask match_bit → IsShut text at look)
 
--- Each match passes a required spot: until one of them took a byte, only those of `before` may be tried, and no match ends.
+-- Each match passes a required spot, or ends where the last look holds: until one of them took a byte, only those of `before` may be tried, and
+-- no match ends elsewhere, nor there unless `before` has the bit for it.
 pub record IsRequired (spots : List Spot) (of : List ℕ) (look : Option Look) (start : ℕ) (c : Required) : Type 0 where
   pub begun : IsPart start c.before
   pub follows : (i : ℕ) → i < length of → HasBit c.before i → (HasBit c.spots i → ⊥)
       → Covers spots of look c.before (next_of (spot_at spots (slice_index of i)))
-  pub unmatched : c.before < 2 ^ 62
+  pub unsure : HasBit c.before sure_bit → ⊥
 
 -- they are required in each program that moves on as these rows say
 abbrev pub IsRequiredOf : List ℕ → ℕ → Required → Type 0
 IsRequiredOf rows start c =
     (spots : List Spot) (of : List ℕ) (look : Option Look) → length of ≤ sure_bit → SaysWhatFollows spots of look rows → IsRequired spots of look start c
 
--- no required spot takes the byte, and none before one takes a character beyond ASCII that begins with it
-abbrev pub IsPassedOver : List ℕ → ℕ → Required → ℕ → Type 0
-IsPassedOver takes wide c byte = (bit_and (slice_index takes byte) c.spots ≡ 0) × ((byte < 128) ⊎ (bit_and c.before wide ≡ 0))
+-- no required spot takes the byte, none before one takes a character beyond ASCII that begins with it, and no match ends before it
+abbrev pub IsPassedOver : List ℕ → ℕ → Option Look → Required → ℕ → Type 0
+IsPassedOver takes wide look c byte =
+    (bit_and (slice_index takes byte) c.spots ≡ 0) × ((byte < 128) ⊎ (bit_and c.before wide ≡ 0)) × (HasBit c.before match_bit → IsShutBefore look byte)
 
 -- the prefilter stops at the byte
 abbrev pub stops_at : Stops → ℕ → Bool
@@ -50,8 +52,8 @@ stops_at (stops.One byte) b = b == byte
 stops_at (stops.Several table) b = slice_index_or table b true
 
 -- a byte at which the prefilter doesn't stop is passed over
-abbrev pub TellsStops : List ℕ → ℕ → Required → Stops → Type 0
-TellsStops takes wide c s = (b : ℕ) → b < 256 → stops_at s b ≡ false → IsPassedOver takes wide c b
+abbrev pub TellsStops : List ℕ → ℕ → Option Look → Required → Stops → Type 0
+TellsStops takes wide look c s = (b : ℕ) → b < 256 → stops_at s b ≡ false → IsPassedOver takes wide look c b
 
 -- The filter tells where a match of the program may be: bit i is that of the spot `of` has at i. At most 62 spots have a bit,
 -- each of which takes bytes.
@@ -69,7 +71,7 @@ pub record IsFilterOf (spots : List Spot) (s : Scan) : Type 0 where
   pub first : IsAskedFirst spots s.first_look
   pub loops : AreLoops spots s.loops
   pub entry : IsEntry spots s.entry
-  pub prefilter : IfSome s.prefilter (λ k. IsRequired spots s.of.items s.last_look s.start k.required × TellsStops s.takes.items s.wide k.required k.stops)
+  pub prefilter : IfSome s.prefilter (λ k. IsRequired spots s.of.items s.last_look s.start k.required × TellsStops s.takes.items s.wide s.last_look k.required k.stops)
 
 -- no run begins at a place from one on to before another, as the filter says
 abbrev pub NoneBegins : List ℕ → Scan → ℕ → ℕ → Type 0

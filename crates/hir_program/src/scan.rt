@@ -109,6 +109,11 @@ impl FilterState {
             ahead: self.ahead,
         }
     }
+
+    /// Whether the prefilter stopped at the place, and not behind it.
+    fn is_at_stop(self) -> bool {
+        self.ahead.checked_sub(self.place) == Some(1)
+    }
 }
 
 /// Places that may have a match: none before `from` has one. A run that begins there may end at `until`, or go on in a
@@ -156,13 +161,20 @@ impl Scan {
         let wide = takes::wide(spots, of.as_slice());
         let shifts = shifts::shifts(alloc, takes.as_slice(), moves, start, wide)?;
         let open_before = takes::open_before(alloc, takes.as_slice(), wide, last_look)?;
-        let required = Required::rarest(takes.as_slice(), after.as_slice(), start, of.len());
+        let required = Required::rarest(
+            takes.as_slice(),
+            after.as_slice(),
+            start,
+            of.len(),
+            last_look,
+        );
         let is_sure = first_look.is_none() && ends_at_once(after.as_slice(), start);
         let prefilter = prefilter::worth_while(
             required,
             takes.as_slice(),
             wide,
             first_look,
+            last_look,
             is_sure,
         );
         let look_ahead = prefilter::look_ahead(&prefilter, is_sure);
@@ -315,8 +327,36 @@ impl Scan {
         spot >= self.firsts.len() || self.firsts[spot] & self.open_by(byte) != 0
     }
 
-    /// Passes over places from one on up to the next one where a match may pass a required spot, and goes back from there as long as spots
-    /// before it may have taken the bytes.
+    /// Passes over places from one on up to the next stop of the prefilter, and goes back from there as long as spots before a required one may
+    /// have taken the bytes.
+    fn skip_once(&self, prefilter: &Prefilter, text: &[u8], at: usize) -> FilterState
+        requires own { self.now.prefilter ≡ Some prefilter.now }
+        requires at { at ≤ length text.now }
+        ensures none { NoneBegins text.now self.now at result.from }
+        ensures state { result.state ≡ 0 }
+        ensures place { result.place ≡ result.from }
+        ensures after { at ≤ result.from }
+        ensures within { result.from ≤ length text.now }
+    {
+        let next = prefilter.next(text, at);
+        if next == text.len() && !prefilter.required.may_end() {
+            return FilterState {
+                from: next,
+                place: next,
+                state: 0,
+                ahead: next,
+            };
+        }
+        let gap = prefilter.gap(self.takes.as_slice(), text, at, next);
+        FilterState {
+            from: gap,
+            place: gap,
+            state: 0,
+            ahead: next + 1,
+        }
+    }
+
+    /// The same, over stops too at which and before which no run may begin.
     #[inline(never)]
     fn skip_ahead(&self, text: &[u8], at: usize) -> FilterState
         requires { at ≤ length text.now }
@@ -334,22 +374,14 @@ impl Scan {
                 ahead: text.len(),
             };
         };
-        let next = prefilter.next(text, at);
-        if next == text.len() {
-            return FilterState {
-                from: next,
-                place: next,
-                state: 0,
-                ahead: next,
-            };
+        let mut so_far = self.skip_once(prefilter, text, at);
+        while so_far.is_at_stop()
+            && so_far.place < text.len()
+            && !self.may_start(text, so_far.place)
+        {
+            so_far = self.skip_once(prefilter, text, so_far.place + 1);
         }
-        let gap = prefilter.gap(self.takes.as_slice(), text, at, next);
-        FilterState {
-            from: gap,
-            place: gap,
-            state: 0,
-            ahead: next + 1,
-        }
+        so_far
     }
 
     /// The spots that may be tried at a place: those of the state, and those of the start, if a run may begin there.
@@ -486,7 +518,7 @@ impl Scan {
             });
         };
         let next = prefilter.next(text, at);
-        if next == text.len() && !self.may_start(text, next) {
+        if next == text.len() && !prefilter.required.may_end() && !self.may_start(text, next) {
             return None;
         }
         let from = prefilter.gap(self.takes.as_slice(), text, at, next);

@@ -116,7 +116,7 @@ groups-least bytes groups text from to (Some start) (least, low, high, here, bef
   (λ at l h. found-groups bytes groups text at ∙ ap (option_map (text_groups bytes groups)) (before at l h)),
 )
 
-unset-spans : (n : ℕ) → map span_of (replicate n None) ≡ replicate n None
+pub unset-spans : (n : ℕ) → map span_of (replicate n None) ≡ replicate n None
 unset-spans zero = refl
 unset-spans (suc n) = ap (λ spans. None ∷ spans) (unset-spans n)
 

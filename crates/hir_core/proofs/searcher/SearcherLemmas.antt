@@ -4,10 +4,11 @@ use Rattle.std.specs.Prelude.{option_map, replicate, slice_set}
 use Rattle.std.specs.Option.{is_some, option_or}
 use Rattle.std.proofs.lemmas.Bool.{cases_lt, false≢true}
 use Rattle.hir_core.specs.Found.{IsOfLeast, IsFound, span_found, whole_span}
-use Rattle.hir_tree.specs.Cores.{core_of}
+use Rattle.hir_tree.specs.Cores.{core_of, core_of_tree}
 use Rattle.hir_tree.specs.Spots.{groups_of}
-use Rattle.hir_tree.specs.Tree.{tree_of}
+use Rattle.hir_tree.specs.Tree.{Tree, tree_of}
 use Rattle.hir_core.specs.Compiled.{IsCompiled}
+use Rattle.hir_core.specs.LineStarts.{line_start_found}
 use Rattle.hir_tree.specs.PlainText.{text_of, text_found, text_groups, stands_at}
 use Rattle.hir_tree.specs.Runs.{Run, first, preferred}
 use Rattle.hir_core.specs.Pass.{first_of, begins, groups_found, first_from, best_in}
@@ -17,6 +18,7 @@ use Rattle.hir_program.specs.declared.scan.Scan.{Scan}
 use Rattle.hir_tree.specs.declared.hir.Hir.{Hir}
 use Rattle.hir_program.specs.declared.spot.Spot.{Spot}
 use Rattle.hir_tree.proofs.PlainTextLemmas.{preferred-text}
+use Rattle.hir_core.proofs.line_start.LineStartLemmas.{line_start-matches}
 use Rattle.hir_core.proofs.searcher.SoundRunsLemmas.{IsWhole, first_from-whole}
 
 module _ {A : Type 0} (each : ℕ → Option A) (at to : ℕ) where
@@ -131,7 +133,7 @@ span-by_text hir pattern same needle is text at found =
     ∙ sym (ap whole_span (preferred-text (tree_of pattern) needle (ap text_of (sym same) ∙ is) (groups_of pattern) text p))) found
 
 -- a pattern that was compiled
-module _ (hir : Hir) (groups : ℕ) (spots : List Spot) (scan : Option Scan) (bytes : Option (List ℕ)) (compiled : IsCompiled hir groups spots scan bytes)
+module _ (hir : Hir) (groups : ℕ) (spots : List Spot) (scan : Option Scan) (bytes : Option (List ℕ)) (starts : Bool) (compiled : IsCompiled hir groups spots scan bytes starts)
     (pattern : Hir) (same : hir ≡ pattern) (text : List ℕ) (at : ℕ) (found : Bool) (slots : List (Option Span)) where
   -- what is found of its text, if it is one, is what is found of it
   pub found-by_text : (needle : List ℕ) → bytes ≡ Some needle → (n : ℕ) → n ≡ groups_of pattern → IsFound (text_found needle n text) at (length text) found slots
@@ -139,3 +141,11 @@ module _ (hir : Hir) (groups : ℕ) (spots : List Spot) (scan : Option Scan) (by
   found-by_text needle e n k =
       found-same (text_found needle n text) (preferred (core_of pattern) (groups_of pattern) text) at (length text)
       (λ p within. ap (λ m. text_found needle m text p) k ∙ sym (preferred-text (tree_of pattern) needle (ap text_of (sym same) ∙ sym compiled.text ∙ e) (groups_of pattern) text p)) found slots
+
+  -- so is what is found where a line starts, if it is taken for the start of a line
+  pub found-by_line_start : starts ≡ true → (n : ℕ) → n ≡ groups_of pattern → IsFound (line_start_found n text) at (length text) found slots
+      → IsFound (preferred (core_of pattern) (groups_of pattern) text) at (length text) found slots
+  found-by_line_start is n k =
+      found-same (line_start_found n text) (preferred (core_of pattern) (groups_of pattern) text) at (length text)
+      (λ p within. ap (λ m. line_start_found m text p) k ∙ sym (line_start-matches (groups_of pattern) text p)
+      ∙ ap (λ (tree : Tree). preferred (core_of_tree tree) (groups_of pattern) text p) (sym (compiled.line_start is) ∙ ap tree_of same)) found slots

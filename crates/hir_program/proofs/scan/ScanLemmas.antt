@@ -97,6 +97,11 @@ shut_at : (look : Option Look) (b : ℕ) → IsShutBefore look b → (text : Lis
 shut_at None b shut text at within here = tt
 shut_at (Some l) b shut text at within here = shut l refl text at within here
 
+-- no match ends where the byte rules out the look at which one would
+NoEnd-passed : (text : List ℕ) (at : ℕ) (look : Option Look) (mask : ℕ) → at < length text → (HasBit mask sure_bit → ⊥)
+    → (HasBit mask match_bit → IsShutBefore look (slice_index text at)) → NoEnd text at look mask
+NoEnd-passed text at look mask within unsure shut = (unsure, λ has. shut_at look (slice_index text at) (shut has) text at within refl)
+
 -- what may go on before a byte may where that stands
 pub open_where : (s : Scan) (b mask : ℕ) → IsOpen b (slice_index s.takes.items b) s.wide s.last_look mask → (text : List ℕ) (at : ℕ) → at < length text → slice_index text at ≡ b
     → IsOpenAt text at s mask
@@ -192,9 +197,9 @@ module _ (text : List ℕ) (spots : List Spot) (s : Scan) (filter : IsFilterOf s
 
   module _ (c : Required) (required : IsRequired spots s.of.items s.last_look s.start c) where
     -- the spots before a required one are dead where it is passed over, if they are at the next place
-    AreDead-passed : (place : ℕ) → slice_index text place < 256 → IsPassedOver s.takes.items s.wide c (slice_index text place)
+    AreDead-passed : (place : ℕ) → place < length text → slice_index text place < 256 → IsPassedOver s.takes.items s.wide s.last_look c (slice_index text place)
         → AreDead text spots s.of.items s.last_look (place + 1) c.before → AreDead text spots s.of.items s.last_look place c.before
-    AreDead-passed place small passed later = record {
+    AreDead-passed place within small passed later = record {
       unmatched = none.0;
       asked = none.1;
       dead = λ i lt has.
@@ -210,28 +215,28 @@ module _ (text : List ℕ) (spots : List Spot) (s : Scan) (filter : IsFilterOf s
         byte = slice_index text place
 
         none : NoEnd text place s.last_look c.before
-        none = NoEnd-small text place s.last_look c.before required.unmatched
+        none = NoEnd-passed text place s.last_look c.before within required.unsure passed.2
 
     -- so they are from a place on where it is passed over at so many
-    AreDead-prefilter : (count place : ℕ) → ((q : ℕ) → slice_index text q < 256)
-        → ((q : ℕ) → place ≤ q → q < place + count → IsPassedOver s.takes.items s.wide c (slice_index text q))
+    AreDead-prefilter : (count place : ℕ) → place + count ≤ length text → ((q : ℕ) → slice_index text q < 256)
+        → ((q : ℕ) → place ≤ q → q < place + count → IsPassedOver s.takes.items s.wide s.last_look c (slice_index text q))
         → AreDead text spots s.of.items s.last_look (place + count) c.before → AreDead text spots s.of.items s.last_look place c.before
-    AreDead-prefilter zero place small passed later =
+    AreDead-prefilter zero place within small passed later =
         subst (λ (p : ℕ). AreDead text spots s.of.items s.last_look p c.before) (let here : place + 0 ≡ place = omega arith in here) later
-    AreDead-prefilter (suc count) place small passed later =
-        AreDead-passed place (small place) (passed place (omega arith) (omega arith))
-        (AreDead-prefilter count (place + 1) small (λ q low high. passed q (omega arith) (omega arith))
+    AreDead-prefilter (suc count) place within small passed later =
+        AreDead-passed place (omega arith) (small place) (passed place (omega arith) (omega arith))
+        (AreDead-prefilter count (place + 1) (omega arith) small (λ q low high. passed q (omega arith) (omega arith))
         (subst (λ (p : ℕ). AreDead text spots s.of.items s.last_look p c.before)
         (let there : place + suc count ≡ place + 1 + count = omega arith in there) later))
 
     -- no run begins before a place, and none there, where the spots before a required one are dead
-    IsDead-prefilter : (at end q : ℕ) → ((p : ℕ) → slice_index text p < 256)
-        → ((p : ℕ) → at ≤ p → p < end → IsPassedOver s.takes.items s.wide c (slice_index text p))
+    IsDead-prefilter : (at end q : ℕ) → end ≤ length text → ((p : ℕ) → slice_index text p < 256)
+        → ((p : ℕ) → at ≤ p → p < end → IsPassedOver s.takes.items s.wide s.last_look c (slice_index text p))
         → AreDead text spots s.of.items s.last_look end c.before → at ≤ q → q ≤ end → IsDead text spots q 0
-    IsDead-prefilter at end q small passed later low high =
+    IsDead-prefilter at end q within small passed later low high =
         filter.start text q
         (AreDead-part text spots s.of.items s.last_look q s.start c.before required.begun
-        (AreDead-prefilter (end - q) q small (λ p from until. passed p (omega arith) (omega arith))
+        (AreDead-prefilter (end - q) q (omega arith) small (λ p from until. passed p (omega arith) (omega arith))
         (subst (λ (p : ℕ). AreDead text spots s.of.items s.last_look p c.before) (let there : end ≡ q + (end - q) = omega arith in there) later)))
 
 -- a power of two has nothing in common with a number that lacks its bit
@@ -283,34 +288,35 @@ module _ (text : List ℕ) (s : Scan) where
       (passed : (p : ℕ) → at ≤ p → p < next → stops_at k.stops (slice_index text p) ≡ false) where
     -- what the filter says of the prefilter
     said : (spots : List Spot) → IsFilterOf spots s
-        → IsRequired spots s.of.items s.last_look s.start k.required × TellsStops s.takes.items s.wide k.required k.stops
+        → IsRequired spots s.of.items s.last_look s.start k.required × TellsStops s.takes.items s.wide s.last_look k.required k.stops
     said spots filter =
         subst
-        (λ (o : Option Prefilter). IfSome o (λ j. IsRequired spots s.of.items s.last_look s.start j.required × TellsStops s.takes.items s.wide j.required j.stops))
+        (λ (o : Option Prefilter). IfSome o (λ j. IsRequired spots s.of.items s.last_look s.start j.required × TellsStops s.takes.items s.wide s.last_look j.required j.stops))
         is filter.prefilter
 
     narrow_apart : {byte : ℕ} → (byte < 128) ⊎ (bit_and k.required.before s.wide ≡ 0) → (byte < 128) ⊎ AreApart k.required.before s.wide
     narrow_apart narrow = elim narrow [ inl low ↦ inl low | inr nothing ↦ inr (λ i. HasBit-apart k.required.before s.wide i nothing) ]
 
-    -- no run begins where the prefilter comes to the end of the text
-    pub NoneBegins-end : length text ≤ next → NoneBegins text s at next
-    NoneBegins-end over spots filter q low high =
+    -- no run begins where the prefilter comes to the end of the text, and no match ends there without a required spot
+    pub NoneBegins-end : next ≡ length text → (HasBit k.required.before match_bit → ⊥) → NoneBegins text s at next
+    NoneBegins-end over no_end spots filter q low high =
         let is_required = (said spots filter).0 in
-        IsDead-prefilter text spots s filter k.required is_required at next q small
+        IsDead-prefilter text spots s filter k.required is_required at next q (omega (arith, over)) small
         (λ p from until. (said spots filter).1 (slice_index text p) (small p) (passed p from until))
-        (AreDead-end text spots s filter k.required.before next over (NoEnd-small text next s.last_look k.required.before is_required.unmatched)) low (omega arith)
+        (AreDead-end text spots s filter k.required.before next (omega (arith, over)) (is_required.unsure, λ has. absurd (no_end has))) low (omega arith)
 
     -- nor before a byte that no spot before a required one takes
     pub NoneBegins-gap : (gap : ℕ) → (gap ≡ at) ⊎ (bit_and k.required.before (slice_index s.takes.items (slice_index text (gap - 1))) ≡ 0)
-        → gap ≤ next → NoneBegins text s at gap
-    NoneBegins-gap gap none within spots filter q low high = elim none [
+        → gap ≤ next → next ≤ length text → NoneBegins text s at gap
+    NoneBegins-gap gap none before within spots filter q low high = elim none [
       | inl here ↦ absurd (omega arith)
       | inr nothing ↦
           let is_required = (said spots filter).0 in
           let passes = λ (p : ℕ) (from : at ≤ p) (until : p < next). (said spots filter).1 (slice_index text p) (small p) (passed p from until) in
-          IsDead-prefilter text spots s filter k.required is_required at (gap - 1) q small (λ p from until. passes p from (omega arith))
+          let last = passes (gap - 1) (omega arith) (omega arith) in
+          IsDead-prefilter text spots s filter k.required is_required at (gap - 1) q (omega arith) small (λ p from until. passes p from (omega arith))
           (AreDead-by text spots s filter (gap - 1) k.required.before (small (gap - 1))
-          (NoEnd-small text (gap - 1) s.last_look k.required.before is_required.unmatched) (narrow_apart (passes (gap - 1) (omega arith) (omega arith)).1)
+          (NoEnd-passed text (gap - 1) s.last_look k.required.before (omega arith) is_required.unsure last.2) (narrow_apart last.1)
           (λ i. HasBit-apart k.required.before (slice_index s.takes.items (slice_index text (gap - 1))) i nothing))
           low (omega arith)
     ]

@@ -1,7 +1,7 @@
-//! A rare-byte prefilter: it skips places from which no match passes a required spot.
+//! A rare-byte prefilter: it skips places from which no match passes a required spot, or ends where the last look holds.
 
 ghost use Rattle.std.specs.Prelude.{◌≡◌, ◌-◌, ◌<◌, ◌≤◌, ◌⊎◌, ℕ, false, true, length, slice_index, slice_index_or, bit_and, IfSome, Some};
-ghost use Rattle.hir_program.specs.Scan.{TellsStops, stops_at};
+ghost use Rattle.hir_program.specs.Scan.{IsPassedOver, TellsStops, stops_at};
 ghost use Rattle.hir_program.specs.declared.scan.prefilter.Stops.TheVariants as stops;
 
 use crate::scan::required::Required;
@@ -23,23 +23,24 @@ pub enum Stops {
     Several([bool; 256]),
 }
 
-/// Skips to the next place where a match may pass a required spot.
+/// Skips to the next place where a match may pass a required spot, or end without one.
 #[derive(Clone, Copy)]
 pub struct Prefilter {
     /// The required spots.
     pub required: Required,
-    /// The bytes that a required spot takes, and, where one before it may take a character beyond ASCII, those that may begin one.
+    /// The bytes that a required spot takes, those before which a match may end without one, and, where one before it may take a character
+    /// beyond ASCII, those that may begin one.
     pub stops: Stops,
 }
 
 impl Prefilter {
-    /// The prefilter by required spots, where the spots take these bytes.
-    pub fn new(required: Required, takes: &[u64], wide: u64) -> Prefilter
+    /// The prefilter by required spots, where the spots take these bytes, and this is the last look.
+    pub fn new(required: Required, takes: &[u64], wide: u64, last_look: Option<Look>) -> Prefilter
         requires { length takes.now ≡ 256 }
         ensures required { result.required ≡ required }
-        ensures stops { TellsStops takes.now wide required result.stops }
+        ensures stops { TellsStops takes.now wide last_look required result.stops }
     {
-        let table = table_of(required, takes, wide);
+        let table = table_of(required, takes, wide, last_look);
         for byte in 0..=255u8 {
             if is_alone(&table, byte) {
                 return Prefilter {
@@ -91,17 +92,23 @@ pub fn worth_while(
     takes: &[u64],
     wide: u64,
     first_look: Option<Look>,
+    last_look: Option<Look>,
     is_sure: bool,
 ) -> Option<Prefilter>
     requires { length takes.now ≡ 256 }
-    ensures { IfSome result (λ prefilter. (required ≡ Some prefilter.required) × TellsStops takes.now wide prefilter.required prefilter.stops) }
+    ensures { IfSome result (λ prefilter. (required ≡ Some prefilter.required)
+        × TellsStops takes.now wide last_look prefilter.required prefilter.stops) }
 {
     let required = required?;
-    let is_quick = matches!(first_look, None | Some(Look::StartLF));
-    if is_quick && !is_sure && required.share(takes) >= FREQUENT {
+    let is_often = match first_look {
+        None => required.share(takes, last_look) >= FREQUENT,
+        Some(Look::StartLF) => required.spots == 0 || required.share(takes, last_look) >= FREQUENT,
+        Some(_) => false,
+    };
+    if is_often && !is_sure {
         return None;
     }
-    Some(Prefilter::new(required, takes, wide))
+    Some(Prefilter::new(required, takes, wide, last_look))
 }
 
 /// How many bytes of a run are looked at before the place where it begins is given as a candidate: none where that is a match, few
@@ -143,16 +150,30 @@ fn next_of_several(table: &[bool; 256], text: &[u8], at: usize) -> usize
     place
 }
 
-/// For each byte, whether the prefilter stops at it.
-fn table_of(required: Required, takes: &[u64], wide: u64) -> [bool; 256]
+/// Whether a byte is passed over.
+fn is_passed(
+    required: Required,
+    takes: &[u64],
+    wide: u64,
+    last_look: Option<Look>,
+    byte: u8,
+) -> bool
     requires { length takes.now ≡ 256 }
-    ensures { TellsStops takes.now wide required (stops.Several result) }
+    ensures { result ≡ true → IsPassedOver takes.now wide last_look required byte }
+{
+    takes[byte as usize] & required.spots == 0
+        && (byte < 128 || required.before & wide == 0)
+        && !required.may_end_before(last_look, byte)
+}
+
+/// For each byte, whether the prefilter stops at it.
+fn table_of(required: Required, takes: &[u64], wide: u64, last_look: Option<Look>) -> [bool; 256]
+    requires { length takes.now ≡ 256 }
+    ensures { TellsStops takes.now wide last_look required (stops.Several result) }
 {
     let mut table = [false; 256];
     for byte in 0..256usize {
-        let is_passed = takes[byte] & required.spots == 0
-            && (byte < 128 || required.before & wide == 0);
-        table[byte] = !is_passed;
+        table[byte] = !is_passed(required, takes, wide, last_look, byte as u8);
     }
     table
 }

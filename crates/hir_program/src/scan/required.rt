@@ -1,16 +1,22 @@
-//! Required spots of a program: each match passes one of them (a vertex separator of its start and its ends).
+//! Required spots of a program: each match passes one of them (a vertex separator of its start and its ends), or ends where the last look holds.
 
-ghost use Rattle.std.specs.Prelude.{◌≡◌, ◌≤◌, ◌⊎◌, length, IfSome};
+ghost use Rattle.std.specs.Prelude.{◌≡◌, ◌≤◌, ◌⊎◌, false, length, IfSome};
+ghost use Rattle.hir_program.specs.Masks.{HasBit, IsShutBefore, match_bit};
 ghost use Rattle.hir_program.specs.Scan.{IsRequiredOf};
 
-use crate::scan::bits::{SURE, joined};
+use crate::scan::asked::may_hold_before;
+use crate::scan::bits::{MATCH, SURE, joined};
+use hir_tree::Look;
 
-/// Spots of which each match passes one: a run takes a byte by one of them, or it comes to no match.
+/// How many of a thousand bytes of a text, by the guess of [`share`], are too many to be taken before each end of a line.
+const MOST: u64 = 1200;
+
+/// Spots of which each match passes one, or ends where the last look holds: a run takes a byte by one of them, or it comes to no other match.
 #[derive(Clone, Copy)]
 pub struct Required {
-    /// The spots.
+    /// The spots. Where there are none, each match ends where the last look holds.
     pub spots: u64,
-    /// The spots that may be tried until one of these took a byte, these among them.
+    /// The spots that may be tried until one of these took a byte, these among them, and MATCH if a match may end before.
     pub before: u64,
 }
 
@@ -28,7 +34,7 @@ fn share(byte: u8) -> u64 {
 }
 
 impl Required {
-    /// These spots, if each match passes one of them: no match ends at a spot that comes before.
+    /// These spots, if each match passes one of them: at a spot that comes before none ends, or only where the last look holds.
     fn new(after: &[u64], start: u64, spots: u64) -> Option<Required>
         requires { length after.now ≡ 2048 }
         ensures { IfSome result (λ required. IsRequiredOf after.now start required) }
@@ -37,7 +43,7 @@ impl Required {
         for _ in 0..63 {
             let more = before | joined(after, before & !spots);
             if more == before {
-                return if before < SURE {
+                return if before & SURE == 0 {
                     Some(Required { spots, before })
                 } else {
                     None
@@ -53,13 +59,27 @@ impl Required {
         self.spots == self.before
     }
 
-    /// How many of a thousand bytes of a text its spots take: a guess, which changes the time alone.
-    pub fn share(self, takes: &[u64]) -> u64
+    /// Whether a match may end without a required spot.
+    pub fn may_end(self) -> bool
+        ensures { result ≡ false → HasBit self.before match_bit → ⊥ }
+    {
+        self.before >= MATCH
+    }
+
+    /// Whether a match may end before a byte without a required spot, where this is the last look.
+    pub fn may_end_before(self, last_look: Option<Look>, byte: u8) -> bool
+        ensures { result ≡ false → HasBit self.before match_bit → IsShutBefore last_look byte }
+    {
+        self.may_end() && may_hold_before(last_look, byte)
+    }
+
+    /// How many of a thousand bytes of a text its spots take, or have a match end before them: a guess, which changes the time alone.
+    pub fn share(self, takes: &[u64], last_look: Option<Look>) -> u64
         requires { length takes.now ≡ 256 }
     {
         let mut sum: u64 = 0;
         for byte in 0..=255u8 {
-            if takes[byte as usize] & self.spots != 0 {
+            if takes[byte as usize] & self.spots != 0 || self.may_end_before(last_look, byte) {
                 sum = sum.saturating_add(share(byte));
             }
         }
@@ -67,11 +87,11 @@ impl Required {
     }
 
     /// The one of two whose spots take fewer bytes, the first where they take as many.
-    fn rarer(self, other: Required, takes: &[u64]) -> Required
+    fn rarer(self, other: Required, takes: &[u64], last_look: Option<Look>) -> Required
         requires { length takes.now ≡ 256 }
         ensures { (result ≡ self) ⊎ (result ≡ other) }
     {
-        if other.share(takes) < self.share(takes) {
+        if other.share(takes, last_look) < self.share(takes, last_look) {
             other
         } else {
             self
@@ -79,7 +99,13 @@ impl Required {
     }
 
     /// The required spots that take the rarest bytes, of those of the start, and of single ones of so many spots, if there are any.
-    pub fn rarest(takes: &[u64], after: &[u64], start: u64, count: usize) -> Option<Required>
+    fn rarest_spots(
+        takes: &[u64],
+        after: &[u64],
+        start: u64,
+        count: usize,
+        last_look: Option<Look>,
+    ) -> Option<Required>
         requires takes { length takes.now ≡ 256 }
         requires after { length after.now ≡ 2048 }
         requires few { count ≤ 62 }
@@ -88,10 +114,37 @@ impl Required {
         let mut rarest = Required::new(after, start, start)?;
         for bit in 0..count {
             if let Some(required) = Required::new(after, start, 1 << bit) {
-                rarest = rarest.rarer(required, takes);
+                rarest = rarest.rarer(required, takes, last_look);
             }
         }
         Some(rarest)
+    }
+
+    /// The same, or none where each match ends where the last look holds and that is rarer, unless nearly all bytes are taken before it.
+    pub fn rarest(
+        takes: &[u64],
+        after: &[u64],
+        start: u64,
+        count: usize,
+        last_look: Option<Look>,
+    ) -> Option<Required>
+        requires takes { length takes.now ≡ 256 }
+        requires after { length after.now ≡ 2048 }
+        requires few { count ≤ 62 }
+        ensures { IfSome result (λ required. IsRequiredOf after.now start required) }
+    {
+        let rarest = Required::rarest_spots(takes, after, start, count, last_look)?;
+        let Some(ends) = Required::new(after, start, 0) else {
+            return Some(rarest);
+        };
+        let taken = Required {
+            spots: ends.before,
+            before: ends.before,
+        };
+        if taken.share(takes, None) > MOST {
+            return Some(rarest);
+        }
+        Some(rarest.rarer(ends, takes, last_look))
     }
 }
 

@@ -28,9 +28,9 @@ passed_one text byte at count q none low high =
 
 -- a prefilter by required spots is one of a program that moves on as the rows say
 pub prefilter_of : (rows takes : List ℕ) (start wide : ℕ) (required : Option Required) (prefilter : Option Prefilter) → IfSome required (λ c. IsRequiredOf rows start c)
-    → IfSome prefilter (λ k. (required ≡ Some k.required) × TellsStops takes wide k.required k.stops) → (spots : List Spot) (of : List ℕ) (look : Option Look)
+    → (look : Option Look) → IfSome prefilter (λ k. (required ≡ Some k.required) × TellsStops takes wide look k.required k.stops) → (spots : List Spot) (of : List ℕ)
     → length of ≤ sure_bit → SaysWhatFollows spots of look rows
-    → IfSome prefilter (λ k. IsRequired spots of look start k.required × TellsStops takes wide k.required k.stops)
-prefilter_of rows takes start wide required None is told spots of look few says = told
-prefilter_of rows takes start wide required (Some k) is told spots of look few says =
+    → IfSome prefilter (λ k. IsRequired spots of look start k.required × TellsStops takes wide look k.required k.stops)
+prefilter_of rows takes start wide required None is look told spots of few says = told
+prefilter_of rows takes start wide required (Some k) is look told spots of few says =
     ((subst (λ (o : Option Required). IfSome o (λ c. IsRequiredOf rows start c)) told.0 is) spots of look few says, told.1)

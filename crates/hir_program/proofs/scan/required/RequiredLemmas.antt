@@ -3,10 +3,10 @@ use Rattle.std.proofs.Common.{◌≡◌, ℕ, ◌*◌, ◌/◌, ◌%◌, ◌^◌
 use Rattle.std.proofs.lemmas.Nat.Bits.{bit_at_not, bit_at-lt}
 use Rattle.std.specs.Int.{bit_at, bit_not}
 use Rattle.hir_program.specs.Program.{spot_at}
-use Rattle.hir_program.specs.Masks.{HasBit, IsPart, next_of, row_place}
+use Rattle.hir_program.specs.Masks.{HasBit, IsPart, next_of, row_place, sure_bit}
 use Rattle.hir_program.specs.Scan.{IsRequiredOf}
 use Rattle.hir_program.specs.declared.scan.required.Required.{Required}
-use Rattle.hir_program.proofs.scan.bits.MaskLemmas.{HasBit-and, HasBit-eight, HasBit-or_right}
+use Rattle.hir_program.proofs.scan.bits.MaskLemmas.{HasBit-and, HasBit-apart, HasBit-eight, HasBit-or_right, HasBit-pow}
 use Rattle.hir_program.proofs.scan.reach.DeadLemmas.{Covers-part}
 
 -- a bit that isn't set in a number is set in its complement
@@ -19,11 +19,11 @@ HasBit-not n i small low unset =
     omega arith
 
 -- what comes after the spots before required ones that aren't required is among those before them
-pub IsRequiredOf-closed : (rows : List ℕ) (start more : ℕ) (c : Required) → c.spots < 2 ^ 64 → IsPart start c.before → c.before < 2 ^ 62
+pub IsRequiredOf-closed : (rows : List ℕ) (start more : ℕ) (c : Required) → c.spots < 2 ^ 64 → IsPart start c.before → bit_and c.before (2 ^ 62) ≡ 0
     → ((i : ℕ) → i < 64 → HasBit (bit_and c.before (bit_not w64 c.spots)) i
     → IsPart (slice_index rows (row_place (bit_and c.before (bit_not w64 c.spots)) i)) more)
     → bit_or c.before more ≡ c.before → IsRequiredOf rows start c
-IsRequiredOf-closed rows start more c fits part small joined same spots of look few says = record {
+IsRequiredOf-closed rows start more c fits part unsure joined same spots of look few says = record {
   begun = part;
   follows = λ i lt has other.
       let live : ℕ = bit_and c.before (bit_not w64 c.spots) in
@@ -32,5 +32,5 @@ IsRequiredOf-closed rows start more c fits part small joined same spots of look 
       Covers-part spots of look (slice_index rows (row_place live i)) c.before (next_of (spot_at spots (slice_index of i)))
       (λ j set_bit. subst (λ (m : ℕ). HasBit m j) same (HasBit-or_right c.before more j (joined i low alive j set_bit)))
       (says i (live / 2 ^ (8 * (i / 8)) % 256) lt (omega arith) (HasBit-eight live i alive));
-  unmatched = small;
+  unsure = λ has. HasBit-apart c.before (2 ^ sure_bit) sure_bit unsure has (HasBit-pow sure_bit);
 }

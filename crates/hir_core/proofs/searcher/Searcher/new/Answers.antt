@@ -15,6 +15,7 @@ invariant_of-result c = record {
   visits = visits;
   filter = filter;
   text = c.in_ok-text.ensures;
+  line_start = c.is_line_start-is_line_start.ensures;
 }
   where
     visits : counted c.in_ok-spots.spots.items ≤ spots_of c.in_ok-copy.copy

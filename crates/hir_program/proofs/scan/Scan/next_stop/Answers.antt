@@ -11,7 +11,7 @@ returns-then-not-may_start-clause-none c =
     let over : next ≡ length text = omega arith in
     subst (λ (end : ℕ). NoneBegins text filter c.args.at (end + 1)) over
     (NoneBegins-more text filter c.args.at next (next + 1)
-    (NoneBegins-end text filter c.in-Some.prefilter c.in-Some.is (λ p. omega (arith, c.type_inv.text p)) c.args.at next c.next-next.ensures.passed (omega arith))
+    (NoneBegins-end text filter c.in-Some.prefilter c.in-Some.is (λ p. omega (arith, c.type_inv.text p)) c.args.at next c.next-next.ensures.passed over (c.may_end.ensures c.if-not-may_end.true))
     (c.may_start.ensures c.if-not-may_start.true))
 
 pub returns-clause-some : goal.returns-clause-some
@@ -23,4 +23,4 @@ returns-clause-some c =
     (subst
     (λ (takes : List ℕ). (gap ≡ c.args.at) ⊎ (bit_and c.in-Some.prefilter.required.before (slice_index takes (slice_index text (gap - 1))) ≡ 0))
     c.as_slice.ensures.value c.gap-from.ensures.gap)
-    c.gap-from.ensures.before
+    c.gap-from.ensures.before c.next-next.ensures.within

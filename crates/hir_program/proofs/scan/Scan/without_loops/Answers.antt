@@ -8,6 +8,7 @@ pub returns : goal.returns
 returns c =
     let start : ℕ = c.in_ok-start.start in
     let wide : ℕ = c.wide-wide.result in
+    let look = c.last_look-last_look.result in
     let required = c.rarest-required.result in
     let prefilter = c.worth_while-prefilter.result in
     record {
@@ -27,7 +28,7 @@ returns c =
       prefilter =
           prefilter_of c.in_ok-after.after.items c.in_ok-takes.takes.items start wide required prefilter
           (subst (λ (rows : List ℕ). IfSome required (λ k. IsRequiredOf rows start k)) c.as_slice-11.ensures.value c.rarest-required.ensures)
-          (subst (λ (takes : List ℕ). IfSome prefilter (λ k. (required ≡ Some k.required) × TellsStops takes wide k.required k.stops)) c.as_slice-12.ensures.value
+          look (subst (λ (takes : List ℕ). IfSome prefilter (λ k. (required ≡ Some k.required) × TellsStops takes wide look k.required k.stops)) c.as_slice-12.ensures.value
           c.worth_while-prefilter.ensures)
-          c.args.spots.now c.in-Some-Some.of.items c.last_look-last_look.result (search rules) (search rules);
+          c.args.spots.now c.in-Some-Some.of.items (search rules) (search rules);
     }
