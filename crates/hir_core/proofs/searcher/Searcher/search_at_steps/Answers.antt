@@ -11,10 +11,10 @@ returns-in-Some-clause-searched g c =
     c.args.text.now c.args.at c.search.result c.search.new.slots c.in-Some.finder c.in-Some.is (length c.args.slots.now - 1) groups c.search.ensures.found in
     record { found = found; kept = c.search.ensures.kept; refused = tt }
 
-pub returns-then-is_line_start-clause-searched : goal.returns-then-is_line_start-clause-searched
-returns-then-is_line_start-clause-searched g c =
+pub returns-then-self-clause-searched : goal.returns-then-self-clause-searched
+returns-then-self-clause-searched g c =
     let searcher = c.self.inside in
     let groups : length c.args.slots.now - 1 ≡ groups_of c.args.self.now = omega (arith, c.requires.slots) in
     let found = found-by_line_start searcher.hir searcher.groups searcher.spots.items searcher.filter searcher.text searcher.is_line_start c.self.invariant c.args.self.now c.self.view_is
-    c.args.text.now c.args.at c.search.result c.search.new.slots c.if-is_line_start.true (length c.args.slots.now - 1) groups c.search.ensures.found in
+    c.args.text.now c.args.at c.search.result c.search.new.slots c.if-self.true (length c.args.slots.now - 1) groups c.search.ensures.found in
     record { found = found; kept = c.search.ensures.kept; refused = tt }
