@@ -8,8 +8,6 @@ mod error;
 mod printing;
 mod running;
 mod sweeping;
-#[cfg(test)]
-mod tests;
 
 use crate::running::run_journal;
 use host_io::{HostDisk, HostSink};
