@@ -86,6 +86,17 @@ impl Required {
         sum
     }
 
+    /// How many of a thousand bytes of a text are taken by the spots that may be tried before: a guess, which changes the time alone.
+    fn share_before(self, takes: &[u64]) -> u64
+        requires { length takes.now ≡ 256 }
+    {
+        let before = Required {
+            spots: self.before,
+            before: 0,
+        };
+        before.share(takes, None)
+    }
+
     /// The one of two whose spots take fewer bytes, the first where they take as many.
     fn rarer(self, other: Required, takes: &[u64], last_look: Option<Look>) -> Required
         requires { length takes.now ≡ 256 }
@@ -137,11 +148,7 @@ impl Required {
         let Some(ends) = Required::new(after, start, 0) else {
             return Some(rarest);
         };
-        let taken = Required {
-            spots: ends.before,
-            before: ends.before,
-        };
-        if taken.share(takes, None) > MOST {
+        if ends.share_before(takes) > MOST {
             return Some(rarest);
         }
         Some(rarest.rarer(ends, takes, last_look))
