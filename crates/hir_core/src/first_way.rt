@@ -16,7 +16,7 @@ ghost use Rattle.hir_core.specs.Trails.{placed_at, stops_of, way_of};
 use crate::block::{last_end, taken_size};
 use crate::closure::{is_counted, lead};
 use crate::trail::Trail;
-use hir_program::{Loops, Row, Scan, Spot};
+use hir_program::{Loops, Scan, Spot, run_end};
 use sd_base::{Ledger, NoMemory, Steps};
 
 /// How many turns are made at most: what takes more is searched block by block.
@@ -31,20 +31,6 @@ pub struct Reached {
     pub bar: usize,
     /// How many visits were made that are counted.
     pub visits: usize,
-}
-
-/// The place up to which the row has each byte, from one on.
-fn run_end(row: &Row, text: &[u8], from: usize) -> usize
-    requires { from ≤ length text.now }
-    ensures over { (at : ℕ) → from ≤ at → at < result → slice_index_or row.now (slice_index text.now at) false ≡ true }
-    ensures forward { from ≤ result }
-    ensures within { result ≤ length text.now }
-{
-    let mut at = from;
-    while at < text.len() && row[text[at] as usize] {
-        at += 1;
-    }
-    at
 }
 
 /// Goes over bytes by which the loop at a spot only goes round.

@@ -9,14 +9,14 @@ ghost use Rattle.hir_program.specs.Loops.{AreLoops, IsRow};
 use crate::block::{Places, mark_of};
 use crate::trail::Trail;
 use crate::visited::Visited;
-use hir_program::{Loops, Row, Spot};
+use hir_program::{ByteTable, Loops, Spot};
 use sd_base::{Ledger, Steps};
 
 /// The place up to which bytes of a block are run over, from one on, at a loop that has a row: up to where the spot was tried. It is
 /// tried, and counted, at each of them then.
 fn run_end<L: Ledger>(
     spots: &[Spot],
-    row: &Row,
+    row: &ByteTable,
     text: &[u8],
     places: Places,
     spot: usize,

@@ -63,6 +63,7 @@ fn unset(groups: &mut Vec<Option<(usize, usize)>>)
 }
 
 /// Makes so many groups of these, all unset. Refuses for want of memory alone.
+#[inline(always)]
 fn unset_all(groups: &mut Vec<Option<(usize, usize)>>, count: usize) -> Result<(), NoMemory>
     ensures { OnOk result (groups.new.items ≡ replicate count None) }
 {
@@ -90,6 +91,7 @@ impl Trail {
     }
 
     /// A thread begins at a place, with groups up to this index. Refuses for want of memory alone.
+    #[inline(always)]
     pub fn begin(&mut self, at: usize, groups: u32) -> Result<(), NoMemory>
         ensures { IfOk result (λ _. way_of self.new ≡ way [] (runs.begin at groups)) }
     {
@@ -99,6 +101,7 @@ impl Trail {
     }
 
     /// A thread begins at a place, where group 0 begins, with groups up to this index. Refuses for want of memory alone.
+    #[inline(always)]
     pub fn begin_whole(&mut self, at: usize, groups: u32) -> Result<(), NoMemory>
         ensures { IfOk result (λ _. way_of self.new ≡ opened (way [] (runs.begin at groups))) }
     {
@@ -146,6 +149,7 @@ impl Trail {
     }
 
     /// Ends the innermost group. Refuses for want of memory alone.
+    #[inline(always)]
     pub fn close(&mut self, index: usize) -> Result<(), NoMemory>
         ensures way { IfOk result (λ _. way_of self.new ≡ closed index (way_of self.old)) }
         ensures stops { IfOk result (λ _. stops_of self.new ≡ stops_of self.old) }

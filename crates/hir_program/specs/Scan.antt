@@ -1,5 +1,5 @@
 -- What a filter of a program says.
-use Rattle.std.specs.Prelude.{◌≡◌, ℕ, ◌^◌, ◌<◌, ◌≤◌, ◌⊎◌, Bool, false, List, length, ◌==◌, slice_index, slice_index_or, bit_and, true, Option, IfSome}
+use Rattle.std.specs.Prelude.{◌≡◌, ℕ, ◌<◌, ◌≤◌, ◌⊎◌, Bool, false, List, length, ◌==◌, slice_index, slice_index_or, bit_and, not, Option, IfSome}
 use Rattle.hir_tree.specs.Looks.{holds}
 use Rattle.hir_tree.specs.declared.look.Look.{Look}
 use Rattle.hir_program.specs.Entry.{IsEntry}
@@ -49,7 +49,7 @@ IsPassedOver takes wide look c byte =
 -- the prefilter stops at the byte
 abbrev pub stops_at : Stops → ℕ → Bool
 stops_at (stops.One byte) b = b == byte
-stops_at (stops.Several table) b = slice_index_or table b true
+stops_at (stops.AllBut passed) b = not (slice_index_or passed b false)
 
 -- a byte at which the prefilter doesn't stop is passed over
 abbrev pub TellsStops : List ℕ → ℕ → Option Look → Required → Stops → Type 0

@@ -4,6 +4,7 @@
 //! begin, and what may go on at a place. What a pattern is, and what it matches, says the crate `hir_tree`.
 #![tactic(auto)]
 
+mod byte_run;
 mod compile;
 mod entry;
 mod loops;
@@ -13,8 +14,9 @@ mod size;
 mod spot;
 mod starts;
 
+pub use byte_run::{ByteTable, run_end};
 pub use compile::program;
-pub use loops::{Loops, Row, Ways};
+pub use loops::{Loops, Ways};
 pub use scan::{Candidate, SPOTS, Scan};
 pub use spot::Spot;
 pub use starts::Starts;

@@ -8,18 +8,16 @@ ghost use Rattle.hir_program.specs.Program.{spot_at};
 ghost use Rattle.hir_program.specs.Scan.{IsFilterOf};
 ghost use Rattle.hir_program.specs.declared.spot.Spot.{Spot};
 
+use crate::byte_run::ByteTable;
 use crate::scan::{SPOTS, Scan};
 use crate::spot::Spot;
 use sd_base::NoMemory;
 use std::alloc::Global;
 
-/// Which bytes are run over at a spot.
-pub type Row = [bool; 256];
-
 /// For each spot of a program that is a loop of one set, which bytes are run over there.
 #[derive(Drop)]
 pub struct Loops {
-    rows: Vec<Option<Box<Row>>>,
+    rows: Vec<Option<Box<ByteTable>>>,
 }
 
 /// The ways of a loop of one set.
@@ -105,7 +103,7 @@ fn is_run_over(spots: &[Spot], filter: &Scan, ways: Ways, byte: u8) -> bool
 }
 
 /// Which bytes are run over by these ways.
-fn row_of(spots: &[Spot], filter: &Scan, ways: Ways) -> Row
+fn row_of(spots: &[Spot], filter: &Scan, ways: Ways) -> ByteTable
     requires { IsFilterOf spots.now filter.now }
     ensures { SaysWhatIsRunOver spots.now ways result }
 {
@@ -122,7 +120,7 @@ fn row_at(
     spots: &[Spot],
     filter: &Scan,
     place: usize,
-) -> Result<Option<Box<Row>>, NoMemory>
+) -> Result<Option<Box<ByteTable>>, NoMemory>
     requires { IsFilterOf spots.now filter.now }
     ensures { IfOk result (λ row. IfSome row (λ row. IsRow spots.now place (box_value row))) }
 {
@@ -158,7 +156,7 @@ impl Loops {
     }
 
     /// Which bytes are run over at a spot, if it is a loop.
-    pub fn row(&self, spot: usize) -> Option<&Row>
+    pub fn row(&self, spot: usize) -> Option<&ByteTable>
         ensures { IfSome result (λ row. (spots : List Spot) → AreLoops spots self.now → IsRow spots spot row.now) }
     {
         match self.rows.get(spot) {

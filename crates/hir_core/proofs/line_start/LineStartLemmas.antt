@@ -1,24 +1,22 @@
 -- Where lines start, and what the pattern that asks for that alone finds.
 use Rattle.std.proofs.Common.{◌≡◌, ℕ, ◌+◌, ◌-◌, ◌<◌, ◌≤◌, Bool, true, false, cond, List, [], ◌∷◌, length, map, take, drop, replicate, slice_index, Option, Some, None, refl, sym, ap, ◌∙◌, get_or-drop, length-drop, arith}
 use Rattle.std.specs.Prelude.{◌==◌, ◌||◌, slice_get, slice_set, option_map}
+use Rattle.std.proofs.lemmas.Bool.{false_from_ne_true}
 use Rattle.std.proofs.lemmas.Bool.Decides.{nat_tests}
-use Rattle.std.proofs.lemmas.List.{map-set, take_rest}
+use Rattle.std.proofs.lemmas.List.{take_rest}
 use Rattle.std.proofs.lemmas.Option.{slice_get-get_or}
 use Rattle.memchr.specs.Find.{IsFirstByte, is_byte}
 use Rattle.grep_matcher.specs.Span.{Span}
 use Rattle.hir_tree.specs.Core as core
 use Rattle.hir_tree.specs.Looks.{holds, is_newline}
-use Rattle.hir_tree.specs.Runs.{begin, first, preferred, runs}
+use Rattle.hir_tree.specs.PlainText.{text_groups}
+use Rattle.hir_tree.specs.Runs.{first, preferred, runs}
 use Rattle.hir_tree.specs.declared.look.Look.TheVariants.{StartLF}
 use Rattle.hir_tree.proofs.NumbersLemmas.{preferred-first}
 use Rattle.hir_core.specs.Found.{IsOfLeast, span_of}
-use Rattle.hir_core.specs.LineStarts.{groups_at, line_start_at, line_start_found}
-use Rattle.hir_core.proofs.plain.PlainTextLemmas.{unset-spans}
-
--- what isn't true is false
-is_false : (b : Bool) → (b ≡ true → ⊥) → b ≡ false
-is_false false fails = refl
-is_false true fails = absurd (fails refl)
+use Rattle.hir_core.specs.LineStarts.{line_start_at, line_start_found}
+use Rattle.hir_core.proofs.FoundLemmas.{cond-map, IsOfLeast-map}
+use Rattle.hir_core.proofs.plain.PlainTextLemmas.{whole-spans}
 
 here : (text : List ℕ) (at : ℕ) → holds StartLF text at ≡ true → line_start_at text at ≡ Some at
 here text at = ap (λ (b : Bool). cond b (Some at) None)
@@ -65,7 +63,7 @@ module _ (text rest : List ℕ) (at : ℕ) (low : 0 < at) (within : at ≤ lengt
       ap (holds StartLF text) (sym there) ∙ starts text (p - 1) (omega arith) ∙ ap (λ (n : ℕ). n == 10) (sym (rest-byte p from))
 
   starts_not : (p : ℕ) → at ≤ p → p ≤ length text → ¬ ((slice_index rest (p - at) == 10) ≡ true) → line_start_at text p ≡ None
-  starts_not p from until fails = not_here text p (starts_behind p from until ∙ is_false (slice_index rest (p - at) == 10) fails)
+  starts_not p from until fails = not_here text p (starts_behind p from until ∙ false_from_ne_true (slice_index rest (p - at) == 10) fails)
 
   pub next_line : (r : Option ℕ) → IsFirstByte (is_byte 10) rest r → IsOfLeast (line_start_at text) at (length text) (option_map (λ k. at + k) r)
   next_line None none = λ p from until. starts_not p from until (none (p - at) (omega arith) (omega (arith, rest-length)))
@@ -79,35 +77,18 @@ module _ (text rest : List ℕ) (at : ℕ) (low : 0 < at) (within : at ≤ lengt
         (λ p from before. starts_not p from (omega (arith, until)) (found.0.before (p - at) (omega arith) (omega arith))),
       )
 
--- the groups at a place, where a line starts there
-found-groups : (groups : ℕ) (text : List ℕ) (at : ℕ) → line_start_found groups text at ≡ option_map (groups_at groups) (line_start_at text at)
-found-groups groups text at = cases (holds StartLF text at)
-  where
-    cases : (b : Bool) → cond b (Some (groups_at groups at)) None ≡ option_map (groups_at groups) (cond b (Some at) None)
-    cases true = refl
-    cases false = refl
-
 -- the least place gives the groups of the least place
 pub groups-least : (groups : ℕ) (text : List ℕ) (from to : ℕ) (r : Option ℕ) → IsOfLeast (line_start_at text) from to r
-    → IsOfLeast (line_start_found groups text) from to (option_map (groups_at groups) r)
-groups-least groups text from to None h = λ at low high. found-groups groups text at ∙ ap (option_map (groups_at groups)) (h at low high)
-groups-least groups text from to (Some place) (least, low, high, is, before) = (
-  least,
-  low,
-  high,
-  found-groups groups text least ∙ ap (option_map (groups_at groups)) is,
-  (λ at l h. found-groups groups text at ∙ ap (option_map (groups_at groups)) (before at l h)),
-)
+    → IsOfLeast (line_start_found groups text) from to (option_map (text_groups [] groups) r)
+groups-least groups text from to r h =
+    IsOfLeast-map (text_groups [] groups) (line_start_at text) (line_start_found groups text) from to r (λ at. cond-map (text_groups [] groups) at (holds StartLF text at)) h
 
 -- those are the groups as slots hold them
 pub empty-spans : (n place : ℕ) (slots : List (Option Span)) → 0 < n → slots ≡ slice_set (replicate n None) 0 (Some (record { start = place; end = place }))
-    → slots ≡ map span_of (groups_at (n - 1) place)
+    → slots ≡ map span_of (text_groups [] (n - 1) place)
 empty-spans n place slots some set =
-    let all : n - 1 + 1 ≡ n = omega arith in
-    let empty : Span = record { start = place; end = place } in
-    set
-    ∙ ap (λ (m : ℕ). slice_set (replicate m None) 0 (Some empty)) (sym all)
-    ∙ sym (map-set span_of (replicate (n - 1 + 1) None) 0 (Some (place, place)) ∙ ap (λ spans. slice_set spans 0 (Some empty)) (unset-spans (n - 1 + 1)))
+    let same : place ≡ place + 0 = omega arith in
+    whole-spans [] [] n place slots some refl (set ∙ ap (λ (end : ℕ). slice_set (replicate n None) 0 (Some (record { start = place; end = end }))) same)
 
 -- the pattern matches where a line starts, and takes no byte
 pub line_start-matches : (groups : ℕ) (text : List ℕ) (at : ℕ) → preferred (core.look StartLF) groups text at ≡ line_start_found groups text at
@@ -115,6 +96,8 @@ unfolding runs
 line_start-matches groups text at = preferred-first (core.look StartLF) groups text at 0 ∙ cases (holds StartLF text at)
   where
     cases : (b : Bool) → option_map (λ r. slice_set r.groups 0 (Some (at, r.at))) (first (cond b (record { at = at; groups = replicate (groups + 1) None; seen = 0 ∷ [] } ∷ []) []))
-        ≡ cond b (Some (groups_at groups at)) None
-    cases true = refl
+        ≡ cond b (Some (text_groups [] groups at)) None
+    cases true =
+        let same : at ≡ at + 0 = omega arith in
+        ap (λ (end : ℕ). Some (slice_set (replicate (groups + 1) None) 0 (Some (at, end)))) same
     cases false = refl

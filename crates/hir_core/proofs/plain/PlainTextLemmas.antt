@@ -13,6 +13,7 @@ use Rattle.grep_matcher.specs.Span.{Span}
 use Rattle.hir_tree.specs.PlainText.{joined, joined_all, text_of, stands_at, text_groups, text_found}
 use Rattle.hir_tree.specs.declared.hir.Hir.{Hir}
 use Rattle.hir_core.specs.Found.{IsOfLeast, span_of, place_found, span_found}
+use Rattle.hir_core.proofs.FoundLemmas.{cond-map, IsOfLeast-map}
 
 -- the text of the parts from one on is that of the part, and of the parts after it
 pub texts_from : (parts : List Hir) (i : ℕ) (d : Hir) → i < length parts
@@ -96,25 +97,12 @@ module _ (text bytes rest : List ℕ) (from : ℕ) (cut : rest ≡ take (length 
         (λ at low lt. rest-none at low (omega (arith, found.0.high, rest-length)) (found.0.before (at - from) (omega arith) (omega arith))),
       )
 
--- the groups at a place, where the bytes stand there
-found-groups : (bytes : List ℕ) (groups : ℕ) (text : List ℕ) (at : ℕ) → text_found bytes groups text at ≡ option_map (text_groups bytes groups) (place_found bytes text at)
-found-groups bytes groups text at = cases (stands_at bytes text at)
-  where
-    cases : (b : Bool) → cond b (Some (text_groups bytes groups at)) None ≡ option_map (text_groups bytes groups) (cond b (Some at) None)
-    cases true = refl
-    cases false = refl
-
 -- the least place gives the groups of the least place
 pub groups-least : (bytes : List ℕ) (groups : ℕ) (text : List ℕ) (from to : ℕ) (r : Option ℕ) → IsOfLeast (place_found bytes text) from to r
     → IsOfLeast (text_found bytes groups text) from to (option_map (text_groups bytes groups) r)
-groups-least bytes groups text from to None h = λ at low high. found-groups bytes groups text at ∙ ap (option_map (text_groups bytes groups)) (h at low high)
-groups-least bytes groups text from to (Some start) (least, low, high, here, before) = (
-  least,
-  low,
-  high,
-  found-groups bytes groups text least ∙ ap (option_map (text_groups bytes groups)) here,
-  (λ at l h. found-groups bytes groups text at ∙ ap (option_map (text_groups bytes groups)) (before at l h)),
-)
+groups-least bytes groups text from to r h =
+    IsOfLeast-map (text_groups bytes groups) (place_found bytes text) (text_found bytes groups text) from to r
+    (λ at. cond-map (text_groups bytes groups) at (stands_at bytes text at)) h
 
 pub unset-spans : (n : ℕ) → map span_of (replicate n None) ≡ replicate n None
 unset-spans zero = refl
@@ -137,24 +125,11 @@ whole-spans bytes shown n start slots some same set =
 abbrev span_from : List ℕ → ℕ → Span
 span_from bytes start = record { start = start; end = start + length bytes }
 
-spans_found : (bytes text : List ℕ) (at : ℕ) → span_found bytes text at ≡ option_map (span_from bytes) (place_found bytes text at)
-spans_found bytes text at = cases (stands_at bytes text at)
-  where
-    cases : (b : Bool) → cond b (Some (span_from bytes at)) None ≡ option_map (span_from bytes) (cond b (Some at) None)
-    cases true = refl
-    cases false = refl
-
 -- the least place gives the span of the least place
 pub span-least : (bytes text : List ℕ) (from to : ℕ) (r : Option ℕ) → IsOfLeast (place_found bytes text) from to r
     → IsOfLeast (span_found bytes text) from to (option_map (span_from bytes) r)
-span-least bytes text from to None h = λ at low high. spans_found bytes text at ∙ ap (option_map (span_from bytes)) (h at low high)
-span-least bytes text from to (Some start) (least, low, high, here, before) = (
-  least,
-  low,
-  high,
-  spans_found bytes text least ∙ ap (option_map (span_from bytes)) here,
-  (λ at l h. spans_found bytes text at ∙ ap (option_map (span_from bytes)) (before at l h)),
-)
+span-least bytes text from to r h =
+    IsOfLeast-map (span_from bytes) (place_found bytes text) (span_found bytes text) from to r (λ at. cond-map (span_from bytes) at (stands_at bytes text at)) h
 
 -- the same where the bytes are shown by another name
 pub span-least_shown : (bytes shown text : List ℕ) (from to start : ℕ) (span : Span) → shown ≡ bytes → span.start ≡ start → span.end ≡ start + length shown

@@ -4,6 +4,7 @@ ghost use Rattle.std.specs.Prelude.{◌≡◌, ◌-◌, ◌<◌, ◌≤◌, ◌�
 ghost use Rattle.hir_program.specs.Scan.{IsPassedOver, TellsStops, stops_at};
 ghost use Rattle.hir_program.specs.declared.scan.prefilter.Stops.TheVariants as stops;
 
+use crate::byte_run::{ByteTable, run_end};
 use crate::scan::required::Required;
 use hir_tree::Look;
 use memchr::memchr;
@@ -19,8 +20,8 @@ const FEW: usize = 8;
 pub enum Stops {
     /// This byte alone.
     One(u8),
-    /// The bytes for which the table holds.
-    Several([bool; 256]),
+    /// All bytes but those for which the table holds.
+    AllBut(ByteTable),
 }
 
 /// Skips to the next place where a match may pass a required spot, or end without one.
@@ -40,9 +41,9 @@ impl Prefilter {
         ensures required { result.required ≡ required }
         ensures stops { TellsStops takes.now wide last_look required result.stops }
     {
-        let table = table_of(required, takes, wide, last_look);
+        let passed = passed_over(required, takes, wide, last_look);
         for byte in 0..=255u8 {
-            if is_alone(&table, byte) {
+            if is_alone(&passed, byte) {
                 return Prefilter {
                     required,
                     stops: Stops::One(byte),
@@ -51,11 +52,12 @@ impl Prefilter {
         }
         Prefilter {
             required,
-            stops: Stops::Several(table),
+            stops: Stops::AllBut(passed),
         }
     }
 
     /// The next place from one on whose byte stops, or the end of the text.
+    #[inline(always)]
     pub fn next(&self, text: &[u8], at: usize) -> usize
         requires { at ≤ length text.now }
         ensures passed { (q : ℕ) → at ≤ q → q < result → stops_at self.now.stops (slice_index text.now q) ≡ false }
@@ -64,7 +66,7 @@ impl Prefilter {
     {
         match &self.stops {
             Stops::One(byte) => next_of_one(*byte, text, at),
-            Stops::Several(table) => next_of_several(table, text, at),
+            Stops::AllBut(passed) => run_end(passed, text, at),
         }
     }
 
@@ -87,6 +89,7 @@ impl Prefilter {
 
 /// The prefilter by required spots, if there are any, where each stop is a match, or they take few bytes of a text, or a run begins by
 /// a look that is asked byte by byte: else to stop and start again takes longer than to look at each byte, or at each start of a line.
+/// Where runs begin at starts of lines alone, none is by ends of lines alone.
 pub fn worth_while(
     required: Option<Required>,
     takes: &[u64],
@@ -136,20 +139,6 @@ pub fn next_of_one(byte: u8, text: &[u8], at: usize) -> usize
     }
 }
 
-/// The next place from one on for whose byte the table holds, or the end of the text.
-fn next_of_several(table: &[bool; 256], text: &[u8], at: usize) -> usize
-    requires { at ≤ length text.now }
-    ensures passed { (q : ℕ) → at ≤ q → q < result → stops_at (stops.Several table.now) (slice_index text.now q) ≡ false }
-    ensures after { at ≤ result }
-    ensures within { result ≤ length text.now }
-{
-    let mut place = at;
-    while place < text.len() && !table[text[place] as usize] {
-        place += 1;
-    }
-    place
-}
-
 /// Whether a byte is passed over.
 fn is_passed(
     required: Required,
@@ -166,24 +155,24 @@ fn is_passed(
         && !required.may_end_before(last_look, byte)
 }
 
-/// For each byte, whether the prefilter stops at it.
-fn table_of(required: Required, takes: &[u64], wide: u64, last_look: Option<Look>) -> [bool; 256]
+/// For each byte, whether it is passed over.
+fn passed_over(required: Required, takes: &[u64], wide: u64, last_look: Option<Look>) -> ByteTable
     requires { length takes.now ≡ 256 }
-    ensures { TellsStops takes.now wide last_look required (stops.Several result) }
+    ensures { TellsStops takes.now wide last_look required (stops.AllBut result) }
 {
-    let mut table = [false; 256];
+    let mut passed = [false; 256];
     for byte in 0..256usize {
-        table[byte] = !is_passed(required, takes, wide, last_look, byte as u8);
+        passed[byte] = is_passed(required, takes, wide, last_look, byte as u8);
     }
-    table
+    passed
 }
 
-/// Whether the table holds for no byte but this.
-fn is_alone(table: &[bool; 256], byte: u8) -> bool
-    ensures { result ≡ true → (b : ℕ) → b < 256 → (b ≡ byte → ⊥) → slice_index_or table.now b true ≡ false }
+/// Whether all bytes but this are passed over.
+fn is_alone(passed: &ByteTable, byte: u8) -> bool
+    ensures { result ≡ true → (b : ℕ) → b < 256 → (b ≡ byte → ⊥) → slice_index_or passed.now b false ≡ true }
 {
-    for (other, stops) in table.iter().enumerate() {
-        if *stops && other != byte as usize {
+    for (other, is_passed) in passed.iter().enumerate() {
+        if !*is_passed && other != byte as usize {
             return false;
         }
     }

@@ -78,15 +78,16 @@ HasBit-or a b i h = either (bit_at a i) (bit_at b i) (bit_at-lt a i) (sym (bit_a
     either : (x y : ℕ) → x < 2 → max x y ≡ 1 → (x ≡ 1) ⊎ (y ≡ 1)
     either x y l e = elim (cases_eq x 1) [ inl one ↦ inl one | inr other ↦ inr (omega arith) ]
 
+-- no bit but that of the power
+pub HasBit-or_pow : (mask k i : ℕ) → HasBit (bit_or mask (2 ^ k)) i → HasBit mask i ⊎ (i ≡ k)
+HasBit-or_pow mask k i h = elim (HasBit-or mask (2 ^ k) i h) [ inl before ↦ inl before | inr set_bit ↦ inr (HasBit-pow_only k i set_bit) ]
+
 -- no bit but the one that was set
 pub HasBit-set_only : (mask k i : ℕ) → k < 64 → HasBit (bit_or mask (1 * 2 ^ k % 2 ^ 64)) i → HasBit mask i ⊎ (i ≡ k)
-HasBit-set_only mask k i lt h = elim (HasBit-or mask (1 * 2 ^ k % 2 ^ 64) i h) [
-  | inl before ↦ inl before
-  | inr set_bit ↦
-      let below : 2 ^ k < 2 ^ 64 = pow_below k 64 lt in
-      let whole : 1 * 2 ^ k % 2 ^ 64 ≡ 2 ^ k = omega arith in
-      inr (HasBit-pow_only k i (subst (λ (m : ℕ). HasBit m i) whole set_bit))
-]
+HasBit-set_only mask k i lt h =
+    let below : 2 ^ k < 2 ^ 64 = pow_below k 64 lt in
+    let whole : 1 * 2 ^ k % 2 ^ 64 ≡ 2 ^ k = omega arith in
+    HasBit-or_pow mask k i (subst (λ (m : ℕ). HasBit (bit_or mask m) i) whole h)
 
 -- a bit of a number is one of its eight bits
 pub HasBit-eight : (mask i : ℕ) → HasBit mask i → HasBit (mask / 2 ^ (8 * (i / 8)) % 256) (i % 8)

@@ -1,5 +1,6 @@
 -- Bytes at which the prefilter doesn't stop.
-use Rattle.std.proofs.Common.{◌≡◌, ℕ, ◌+◌, ◌-◌, ◌<◌, ◌≤◌, Bool, true, false, List, Option, Some, None, length, take, drop, slice_index, refl, ap, subst, ◌∙◌, arith, get_or-drop}
+use Rattle.std.proofs.Common.{◌≡◌, ℕ, ◌+◌, ◌-◌, ◌<◌, ◌≤◌, true, false, List, Option, Some, None, length, take, drop, slice_index, ap, subst, ◌∙◌, arith, get_or-drop}
+use Rattle.std.proofs.lemmas.Bool.{false_from_ne_true}
 use Rattle.std.proofs.lemmas.List.{take_rest}
 use Rattle.std.specs.Prelude.{◌==◌, IfSome}
 use Rattle.hir_tree.specs.declared.look.Look.{Look}
@@ -9,17 +10,12 @@ use Rattle.hir_program.specs.declared.scan.required.Required.{Required}
 use Rattle.hir_program.specs.declared.scan.prefilter.Prefilter.{Prefilter}
 use Rattle.hir_program.specs.declared.spot.Spot.{Spot}
 
--- what isn't true is false
-is_false : (b : Bool) → (b ≡ true → ⊥) → b ≡ false
-is_false false fails = refl
-is_false true fails = absurd (fails refl)
-
 -- a byte that doesn't stand in the rest of a text up to a place
 pub passed_one : (text : List ℕ) (byte at count q : ℕ)
     → ((k : ℕ) → 0 ≤ k → k < count → (slice_index (take (length text - at) (drop at text)) k == byte) ≡ true → ⊥)
     → at ≤ q → q < at + count → (slice_index text q == byte) ≡ false
 passed_one text byte at count q none low high =
-    is_false (slice_index text q == byte)
+    false_from_ne_true (slice_index text q == byte)
     (λ same.
     none (q - at) (omega arith) (omega arith)
     (ap (λ (xs : List ℕ). slice_index xs (q - at) == byte) (take_rest text at)
