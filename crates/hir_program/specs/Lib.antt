@@ -1,3 +1,4 @@
+pub mod ByteRuns
 pub mod Entry
 pub mod Laid
 pub mod Loops

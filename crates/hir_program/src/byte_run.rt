@@ -1,7 +1,8 @@
 //! Runs of bytes for which a table holds. Eight bytes are looked at together, with no branch between them: where a run ends can seldom be
 //! foreseen, and a branch at each byte would be mispredicted at nearly each end.
 
-ghost use Rattle.std.specs.Prelude.{◌≡◌, ℕ, ◌+◌, ◌<◌, ◌≤◌, true, false, length, slice_index, slice_index_or};
+ghost use Rattle.std.specs.Prelude.{◌≡◌, ℕ, ◌<◌, ◌≤◌, length};
+ghost use Rattle.hir_program.specs.ByteRuns.{Holds, IsRunEnd};
 ghost use Rattle.hir_program.specs.Masks.{HasBit};
 
 /// For each byte, whether something holds for it.
@@ -11,7 +12,8 @@ pub type ByteTable = [bool; 256];
 #[inline(always)]
 fn held_of_eight(table: &ByteTable, eight: &[u8]) -> u8
     requires { length eight.now ≡ 8 }
-    ensures { (i : ℕ) → i < 8 → HasBit result i → slice_index_or table.now (slice_index eight.now i) false ≡ true }
+    ensures held { (i : ℕ) → i < 8 → HasBit result i → Holds table.now eight.now i }
+    ensures all { (i : ℕ) → i < 8 → Holds table.now eight.now i → HasBit result i }
 {
     let mut held = 0;
     for i in 0..8usize {
@@ -22,13 +24,11 @@ fn held_of_eight(table: &ByteTable, eight: &[u8]) -> u8
     held
 }
 
-/// The place up to which the table holds for each byte, from one on.
+/// The place up to which the table holds for each byte, from one on: that of the first for which it doesn't, or the end of the text.
 #[inline(always)]
 pub fn run_end(table: &ByteTable, text: &[u8], from: usize) -> usize
     requires { from ≤ length text.now }
-    ensures over { (at : ℕ) → from ≤ at → at < result → slice_index_or table.now (slice_index text.now at) false ≡ true }
-    ensures forward { from ≤ result }
-    ensures within { result ≤ length text.now }
+    ensures { IsRunEnd table.now text.now from result }
 {
     let mut at = from;
     while text.len() - at >= 8 {
@@ -45,9 +45,7 @@ pub fn run_end(table: &ByteTable, text: &[u8], from: usize) -> usize
 #[inline(never)]
 fn rest_end(table: &ByteTable, text: &[u8], from: usize) -> usize
     requires { from ≤ length text.now }
-    ensures over { (at : ℕ) → from ≤ at → at < result → slice_index_or table.now (slice_index text.now at) false ≡ true }
-    ensures forward { from ≤ result }
-    ensures within { result ≤ length text.now }
+    ensures { IsRunEnd table.now text.now from result }
 {
     let mut at = from;
     while at < text.len() && table[text[at] as usize] {

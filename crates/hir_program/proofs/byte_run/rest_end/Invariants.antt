@@ -1,5 +1,5 @@
 use Rattle.std.proofs.Common.{◌-◌, ◌<◌, ◌≤◌, ℕ, length}
-use Rattle.hir_program.proofs.byte_run.ByteRunLemmas.{Holds}
+use Rattle.hir_program.specs.ByteRuns.{Holds}
 use Rattle.hir_program.proofs.byte_run.rest_end.Given as goal
 
 -- the table holds for each byte so far
