@@ -2,8 +2,8 @@
 //!
 //! [`run`] is the program: it reads the words of a command line, works on the disk that it is handed, and answers with
 //! the status to end with. `specs/Mode.antt` says what a command works on, and a definition for each mode what it promises.
-//! [`sweep`] rewrites the chosen files of a tree. The other calls that commands are made of, [`replace_file`], [`replace_stream`]
-//! and [`Options::read`], are handed on.
+//! [`sweep`] rewrites the chosen files of a tree, [`replace_stream`] what is read from a source. The other calls that commands are
+//! made of, [`replace_file`] and [`Options::read`], are handed on.
 #![tactic(auto)]
 
 mod app;
