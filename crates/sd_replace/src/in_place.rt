@@ -380,14 +380,20 @@ impl Room {
     }
 }
 
-/// Moves the bytes between two places down to a third.
+/// Moves the bytes between two places down to a third. Where they come to lie before their old place they are copied at once.
 fn move_down(bytes: &mut [u8], from: usize, to: usize, place: usize)
     requires down { place ≤ from }
     requires order { from ≤ to }
     requires within { to ≤ length bytes.old }
     ensures { bytes.new ≡ put_over bytes.old place (slice_range bytes.old from to) }
 {
-    bytes.copy_within(from..to, place);
+    let count = to - from;
+    if count <= from - place {
+        let (front, back) = bytes.split_at_mut(from);
+        write_at(front, place, &back[..count]);
+    } else {
+        bytes.copy_within(from..to, place);
+    }
 }
 
 /// Puts a text at a place.
