@@ -8,6 +8,7 @@
 mod block;
 mod blocks;
 mod closure;
+mod examples;
 mod first_way;
 mod line_start;
 mod pass;
@@ -22,6 +23,7 @@ mod thread_list;
 mod trail;
 mod visited;
 
+pub use examples::line_starts_are_found_as_in_the_examples;
 pub use hir_tree::{
     ByteRanges, Bytes, CharRanges, Group, Hir, Hirs, Look, Repeat,
     a_core_has_fewer_numbers_than_twice_the_spots_of_its_tree,

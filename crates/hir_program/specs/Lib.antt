@@ -1,5 +1,6 @@
 pub mod ByteRuns
 pub mod Entry
+pub mod Examples
 pub mod Laid
 pub mod Loops
 pub mod Masks

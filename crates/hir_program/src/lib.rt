@@ -7,6 +7,7 @@
 mod byte_run;
 mod compile;
 mod entry;
+mod examples;
 mod loops;
 mod push;
 mod scan;
@@ -16,6 +17,10 @@ mod starts;
 
 pub use byte_run::{ByteTable, run_end};
 pub use compile::program;
+pub use examples::{
+    bytes_are_passed_over_as_in_the_examples, runs_of_bytes_end_as_in_the_examples,
+    spots_are_required_as_in_the_examples, stops_are_as_in_the_examples,
+};
 pub use loops::{Loops, Ways};
 pub use scan::{Candidate, SPOTS, Scan};
 pub use spot::Spot;

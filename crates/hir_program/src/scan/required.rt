@@ -33,6 +33,19 @@ fn share(byte: u8) -> u64 {
     }
 }
 
+/// How many of a thousand bytes of a text are those for which something holds.
+fn share_where<Holds: Fn(u8) -> bool>(holds: Holds) -> u64
+    requires { Holds.IsAlwaysCallable holds }
+{
+    let mut sum: u64 = 0;
+    for byte in 0..=255u8 {
+        if holds(byte) {
+            sum = sum.saturating_add(share(byte));
+        }
+    }
+    sum
+}
+
 impl Required {
     /// These spots, if each match passes one of them: at a spot that comes before none ends, or only where the last look holds.
     fn new(after: &[u64], start: u64, spots: u64) -> Option<Required>
@@ -77,24 +90,16 @@ impl Required {
     pub fn share(self, takes: &[u64], last_look: Option<Look>) -> u64
         requires { length takes.now ≡ 256 }
     {
-        let mut sum: u64 = 0;
-        for byte in 0..=255u8 {
-            if takes[byte as usize] & self.spots != 0 || self.may_end_before(last_look, byte) {
-                sum = sum.saturating_add(share(byte));
-            }
-        }
-        sum
+        share_where(|byte| {
+            takes[byte as usize] & self.spots != 0 || self.may_end_before(last_look, byte)
+        })
     }
 
     /// How many of a thousand bytes of a text are taken by the spots that may be tried before: a guess, which changes the time alone.
     fn share_before(self, takes: &[u64]) -> u64
         requires { length takes.now ≡ 256 }
     {
-        let before = Required {
-            spots: self.before,
-            before: 0,
-        };
-        before.share(takes, None)
+        share_where(|byte| takes[byte as usize] & self.before != 0)
     }
 
     /// The one of two whose spots take fewer bytes, the first where they take as many.
